@@ -1,0 +1,24 @@
+-- The call on a text: what it answers, and what it leaves in the token table.
+use mathlib.Core.Bool.{Bool, true, false}
+use mathlib.Core.List.{List, [], _∷_, _++_}
+use mathlib.Core.Option.{Option, none, some}
+use Prim.Native.Nat.{ℕ, _*_}
+use lib.Dec.{ltb}
+use lib.ListN.{length, drop}
+use Rattle.tokenizer.specs.Rules.{tokens}
+use Rattle.tokenizer.specs.Table.{tableWords}
+use Rattle.tokenizer.specs.Refusals.{Answer, accepted, refused, textRefusal}
+
+-- "For text: 1, 2, 7": "7 token table shorter than 3 words a token". A refusal changes nothing; an accepted text's tokens stand
+-- in the first words, and the words past the list are unchanged.
+unfoldable pub tokenized : List ℕ → List ℕ → Answer × List ℕ
+tokenized text table =
+    elim (textRefusal text) [
+      | some k ↦ (refused k, table)
+      | none ↦
+          elim (ltb (length table) (3 * length (tokens text))) [
+            | true ↦ (refused 7, table)
+            | false ↦
+                (accepted (length (tokens text) ∷ []), tableWords (tokens text) ++ drop (3 * length (tokens text)) table)
+          ]
+    ]

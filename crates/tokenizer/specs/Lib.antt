@@ -1,0 +1,10 @@
+pub mod Kinds
+pub mod Bytes
+pub mod Lexeme
+pub mod Spellings
+pub mod Order
+pub mod Longest
+pub mod Rules
+pub mod Table
+pub mod Refusals
+pub mod Call
