@@ -8,4 +8,6 @@ mod tokenizer;
 pub mod tree;
 
 pub use parse::{parse, parse_tokens};
-pub use tokenizer::{ASCIIMATH_TOKENS, SymbolClass, Token, TokenSpelling, Tokenizer, asciimath_spellings};
+pub use tokenizer::{
+    ASCIIMATH_TOKENS, SymbolClass, Token, TokenSpelling, Tokenizer, asciimath_spellings,
+};

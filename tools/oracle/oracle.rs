@@ -31,7 +31,10 @@ fn text_of(hex: &str) -> String {
 
 /// A token of its `start,len,kind`.
 fn token_of<'a>(text: &'a str, triple: &str) -> (&'a str, Token) {
-    let numbers: Vec<usize> = triple.split(',').map(|n| n.parse().expect("a number")).collect();
+    let numbers: Vec<usize> = triple
+        .split(',')
+        .map(|n| n.parse().expect("a number"))
+        .collect();
     let [start, len, kind] = numbers[..] else {
         panic!("not start,len,kind: {triple}")
     };
@@ -49,9 +52,16 @@ fn tree_lines(text: &str, tokens: &[(&str, Token)]) -> String {
     takes::since_last();
     let root = parse_tokens(tokens.iter().copied());
     let takes = takes::since_last();
-    let mut print = Print { text, out: String::new() };
+    let mut print = Print {
+        text,
+        out: String::new(),
+    };
     let (bytes, count, items) = (text.len(), tokens.len(), root.len());
-    writeln!(print.out, "text={bytes} tokens={count} takes={takes} items={items}").unwrap();
+    writeln!(
+        print.out,
+        "text={bytes} tokens={count} takes={takes} items={items}"
+    )
+    .unwrap();
     print.expression(0, &root);
     print.out
 }
@@ -72,7 +82,12 @@ impl Print<'_> {
     }
 
     fn brackets(&self, left: &str, right: &str) -> String {
-        format!("{} rat={} rlen={}", self.at(left), start(self.text, right), right.len())
+        format!(
+            "{} rat={} rlen={}",
+            self.at(left),
+            start(self.text, right),
+            right.len()
+        )
     }
 
     fn expression(&mut self, depth: usize, expr: &Expression) {
@@ -124,7 +139,11 @@ impl Print<'_> {
             Simple::Operator(part) => self.line(depth, "operator", &self.at(part)),
             Simple::Symbol(symbol) => {
                 let class = kind(Token::Symbol(symbol.class)) - 8;
-                self.line(depth, "symbol", &format!("{} class={class}", self.at(symbol.text)));
+                self.line(
+                    depth,
+                    "symbol",
+                    &format!("{} class={class}", self.at(symbol.text)),
+                );
             }
             Simple::Sign(part) => self.line(depth, "sign", &self.at(part)),
             Simple::Signed(signed) => {
@@ -146,15 +165,27 @@ impl Print<'_> {
             }
             Simple::Group(group) => {
                 let brackets = self.brackets(group.left_bracket, group.right_bracket);
-                self.line(depth, "group", &format!("{brackets} items={}", group.expr.len()));
+                self.line(
+                    depth,
+                    "group",
+                    &format!("{brackets} items={}", group.expr.len()),
+                );
                 self.expression(depth + 1, &group.expr);
             }
             Simple::Matrix(matrix) => {
                 let brackets = self.brackets(matrix.left_bracket, matrix.right_bracket);
                 let (cols, cells) = (matrix.num_cols(), matrix.num_cells());
                 let lines: Vec<_> = matrix.column_lines().iter().map(usize::to_string).collect();
-                let lines = if lines.is_empty() { "none".into() } else { lines.join(",") };
-                self.line(depth, "matrix", &format!("{brackets} cols={cols} cells={cells} lines={lines}"));
+                let lines = if lines.is_empty() {
+                    "none".into()
+                } else {
+                    lines.join(",")
+                };
+                self.line(
+                    depth,
+                    "matrix",
+                    &format!("{brackets} cols={cols} cells={cells} lines={lines}"),
+                );
                 for cell in matrix.rows().flatten() {
                     self.line(depth + 1, "cell", &format!("items={}", cell.len()));
                     self.expression(depth + 2, cell);
@@ -204,11 +235,14 @@ fn answer(mode: &str, line: &str) -> String {
 }
 
 fn main() {
-    let mode = std::env::args().nth(1).expect("a mode: tokens, tree or list");
+    let mode = std::env::args()
+        .nth(1)
+        .expect("a mode: tokens, tree or list");
     let run = move || {
         let mut out = std::io::BufWriter::new(stdout().lock());
         for line in stdin().lock().lines() {
-            out.write_all(answer(&mode, &line.unwrap()).as_bytes()).unwrap();
+            out.write_all(answer(&mode, &line.unwrap()).as_bytes())
+                .unwrap();
         }
         out.flush().unwrap();
     };

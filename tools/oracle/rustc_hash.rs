@@ -1,4 +1,5 @@
-//! A stand-in for the crate of this name: a multiplication and a rotation for each word.
+//! A stand-in for the crate of this name, for speed only: a multiplication and a rotation for each
+//! word, as its first versions have. Which hash it is changes no answer.
 
 use std::hash::{BuildHasherDefault, Hasher};
 

@@ -13,7 +13,8 @@ impl UnicodeSegmentation for str {
     }
 
     fn graphemes(&self, extended: bool) -> impl Iterator<Item = &str> {
-        self.grapheme_indices(extended).map(|(_, grapheme)| grapheme)
+        self.grapheme_indices(extended)
+            .map(|(_, grapheme)| grapheme)
     }
 }
 

@@ -5,9 +5,16 @@ use mathlib.Core.Option.{Option, none, some}
 use Prim.Native.Nat.{ℕ, _*_}
 use lib.Dec.{ltb}
 use lib.ListN.{length, drop}
+use Rattle.tokenizer.specs.declared.Tokenized.{Tokenized}
+use Rattle.tokenizer.specs.declared.Tokenized.the-variants.{Tokens, Refused}
 use Rattle.tokenizer.specs.Rules.{tokens}
 use Rattle.tokenizer.specs.Table.{tableWords}
 use Rattle.tokenizer.specs.Refusals.{Answer, accepted, refused, textRefusal}
+
+-- the code's answer in the words of document 01
+abbrev pub answerOf : Tokenized → Answer
+answerOf (Tokens n) = accepted (n ∷ [])
+answerOf (Refused k) = refused k
 
 -- "For text: 1, 2, 7": "7 token table shorter than 3 words a token". A refusal changes nothing; an accepted text's tokens stand
 -- in the first words, and the words past the list are unchanged.

@@ -4,7 +4,11 @@ pub mod Lexeme
 pub mod Spellings
 pub mod Order
 pub mod Longest
+pub mod Constants
+pub mod Lookup
 pub mod Rules
+pub mod Coded
 pub mod Table
 pub mod Refusals
 pub mod Call
+pub mod Starred

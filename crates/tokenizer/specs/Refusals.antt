@@ -1,5 +1,6 @@
 -- What is turned back, document 01, 'Turned back, by whoever caused it': each refusal by its number, under exactly its
 -- condition, in the order given there.
+use mathlib.Core.Path.{_≡_}
 use mathlib.Core.Bool.{Bool, true, false, _&&_}
 use mathlib.Core.List.{List, [], _∷_}
 use mathlib.Core.Option.{Option, none, some}
@@ -66,3 +67,10 @@ tableRefusal size count table =
 unfoldable pub listRefusal : List ℕ → ℕ → List ℕ → Option ℕ
 listRefusal text count table =
     elim (textRefusal text) [ some k ↦ some k | none ↦ tableRefusal (length text) count table ]
+
+-- "For condition 3 a text or token list is accepted if none of the refusals 1 to 6 meets it, whatever the buffers."
+abbrev pub AcceptedText : List ℕ → Type 0
+AcceptedText text = textRefusal text ≡ none
+
+abbrev pub AcceptedList : List ℕ → ℕ → List ℕ → Type 0
+AcceptedList text count table = listRefusal text count table ≡ none

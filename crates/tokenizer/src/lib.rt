@@ -1,2 +1,55 @@
 // The tokenizer of asciimath-parser for ASCII text: tokens, the spelling table, the rules, and the call on a text.
+pub mod prefix_map;
+mod rules;
+mod spellings;
+mod table;
 pub mod token;
+
+use spellings::BYTES;
+use spellings::FIRST;
+use spellings::KINDS;
+use spellings::STARTS;
+use table::has_room;
+use table::list_tokens;
+ghost use mathlib.Core.Path.{_≡_};
+ghost use Rattle.tokenizer.specs.Refusals.{ascii};
+ghost use Rattle.tokenizer.specs.Call.{answerOf, tokenized};
+
+// How many tokens the text has, or the number of the refusal.
+pub enum Tokenized {
+    Tokens(usize),
+    Refused(u8),
+}
+
+fn is_ascii(text: &[u8]) -> bool
+    ensures { λ r. ⌜ r ≡ ascii (now (text .entry)) ⌝ }
+{
+    let mut i = 0;
+    while i < text.len() {
+        if 128 <= text[i] {
+            return false;
+        }
+        i += 1;
+    }
+    true
+}
+
+// Writes the text's token list into the first words of the table, or refuses it by 1, 2 or 7 and changes nothing.
+pub fn tokenize(text: &[u8], table: &mut [u32]) -> Tokenized
+    ensures { λ r. ⌜ (answerOf r, now (table .exit)) ≡ tokenized (now (text .entry)) (now (table .entry)) ⌝ }
+{
+    if 4096 < text.len() {
+        return Tokenized::Refused(1);
+    }
+    if !is_ascii(text) {
+        return Tokenized::Refused(2);
+    }
+    let bytes = BYTES;
+    let starts = STARTS;
+    let kinds = KINDS;
+    let first = FIRST;
+    if !has_room(&bytes, &starts, &kinds, &first, text, table) {
+        return Tokenized::Refused(7);
+    }
+    Tokenized::Tokens(list_tokens(&bytes, &starts, &kinds, &first, text, table, true))
+}

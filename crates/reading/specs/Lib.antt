@@ -1,0 +1,6 @@
+pub mod Stop
+pub mod Entries
+pub mod Reading
+pub mod Conditions
+pub mod Grammar
+pub mod Strip

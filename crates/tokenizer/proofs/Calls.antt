@@ -1,0 +1,58 @@
+-- The call on a text: the tests in the order of the refusals.
+use mathlib.Core.Path.{_≡_, sym}
+use mathlib.Core.Bool.{true, false}
+use mathlib.Core.List.{List, [], _∷_, _++_}
+use mathlib.Core.Option.{none, some}
+use Prim.Native.Nat.{ℕ, _+_, _*_, _≤_, _<_}
+use native.Mathlib.Numerals.{add-one}
+use lib.Dec.{leb}
+use lib.ListN.{length, getD, drop, drop-of-length-le}
+use lib.Seq.{drop-cons}
+use borrow.Author.Tests.{lt-ltb, le-ltb, leb-true, leb-false}
+use Rattle.tokenizer.specs.Rules.{tokens}
+use Rattle.tokenizer.specs.Table.{tableWords}
+use Rattle.tokenizer.specs.Refusals.{Answer, accepted, refused, ascii, textRefusal}
+use Rattle.tokenizer.specs.Call.{tokenized}
+
+-- one byte after the other
+module _ (s : List ℕ) (i : ℕ) where
+  pub ascii-more : i < length s → getD s i 0 < 128 → ascii (drop i s) ≡ ascii (drop (i + 1) s)
+  unfolding ascii
+  ascii-more h l = rw (add-one i, drop-cons s i 0 h) (rw (lt-ltb _ 128 l, ascii))
+
+  pub ascii-not : i < length s → 128 ≤ getD s i 0 → ascii (drop i s) ≡ false
+  unfolding ascii
+  ascii-not h l = rw (drop-cons s i 0 h) (rw (le-ltb _ 128 l, ascii))
+
+  pub ascii-end : length s ≤ i → ascii (drop i s) ≡ true
+  unfolding ascii
+  ascii-end h = rw (drop-of-length-le s h)
+
+module _ (text table : List ℕ) where
+  refused-by : (k : ℕ) → textRefusal text ≡ some k → _≡_ {A = Answer × List ℕ} (refused k, table) (tokenized text table)
+  unfolding tokenized
+  refused-by k e = sym (rw (e, tokenized))
+
+  pub too-long : 4096 < length text → _≡_ {A = Answer × List ℕ} (refused 1, table) (tokenized text table)
+  unfolding textRefusal
+  too-long h = refused-by 1 (rw (lt-ltb 4096 (length text) h, textRefusal))
+
+  module _ (h : length text ≤ 4096) where
+    pub not-ascii : ascii text ≡ false → _≡_ {A = Answer × List ℕ} (refused 2, table) (tokenized text table)
+    unfolding textRefusal
+    not-ascii a = refused-by 2 (rw (le-ltb 4096 (length text) h, textRefusal) (rw a))
+
+    module _ (a : ascii text ≡ true) where
+      none-refused : textRefusal text ≡ none
+      unfolding textRefusal
+      none-refused = rw (le-ltb 4096 (length text) h, textRefusal) (rw a)
+
+      pub no-room : leb (3 * length (tokens text)) (length table) ≡ false → _≡_ {A = Answer × List ℕ} (refused 7, table) (tokenized text table)
+      unfolding tokenized
+      no-room f = sym (rw (none-refused, tokenized) (rw (lt-ltb (length table) (3 * length (tokens text)) (leb-false _ _ f))))
+
+      pub all-written : leb (3 * length (tokens text)) (length table) ≡ true → (n : ℕ) (next : List ℕ) → n ≡ length (tokens text)
+          → next ≡ tableWords (tokens text) ++ drop (3 * n) table → _≡_ {A = Answer × List ℕ} (accepted (n ∷ []), next) (tokenized text table)
+      unfolding tokenized
+      all-written f n next e q =
+          rw (q, e) (sym (rw (none-refused, tokenized) (rw (le-ltb (length table) (3 * length (tokens text)) (leb-true _ _ f)))))

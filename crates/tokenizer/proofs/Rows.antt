@@ -1,0 +1,74 @@
+-- What one computed test of the whole table says of each row: it has a byte, and its token is not Space.
+use mathlib.Core.Path.{_≡_, refl, subst}
+use mathlib.Core.Bool.{Bool, true, false, not}
+use mathlib.Core.List.{List, [], _∷_}
+use mathlib.Core.Option.{Option, none, some}
+use Prim.Native.Nat.{ℕ, _+_, _≤_, _<_}
+use native.Mathlib.Omega.{arith}
+use native.Mathlib.Nat.{not-suc-le-zero}
+use lib.Dec.{eqb, ltb}
+use lib.ListN.{length, getD, drop, length-drop}
+use borrow.Author.Tests.{ltb-true, not-true}
+use Rattle.tokenizer.specs.Kinds.{numberOf}
+use Rattle.tokenizer.specs.Spellings.{Row, rows}
+use Rattle.tokenizer.specs.Longest.{Numbered, longestAt, longestOf}
+use Rattle.tokenizer.proofs.Cases.{by-test, clash, Given}
+use Rattle.tokenizer.proofs.Begins.{Answered, Found, answered, at-each, begins-length}
+
+pub rows-length : length rows ≡ 429
+unfolding rows
+rows-length = refl
+
+-- the test passes at each row
+module _ (test : Row → Bool) where
+  abbrev pub every : List Row → Bool
+  every [] = true
+  every (r ∷ rs) = elim (test r) [ true ↦ every rs | false ↦ false ]
+
+  pub every-at : (rs : List Row) → every rs ≡ true → (d : Row) (k : ℕ) → k < length rs → test (getD rs k d) ≡ true
+  every-at [] t = λ d k h. absurd (not-suc-le-zero h)
+  every-at (r ∷ rs) t =
+      by-test (test r) (λ e. λ d. at-each (λ q. test q ≡ true) r rs d e (every-at rs (rw (e, every) at t) d))
+      (λ e. clash false (rw (e, every) at t) refl)
+
+wellFormed : Row → Bool
+wellFormed r = elim (ltb 0 (length (r .spelling))) [ true ↦ not (eqb (numberOf (r .token)) 23) | false ↦ false ]
+
+rows-test : every wellFormed rows ≡ true
+unfolding wellFormed rows
+rows-test = refl
+
+pub record WellFormed (r : Row) : Type 0 where
+  pub filled : 0 < length (r .spelling)
+  pub no-space : eqb (numberOf (r .token)) 23 ≡ false
+
+passed : (r : Row) → wellFormed r ≡ true → WellFormed r
+unfolding wellFormed
+passed r t =
+    by-test (ltb 0 (length (r .spelling)))
+    (λ a. record { filled = ltb-true _ _ a; no-space = not-true _ (rw (a, wellFormed) at t) })
+    (λ a. clash false (rw (a, wellFormed) at t) refl)
+
+pub well-formed : (d : Row) (k : ℕ) → k < 429 → WellFormed (getD rows k d)
+well-formed d k h = passed (getD rows k d) (every-at wellFormed rows rows-test d k (omega (arith, rows-length)))
+
+-- the row that is found at a place of a text
+pub record FoundAt (text : List ℕ) (at : ℕ) (f : Numbered) : Type 0 where
+  pub found : Found rows 0 (drop at text) f
+  pub row : WellFormed (f .row)
+  pub inside : at + length (f .row .spelling) ≤ length text
+
+pub found-at : (text : List ℕ) (at : ℕ) → Given (FoundAt text at) (longestAt text at)
+unfolding longestAt
+found-at text at = of (longestOf rows 0 (drop at text)) (answered rows 0 (drop at text))
+  where
+    of : (o : Option Numbered) → Answered rows 0 (drop at text) o → Given (FoundAt text at) o
+    of none a = tt
+    of (some f) a =
+        let h : a .place < 429 = omega (arith, a .inside, rows-length) in
+        let w = subst WellFormed (a .row-is (f .row)) (well-formed (f .row) (a .place) h) in
+        record {
+          found = a;
+          row = w;
+          inside = omega (arith, w .filled, begins-length (f .row .spelling) (drop at text) (a .fits), length-drop at text);
+        }

@@ -1,0 +1,31 @@
+-- What the order of the rows says of two of them by number, and of their first bytes.
+use mathlib.Core.Path.{_≡_, refl}
+use mathlib.Core.Logic.{⊎-elim}
+use mathlib.Core.Bool.{true, false}
+use mathlib.Core.List.{List, [], _∷_}
+use Prim.Native.Nat.{ℕ, _≤_, _<_}
+use native.Mathlib.Omega.{arith}
+use lib.ListN.{length, getD}
+use Rattle.tokenizer.specs.Spellings.{rows}
+use Rattle.tokenizer.specs.Order.{before}
+use Rattle.tokenizer.specs.Constants.{noRow, rowOf, spellingOf}
+use Rattle.tokenizer.proofs.Cases.{clash}
+use Rattle.tokenizer.proofs.Order.{before-cons, sorted-pair, sorted}
+use Rattle.tokenizer.proofs.Rows.{rows-length, well-formed}
+
+-- the first byte of the later is not smaller
+pub before-first : (a b : List ℕ) → before a b ≡ true → getD a 0 0 ≤ getD b 0 0
+unfolding before
+before-first a [] h = clash false h refl
+before-first [] (y ∷ b) h = omega arith
+before-first (x ∷ a) (y ∷ b) h = ⊎-elim (λ l. omega arith) (λ l. omega arith) (before-cons x y a b h)
+
+-- each spelling comes before each later one
+pub in-order : (i j : ℕ) → i < j → j < 429 → before (spellingOf i) (spellingOf j) ≡ true
+unfolding rowOf spellingOf
+in-order i j l m = sorted-pair noRow [] rows sorted i j l (omega (arith, rows-length))
+
+-- no spelling is empty
+pub filled : (k : ℕ) → k < 429 → 0 < length (spellingOf k)
+unfolding rowOf spellingOf
+filled k h = well-formed noRow k h .filled

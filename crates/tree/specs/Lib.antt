@@ -1,0 +1,4 @@
+pub mod Tree
+pub mod Words
+pub mod Decode
+pub mod WellFormed

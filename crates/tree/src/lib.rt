@@ -1,0 +1,1 @@
+// The tree of a reading: its layout in words.
