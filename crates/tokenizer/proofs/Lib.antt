@@ -6,6 +6,7 @@ pub mod Moves
 pub mod Tokens
 pub mod Order
 pub mod Spaces
+pub mod TokenList
 pub mod Numbers
 pub mod Accepted
 pub mod Sorted

@@ -1,0 +1,7 @@
+pub mod Matching
+mod Clearing
+mod Words
+mod Filling
+mod Answers
+mod Spaces
+pub mod Recorded

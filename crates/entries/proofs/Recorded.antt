@@ -1,0 +1,201 @@
+-- What the records say of each entry: its token with the Space before it, what closes it, the Sep in it, and no mark.
+use Prim.Native.Nat.{ℕ, zero, suc, _+_, _*_, _-_, _≤_, _<_}
+use mathlib.Core.Path.{_≡_, refl, sym, ap, _∙_, subst⁻¹}
+use mathlib.Core.Bool.{true, false}
+use mathlib.Core.List.{List, [], _∷_, _++_, map}
+use mathlib.Core.Option.{Option, none, some}
+use native.Mathlib.Omega.{arith}
+use native.Mathlib.Nat.{add-zero, zero-add}
+use native.Mathlib.Numerals.{add-one}
+use lib.ListN.{length, getD, drop, getElem?, length-map, List·getD-append}
+use Rattle.tokenizer.specs.declared.token.Token.the-variants as token
+use Rattle.tokenizer.specs.Kinds.{numberOf}
+use Rattle.tokenizer.specs.Lexeme.{Span, Lexeme}
+use Rattle.tokenizer.specs.Table.{tokenList, countOthers}
+use Rattle.tokenizer.proofs.Cases.{by-eq, by-lt, by-option}
+use Rattle.tokenizer.proofs.Numbers.{number-of-token}
+use Rattle.tokenizer.proofs.TokenList.{kind-space, kind-other, count-space, count-other, tokenAt, tokensFrom, tokens-all, tokens-none, tokens-next}
+use Rattle.tree.specs.Tree.{nowhere}
+use Rattle.tree.specs.Words.{pick}
+use Rattle.reading.specs.Entries.{Entry, is, entries, closeAfter, hasSep}
+use Rattle.reading.specs.Reading.{closeOf}
+use Rattle.entries.specs.Record.{placeOf, afterClose, sepWord, marksOf, kindOf, startOf, lenOf, spaceWord, spaceStart, spaceLen}
+use Rattle.entries.specs.Prepared.{places, closeFrom, ofBracket, records, workWords}
+use Rattle.entries.proofs.Spaces.{space-first, space-there, space-absent}
+use Rattle.entries.proofs.Filling.{places-space, entries-space, places-other, entries-other, length-work}
+
+-- the words of the record i
+record Fields (L : List ℕ) (i j : ℕ) (ps : List ℕ) (es : List Entry) : Type 0 where
+  entry : Entry
+  there : getElem? es i ≡ some entry
+  place : placeOf L i ≡ getD ps i 0
+  close : afterClose L i ≡ ofBracket entry (closeFrom zero (suc (j + i)) (drop (suc i) es))
+  sep : sepWord L i ≡ ofBracket entry (pick (hasSep zero (drop (suc i) es)) 1 0)
+  marks : marksOf L i ≡ 0
+
+fields : (j i : ℕ) (ps : List ℕ) (es : List Entry) → i < length ps → i < length es → Fields (records j ps es) i j ps es
+unfolding records placeOf afterClose sepWord marksOf
+fields j i [] es h l = absurd (omega arith)
+fields j i (p ∷ ps) [] h l = absurd (omega arith)
+fields j zero (p ∷ ps) (e ∷ es) h l =
+    record { entry = e; there = refl; place = refl; close = rw (add-zero j); sep = refl; marks = refl }
+fields j (suc i) (p ∷ ps) (e ∷ es) h l =
+    let f = fields (suc j) i ps es (omega arith) (omega arith) in
+    let a : 4 * suc i ≡ suc (suc (suc (suc (4 * i)))) = omega arith in
+    let b : 4 * suc i + 1 ≡ suc (suc (suc (suc (4 * i + 1)))) = omega arith in
+    let c : 4 * suc i + 2 ≡ suc (suc (suc (suc (4 * i + 2)))) = omega arith in
+    let d : 4 * suc i + 3 ≡ suc (suc (suc (suc (4 * i + 3)))) = omega arith in
+    let k : suc (j + suc i) ≡ suc (suc j + i) = omega arith in
+    record { entry = f .entry; there = f .there; place = rw a (f .place); close = rw (b, k) (f .close); sep = rw c (f .sep); marks = rw d (f .marks) }
+
+length-places : (j : ℕ) (ts : List Lexeme) → length (places j ts) ≡ countOthers ts
+unfolding places countOthers
+length-places j [] = refl
+length-places j (t ∷ ts) =
+    by-eq (numberOf (t .token)) 23
+    (λ z. ap length (places-space j nowhere t ts z) ∙ length-places (suc j) ts ∙ sym (count-space t ts z))
+    (λ z. ap length (places-other j nowhere t ts z) ∙ ap suc (length-places (suc j) ts) ∙ sym (count-other t ts z))
+
+get-map : {A B : Type 0} (f : A → B) (l : List A) (i : ℕ) (d : A) → i < length l → getElem? (map f l) i ≡ some (f (getD l i d))
+get-map f [] i d h = absurd (omega arith)
+get-map f (x ∷ l) zero d h = refl
+get-map f (x ∷ l) (suc i) d h = get-map f l i d (omega arith)
+
+-- the Space before token j, and the entry that token j makes
+abbrev pub spaceAt : List ℕ → ℕ → Span
+spaceAt table j = record { start = spaceWord table j 0; len = spaceWord table j 1 }
+
+abbrev pub entryAt : List ℕ → ℕ → Entry
+entryAt table j = record { token = tokenAt table j .token; span = tokenAt table j .span; space = spaceAt table j }
+
+module _ (table : List ℕ) (j : ℕ) where
+  back : j + 1 - 1 ≡ j
+  back = omega arith
+
+  after-space : getD table (3 * j + 2) 0 ≡ 23 → tokenAt table j .span ≡ spaceAt table (j + 1)
+  after-space z =
+      let w : (k : ℕ) → spaceWord table (j + 1) k ≡ getD table (3 * j + k) 0 = λ k. space-there table (j + 1) k (λ e. omega arith) (rw back z) ∙ rw back in
+      rw (w 0, w 1, add-zero (3 * j))
+
+  after-other : (getD table (3 * j + 2) 0 ≡ 23 → ⊥) → nowhere ≡ spaceAt table (j + 1)
+  after-other z =
+      let w : (k : ℕ) → spaceWord table (j + 1) k ≡ 0 = λ k. space-absent table (j + 1) k (λ e. omega arith) (rw back z) in
+      rw (w 0, w 1)
+
+-- the number behind, or 0
+abbrev pub behind : Option ℕ → ℕ
+behind none = 0
+behind (some k) = suc k
+
+close-of : (text : List ℕ) (es : List Entry) (i : ℕ) → closeFrom zero (suc i) (drop (suc i) es) ≡ behind (closeOf text es i)
+unfolding closeFrom closeOf
+close-of text es i = by-option (closeAfter zero (drop (suc i) es)) (λ e. rw (closeFrom, closeOf, e)) (λ k e. rw (closeFrom, closeOf, e) (omega arith))
+
+-- the record of the entry i is the definition's
+pub record Recorded (count : ℕ) (table K : List ℕ) (es : List Entry) (i : ℕ) : Type 0 where
+  pub entry : Entry
+  pub there : getElem? es i ≡ some entry
+  pub inside : placeOf K i < count
+  pub kind : kindOf table K i ≡ numberOf (entry .token)
+  pub start : startOf table K i ≡ entry .span .start
+  pub len : lenOf table K i ≡ entry .span .len
+  pub space : spaceStart table K i ≡ entry .space .start
+  pub spaceSize : spaceLen table K i ≡ entry .space .len
+  pub close : (text : List ℕ) → is token.OpenBracket entry ≡ true → afterClose K i ≡ behind (closeOf text es i)
+  pub sep : is token.OpenBracket entry ≡ true → sepWord K i ≡ pick (hasSep zero (drop (suc i) es)) 1 0
+  pub other : is token.OpenBracket entry ≡ false → (afterClose K i ≡ 0) × (sepWord K i ≡ 0)
+  pub marks : marksOf K i ≡ 0
+
+-- the entries are those of the tokens at these places, which are in the table
+record Placed (count : ℕ) (table ps : List ℕ) (es : List Entry) : Type 0 where
+  made : es ≡ map (entryAt table) ps
+  inside : (i : ℕ) → i < length ps → getD ps i 0 < count
+
+placed-more : (count : ℕ) (table : List ℕ) (j : ℕ) {ps : List ℕ} {es : List Entry} → j < count → Placed count table ps es → Placed count table (j ∷ ps) (entryAt table j ∷ es)
+placed-more count table j {ps} h q = record { made = ap (λ (l : List Entry). entryAt table j ∷ l) (q .made); inside = at }
+  where
+    at : (i : ℕ) → i < suc (length ps) → getD (j ∷ ps) i 0 < count
+    at zero l = h
+    at (suc i) l = q .inside i (omega arith)
+
+module _ (count : ℕ) (table : List ℕ) (kinds : (j : ℕ) → j < count → getD table (3 * j + 2) 0 ≤ 23) where
+  placed : (m j : ℕ) → count ≡ j + m → Placed count table (places j (tokensFrom count table j)) (entries (spaceAt table j) (tokensFrom count table j))
+  unfolding places entries
+  placed zero j e = rw (tokens-none count table j (omega arith)) record { made = refl; inside = λ i l. absurd (omega arith) }
+  placed (suc m) j e =
+      let h : j < count = omega arith in
+      let t = tokenAt table j in
+      let ts = tokensFrom count table (j + 1) in
+      let next = tokens-next count table j h in
+      let q = placed m (j + 1) (omega arith) in
+      let k = getD table (3 * j + 2) 0 in
+      by-lt k 23
+      (λ l.
+      let z = kind-other k l in
+      let p = ap (places j) next ∙ places-other j nowhere t ts z ∙ ap (λ (i : ℕ). j ∷ places i ts) (sym (add-one j)) in
+      let r = ap (entries (spaceAt table j)) next ∙ entries-other j (spaceAt table j) t ts z ∙ ap (λ (g : Span). entryAt table j ∷ entries g ts) (after-other table j (λ x. omega arith)) in
+      subst⁻¹ (λ (ps : List ℕ). Placed count table ps (entries (spaceAt table j) (tokensFrom count table j))) p
+      (subst⁻¹ (λ (es : List Entry). Placed count table (j ∷ places (j + 1) ts) es) r (placed-more count table j h q)))
+      (λ l.
+      let z = kind-space k l in
+      let p = ap (places j) next ∙ places-space j nowhere t ts z ∙ ap (λ (i : ℕ). places i ts) (sym (add-one j)) in
+      let r = ap (entries (spaceAt table j)) next ∙ entries-space j (spaceAt table j) t ts z ∙ ap (λ (g : Span). entries g ts) (after-space table j (omega (arith, kinds j h))) in
+      subst⁻¹ (λ (ps : List ℕ). Placed count table ps (entries (spaceAt table j) (tokensFrom count table j))) p
+      (subst⁻¹ (λ (es : List Entry). Placed count table (places (j + 1) ts) es) r q))
+
+  all-placed : Placed count table (places 0 (tokenList count table)) (entries nowhere (tokenList count table))
+  all-placed =
+      let w : (k : ℕ) → spaceWord table 0 k ≡ 0 = λ k. space-first table 0 k refl in
+      let q = placed count 0 (omega arith) in
+      rw (tokens-all count table) (rw (w 0, w 1) at q)
+
+  module _ (K rest : List ℕ) (work : K ≡ workWords (tokenList count table) ++ rest) (i : ℕ) (h : i < countOthers (tokenList count table)) where
+    word : (k : ℕ) → k < 4 → getD K (4 * i + k) 0 ≡ getD (workWords (tokenList count table)) (4 * i + k) 0
+    word k l = rw work (List·getD-append (workWords (tokenList count table)) rest 0 (4 * i + k) (omega (arith, length-work (tokenList count table))))
+
+    row : Fields (workWords (tokenList count table)) i 0 (places 0 (tokenList count table)) (entries nowhere (tokenList count table))
+    unfolding workWords
+    row =
+        let a = length-places 0 (tokenList count table) in
+        let b = ap length (all-placed .made) ∙ length-map (places 0 (tokenList count table)) (entryAt table) in
+        fields 0 i (places 0 (tokenList count table)) (entries nowhere (tokenList count table)) (omega arith) (omega arith)
+
+    place-is : placeOf K i ≡ getD (places 0 (tokenList count table)) i 0
+    unfolding placeOf
+    place-is = let e : 4 * i + 0 ≡ 4 * i = omega arith in rw e at (word 0 (omega arith)) ∙ row .place
+
+    listed : i < length (places 0 (tokenList count table))
+    listed = omega (arith, length-places 0 (tokenList count table))
+
+    there-is : getElem? (entries nowhere (tokenList count table)) i ≡ some (entryAt table (placeOf K i))
+    there-is = rw (all-placed .made, place-is) (get-map (entryAt table) (places 0 (tokenList count table)) i 0 listed)
+
+    entry-is : row .entry ≡ entryAt table (placeOf K i)
+    entry-is = let p = row .there in let q = there-is in cc
+
+    close-is : afterClose K i ≡ ofBracket (entryAt table (placeOf K i)) (closeFrom zero (suc i) (drop (suc i) (entries nowhere (tokenList count table))))
+    unfolding afterClose
+    close-is = word 1 (omega arith) ∙ row .close ∙ rw (entry-is, zero-add i)
+
+    sep-is : sepWord K i ≡ ofBracket (entryAt table (placeOf K i)) (pick (hasSep zero (drop (suc i) (entries nowhere (tokenList count table)))) 1 0)
+    unfolding sepWord
+    sep-is = word 2 (omega arith) ∙ row .sep ∙ rw entry-is
+
+    pub recorded : Recorded count table K (entries nowhere (tokenList count table)) i
+    unfolding kindOf startOf lenOf spaceStart spaceLen marksOf ofBracket
+    recorded =
+        let l : placeOf K i < count = rw place-is (all-placed .inside i listed) in
+        record {
+          entry = entryAt table (placeOf K i);
+          there = there-is;
+          inside = l;
+          kind = sym (number-of-token (getD table (3 * placeOf K i + 2) 0) (omega (arith, kinds (placeOf K i) l)));
+          start = refl;
+          len = refl;
+          space = refl;
+          spaceSize = refl;
+          close = λ text o. close-is ∙ rw o (close-of text (entries nowhere (tokenList count table)) i);
+          sep = λ o. sep-is ∙ rw o;
+          other = λ o. (close-is ∙ rw o, sep-is ∙ rw o);
+          marks = word 3 (omega arith) ∙ row .marks;
+        }

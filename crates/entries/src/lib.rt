@@ -1,0 +1,129 @@
+// Parser::new of parse.rs over lent words: a record of four words for each token other than Space, and its accessors.
+pub mod record;
+
+ghost use mathlib.Core.Path.{_≡_};
+ghost use mathlib.Core.List.{List, [], _∷_};
+ghost use Prim.Native.Nat.{ℕ, _+_, _*_, _≤_, _<_};
+ghost use lib.ListN.{length};
+ghost use lib.Seq.{sets};
+ghost use Rattle.tokenizer.specs.Table.{tokenList, countOthers};
+ghost use Rattle.entries.specs.Record.{afterClose};
+ghost use Rattle.entries.specs.Prepared.{prepared};
+ghost use Rattle.entries.specs.Open.{Chain, Opened, clearAll, Link, Filled};
+
+pub enum Prepared {
+    // How many entries there are.
+    Entries(usize),
+    // The refusal's number, 3 or 8.
+    Refused(u8),
+}
+
+// How many tokens are other than Space.
+fn count_entries(table: &[u32], count: usize) -> usize
+    requires { ⌜ count ≤ 4096 ⌝ }
+    requires { ⌜ 3 * count ≤ length (now table) ⌝ }
+    ensures { λ r. ⌜ r ≡ countOthers (tokenList count (now (table .entry))) ⌝ }
+{
+    let mut n = 0;
+    let mut i = 0;
+    while i < count {
+        if table[3 * i + 2] < 23 {
+            n += 1;
+        }
+        i += 1;
+    }
+    n
+}
+
+// The record of the entry i at this place of the table, with no bracket matched and no mark set.
+fn put_record(work: &mut [u32], i: usize, place: usize)
+    requires { ⌜ i ≤ 4096 ⌝ }
+    requires { ⌜ place ≤ 4096 ⌝ }
+    requires { ⌜ 4 * i + 3 < length (now work) ⌝ }
+    ensures { λ _. ⌜ now (work .exit) ≡ sets (now (work .entry)) (4 * i) (place ∷ 0 ∷ 0 ∷ 0 ∷ []) ⌝ }
+{
+    work[4 * i] = place as u32;
+    work[4 * i + 1] = 0;
+    work[4 * i + 2] = 0;
+    work[4 * i + 3] = 0;
+}
+
+// Matches the entry i with the open brackets before it. Each open one's close word leads to the one around it.
+fn link(work: &mut [u32], i: usize, kind: u32, top: usize) -> usize
+    requires { ⌜ i ≤ 4096 ⌝ }
+    requires { ⌜ top ≤ i ⌝ }
+    requires { ⌜ 4 * i + 3 < length (now work) ⌝ }
+    ensures { λ r. ⌜ Link i kind top (now (work .entry)) (now (work .exit)) r ⌝ }
+{
+    if kind == 20 {
+        work[4 * i + 1] = top as u32;
+        return i + 1;
+    }
+    if top == 0 {
+        return top;
+    }
+    let bracket = top - 1;
+    if kind == 21 {
+        let outer = work[4 * bracket + 1] as usize;
+        work[4 * bracket + 1] = (i + 1) as u32;
+        return outer;
+    }
+    if kind == 3 {
+        work[4 * bracket + 2] = 1;
+    }
+    top
+}
+
+// The records of the entries, but for the brackets that are left open; the number behind the last of those, or 0.
+fn fill(table: &[u32], count: usize, work: &mut [u32]) -> usize
+    requires { ⌜ count ≤ 4096 ⌝ }
+    requires { ⌜ 3 * count ≤ length (now table) ⌝ }
+    requires { ⌜ 4 * countOthers (tokenList count (now table)) ≤ length (now work) ⌝ }
+    ensures { λ r. ⌜ Filled (tokenList count (now (table .entry))) (now (work .entry)) (now (work .exit)) r ⌝ }
+{
+    let mut n = 0;
+    let mut top = 0;
+    let mut i = 0;
+    while i < count {
+        let kind = table[3 * i + 2];
+        if kind < 23 {
+            put_record(work, n, i);
+            top = link(work, n, kind, top);
+            n += 1;
+        }
+        i += 1;
+    }
+    top
+}
+
+// Clears the close words of the brackets that nothing closes.
+fn clear_open(work: &mut [u32], last: usize)
+    requires { ⌜ Opened (now work) last ⌝ }
+    ensures { λ _. ⌜ ((st : List ℕ) → Chain (afterClose (now (work .entry))) last st last → now (work .exit) ≡ clearAll st (now (work .entry))) ⌝ }
+{
+    let mut top = last;
+    while 0 < top {
+        let bracket = top - 1;
+        top = work[4 * bracket + 1] as usize;
+        work[4 * bracket + 1] = 0;
+    }
+}
+
+// The records of a list of `count` tokens.
+pub fn prepare(table: &[u32], count: usize, work: &mut [u32]) -> Prepared
+    ensures { λ r. ⌜ (r, now (work .exit)) ≡ prepared (now (table .entry)) count (now (work .entry)) ⌝ }
+{
+    if 4096 < count {
+        return Prepared::Refused(3);
+    }
+    if table.len() < 3 * count {
+        return Prepared::Refused(3);
+    }
+    let n = count_entries(table, count);
+    if work.len() < 4 * (n + 1) {
+        return Prepared::Refused(8);
+    }
+    let last = fill(table, count, work);
+    clear_open(work, last);
+    Prepared::Entries(n)
+}

@@ -1,0 +1,4 @@
+mod Ascii
+mod Order
+mod Tokens
+pub mod Accepted
