@@ -10,17 +10,10 @@ use lib.Dec.{eqb}
 use Rattle.tokenizer.specs.declared.token.SymbolClass.the-variants as class
 use Rattle.tree.specs.Tree.{Script, Head, Atom, Prefix, Node, node, Nodes, end, _▸_, _⧺_, count}
 use Rattle.tree.specs.Words.{headWords, tailWords, ofItems, pick, withHead, encode, encodes, encodeItem, encodeItems}
-use Rattle.tree.specs.WellFormed.{Simple, Cells, Arguments, ScriptFunc, Intermediate, Expression, Behind, WellFormed}
-use Rattle.tree.specs.Decode.{arguments, headOf, below, times, decodeItem, decodeNode, decode, Decoder}
-
--- Each head has the number of nodes below it that it should: all that decoding needs of a tree.
-abbrev mutual
-  pub Counted : Node → Type 0
-  Counted (node h l) = (count l ≡ below h (count l)) × Counteds l
-
-  pub Counteds : Nodes → Type 0
-  Counteds end = Unit {0}
-  Counteds (x ▸ l) = Counted x × Counteds l
+use Rattle.tree.specs.WellFormed.{WellFormed}
+use Rattle.tree.specs.Laid.{Laid, Laids}
+use Rattle.tree.proofs.Laid.{expression-laid}
+use Rattle.tree.specs.Decode.{headOf, below, times, decodeItem, decodeNode, decode, Decoder}
 
 -- What decoding reads in the words of a node whose own words come before `behind`.
 record Own (h : Head) (k : ℕ) (words behind : List ℕ) : Type 0 where
@@ -157,69 +150,17 @@ unfolding encode times
 none = record { all = λ depth rest fit. refl; items = λ depth rest fit. refl }
 
 mutual
-  back : (x : Node) → Counted x → Back x
-  back (node h l) c = let b = backs l (c .1) in record { one = node-back h l (c .0) b; item = item-back h l (c .0) b }
+  back : (x : Node) → Laid x → Back x
+  back (node h l) c = let b = backs l (c .1 .1) in record { one = node-back h l (c .0) b; item = item-back h l (c .0) b }
 
-  backs : (l : Nodes) → Counteds l → Backs l
+  backs : (l : Nodes) → Laids l → Backs l
   backs end c = none
   backs (x ▸ l) c = next (back x (c .0)) (backs l (c .1))
 
-decode-counted : (l : Nodes) → Counteds l → (rest : List ℕ) → decode (count l) (encodeItems l ++ rest) ≡ l
+decode-laid : (l : Nodes) → Laids l → (rest : List ℕ) → decode (count l) (encodeItems l ++ rest) ≡ l
 unfolding decode
-decode-counted l c rest =
+decode-laid l c rest =
     ap (λ p. p .0) (backs l c .items (length (encodeItems l ++ rest)) rest (simp length-append (omega arith)))
 
--- A well-formed tree has the counts.
-before : (x : Node) (l : Nodes) {m : Nodes} {k : ℕ} → (count l ≡ k) × Counteds l → Counted x → m ≡ l ⧺ (x ▸ end) →
-    (count m ≡ suc k) × Counteds m
-before x l c d e = rw e (counts l ∙ ap suc (c .0), all l (c .1))
-  where
-    counts : (l : Nodes) → count (l ⧺ (x ▸ end)) ≡ suc (count l)
-    counts end = refl
-    counts (y ▸ l) = ap suc (counts l)
-
-    all : (l : Nodes) → Counteds l → Counteds (l ⧺ (x ▸ end))
-    all end c = (d, tt)
-    all (y ▸ l) c = (c .0, all l (c .1))
-
-mutual
-  simple-counted : {x : Node} → Simple x → Counted x
-  simple-counted Simple.missing = (refl, tt)
-  simple-counted (Simple.atom n) = (refl, tt)
-  simple-counted (Simple.ssigned a) = (refl, (simple-counted a, tt))
-  simple-counted (Simple.unary a) = (refl, (simple-counted a, tt))
-  simple-counted (Simple.sfunc a) = (refl, (simple-counted a, tt))
-  simple-counted (Simple.binary a b) = (refl, (simple-counted a, (simple-counted b, tt)))
-  simple-counted (Simple.group e) = (refl, expression-counted e)
-  simple-counted (Simple.matrix c rows m k ls) = (refl, cells-counted c)
-
-  cells-counted : {l : Nodes} → Cells l → Counteds l
-  cells-counted Cells.no-more-cells = tt
-  cells-counted (Cells.cell e m) = ((refl, expression-counted e), cells-counted m)
-
-  arguments-counted : {sc : Script} {l : Nodes} → Arguments sc l → (count l ≡ arguments sc) × Counteds l
-  arguments-counted Arguments.no-script = (refl, tt)
-  arguments-counted (Arguments.sub a) = (refl, (simple-counted a, tt))
-  arguments-counted (Arguments.super a) = (refl, (simple-counted a, tt))
-  arguments-counted (Arguments.subsuper a b) = (refl, (simple-counted a, (simple-counted b, tt)))
-
-  scriptFunc-counted : {x : Node} → ScriptFunc x → Counted x
-  scriptFunc-counted (ScriptFunc.simple a q) = let c = arguments-counted q in (ap suc (c .0), (simple-counted a, c .1))
-  scriptFunc-counted (ScriptFunc.func {x} {l} q a e) = before x l (arguments-counted q) (scriptFunc-counted a) e
-  scriptFunc-counted (ScriptFunc.signed a) = (refl, (scriptFunc-counted a, tt))
-
-  intermediate-counted : {x : Node} → Intermediate x → Counted x
-  intermediate-counted (Intermediate.scriptFunc a) = scriptFunc-counted a
-  intermediate-counted (Intermediate.frac a b) = (refl, (scriptFunc-counted a, (scriptFunc-counted b, tt)))
-
-  expression-counted : {l : Nodes} → Expression l → Counteds l
-  expression-counted Expression.empty = tt
-  expression-counted (Expression.items a m) = (intermediate-counted a, behind-counted m)
-
-  behind-counted : {l : Nodes} → Behind l → Counteds l
-  behind-counted Behind.no-more = tt
-  behind-counted (Behind.item a m) = (intermediate-counted a, behind-counted m)
-  behind-counted (Behind.space k a m) = ((refl, tt), (intermediate-counted a, behind-counted m))
-
 pub decode-encode : (l : Nodes) → WellFormed l → (rest : List ℕ) → decode (count l) (encodeItems l ++ rest) ≡ l
-decode-encode l w rest = decode-counted l (expression-counted w) rest
+decode-encode l w rest = decode-laid l (expression-laid w) rest

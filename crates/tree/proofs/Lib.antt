@@ -1,2 +1,5 @@
+pub mod Laid
 pub mod Decode
 pub mod Size
+pub mod Steps
+pub mod Opens

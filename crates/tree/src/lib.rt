@@ -1,1 +1,2 @@
 // The tree of a reading: its layout in words.
+pub mod walk;

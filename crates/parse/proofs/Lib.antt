@@ -1,0 +1,16 @@
+pub mod Buffer
+pub mod Kit
+pub mod Arms
+pub mod Scripting
+pub mod Sorts
+pub mod Begins
+pub mod Loop
+pub mod Gaps
+pub mod Attempts
+pub mod Barred
+pub mod Spans
+pub mod Cells
+pub mod Rows
+pub mod Matrices
+pub mod Tops
+pub mod Wrapping

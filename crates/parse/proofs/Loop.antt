@@ -1,0 +1,247 @@
+-- The loop over items: what it keeps, and what each way out of it shows.
+use Prim.Native.Nat.{ℕ, zero, suc, _+_, _*_, _-_, _≤_, _<_}
+use mathlib.Core.Path.{_≡_, refl, sym, ap, _∙_}
+use mathlib.Core.List.{List, _++_, append-nil, append-assoc}
+use mathlib.Core.Option.{Option, none, some}
+use mathlib.Core.Bool.{Bool, true, false, not, _&&_}
+use native.Mathlib.Omega.{arith}
+use lib.ListN.{length, getElem?}
+use lib.Dec.{eqb, ltb}
+use borrow.Author.Tests.{ltb-true, ltb-false, lt-ltb, le-ltb, ne-eqb}
+use Rattle.tokenizer.specs.declared.token.Token.the-variants as token
+use Rattle.tree.specs.Tree.{Head, Atom, Node, node, Nodes, end, _▸_, _⧺_, count, leaf}
+use Rattle.tree.specs.Words.{pick, encodeItem, encodeItems}
+use Rattle.reading.specs.Entries.{Entry}
+use Rattle.reading.specs.Reading.{State, Readers, isAt, isBar, atOpenClose, sameText, textOf, nextIntermediate, intermediates, prefixes, spaced}
+use Rattle.parse.specs.declared.cursor.Cursor.{Cursor}
+use Rattle.parse.specs.declared.cursor.Step.the-variants.{Found, Nothing}
+use Rattle.parse.specs.declared.cursor.Gap.{Gap}
+use Rattle.parse.specs.Buffer.{Wrote}
+use Rattle.parse.specs.Entry.{kindOf, spaceLen, testAt, isKind, sameAt, barAt, gapLen, gapWords, gapItems}
+use Rattle.parse.specs.Meet.{Input, Row, Stands, Given, At, Known, readers, Moves, Each, Intermediate, Intermediates, Gapped, Until, lastAfter, isNone, stopOf, itemsAt}
+use Rattle.parse.proofs.Buffer.{seq, back, wrote-none}
+use Rattle.parse.proofs.Kit.{bind, ret, at-here, if-true, if-false, row-of, kept-refl, kept-trans, test-in, test-out, same-is, past, at-some, at-none}
+use Rattle.parse.proofs.Scripting.{count-append}
+
+pub encodeItems-append : (l m : Nodes) → encodeItems (l ⧺ m) ≡ encodeItems l ++ encodeItems m
+unfolding encodeItems
+encodeItems-append end m = refl
+encodeItems-append (x ▸ l) m = ap (λ (w : List ℕ). encodeItem x ++ w) (encodeItems-append l m) ∙ sym (append-assoc (encodeItem x) (encodeItems l) (encodeItems m))
+
+pub nodes-assoc : (l m k : Nodes) → (l ⧺ m) ⧺ k ≡ l ⧺ (m ⧺ k)
+nodes-assoc end m k = refl
+nodes-assoc (x ▸ l) m k = ap (λ (w : Nodes). x ▸ w) (nodes-assoc l m k)
+
+pub nodes-nil : (l : Nodes) → l ⧺ end ≡ l
+nodes-nil end = refl
+nodes-nil (x ▸ l) = ap (λ (w : Nodes). x ▸ w) (nodes-nil l)
+
+-- The items read so far, put before those to come.
+abbrev pub joined : Nodes → Nodes × State → Nodes × State
+joined acc r = (acc ⧺ r .0, r .1)
+
+-- The Space kept before an item, as nodes, whatever follows.
+pub record Spaced (t K : List ℕ) (n : ℕ) (first : Bool) (i : ℕ) (es : List Entry) (before : Option Node) : Type 0 where
+  pub nodes : Nodes
+  pub put : (x : Node) (l : Nodes) → spaced before (getElem? es i) x l ≡ nodes ⧺ (x ▸ l)
+  pub words : encodeItems nodes ≡ gapWords t K n first i
+  pub number : count nodes ≡ gapItems t K n first i
+
+spaced-gap : (b : Node) (e : Entry) (x : Node) (l : Nodes) (k : ℕ) → e .space .len ≡ suc k → spaced (some b) (some e) x l ≡ leaf (Head.atom Atom.space (e .space)) ▸ x ▸ l
+unfolding spaced
+spaced-gap b e x l k h = ap (λ (m : ℕ). elim m as (λ _. Nodes) [ zero ↦ x ▸ l | suc n ↦ leaf (Head.atom Atom.space (e .space)) ▸ x ▸ l ]) h
+
+pub spaces : {X t : List ℕ} {n : ℕ} {K : List ℕ} {I : Input} (i : ℕ) (before : Option Node) → Given X t n K I → Spaced t K n (isNone before) i (I .es) before
+unfolding gapWords gapItems gapLen encodeItems encodeItem spaced
+spaces i none g = record { nodes = end; put = λ x l. refl; words = refl; number = refl }
+spaces {X} {t} {n} {K} {I} i (some b) g = go (ltb i n) refl
+  where
+    by-len : (q : Stands t K (I .es) i) → ltb i n ≡ true → (k : ℕ) → q .entry .space .len ≡ k → Spaced t K n false i (I .es) (some b)
+    by-len q h zero hk =
+        let z : spaceLen t K i ≡ 0 = q .row .spaceSize ∙ hk in
+        record { nodes = end; put = λ x l. rw (spaced, q .there, hk); words = rw (h, z); number = rw (h, z) }
+    by-len q h (suc k) hk =
+        let z : spaceLen t K i ≡ suc k = q .row .spaceSize ∙ hk in
+        let hz : eqb (spaceLen t K i) 0 ≡ false = ne-eqb (spaceLen t K i) 0 (λ w. omega arith) in
+        record {
+          nodes = leaf (Head.atom Atom.space (q .entry .space)) ▸ end;
+          put = λ x l. ap (λ (o : Option Entry). spaced (some b) o x l) (q .there) ∙ spaced-gap b (q .entry) x l k hk;
+          words = rw (h, hz, ← q .row .space, ← q .row .spaceSize);
+          number = rw (h, hz);
+        }
+
+    go : (r : Bool) → ltb i n ≡ r → Spaced t K n false i (I .es) (some b)
+    go true h = let q = g .stands i (ltb-true i n h) in by-len q h (q .entry .space .len) refl
+    go false h = record { nodes = end; put = λ x l. rw (spaced, past (I .es) i (omega (arith, ltb-false i n h, g .size))); words = rw h; number = rw h }
+
+pub last-append : (b : Option Node) (l m : Nodes) → lastAfter b (l ⧺ m) ≡ lastAfter (lastAfter b l) m
+last-append b end m = refl
+last-append b (x ▸ l) m = last-append (some x) l m
+
+last-more : (b : Option Node) (acc nodes : Nodes) (x : Node) → lastAfter b (acc ⧺ (nodes ⧺ (x ▸ end))) ≡ some x
+last-more b acc nodes x = last-append b acc (nodes ⧺ (x ▸ end)) ∙ last-append (lastAfter b acc) nodes (x ▸ end)
+
+rejoin : (acc nodes : Nodes) (x : Node) (l : Nodes) → acc ⧺ (nodes ⧺ (x ▸ l)) ≡ (acc ⧺ (nodes ⧺ (x ▸ end))) ⧺ l
+rejoin acc nodes x l = ap (λ (w : Nodes). acc ⧺ w) (sym (nodes-assoc nodes (x ▸ end) l)) ∙ sym (nodes-assoc acc (nodes ⧺ (x ▸ end)) l)
+
+words-more : (acc nodes : Nodes) (x : Node) {g : List ℕ} → encodeItems nodes ≡ g → encodeItems (acc ⧺ (nodes ⧺ (x ▸ end))) ≡ encodeItems acc ++ (g ++ encodeItem x)
+unfolding encodeItems
+words-more acc nodes x h = encodeItems-append acc (nodes ⧺ (x ▸ end)) ∙ ap (λ (w : List ℕ). encodeItems acc ++ w) (encodeItems-append nodes (x ▸ end) ∙ rw (h, append-nil))
+
+-- The code's tests of texts.
+pub same-text : {X t K : List ℕ} {i j : ℕ} (text : List ℕ) (es : List Entry) (a b : Entry) → text ≡ X → Row t K i a → Row t K j b → sameText text es (a .span) (b .span) ≡ sameAt X t K i j
+unfolding sameText textOf sameAt
+same-text text es a b h r q = rw (h, r .start, r .len, q .start, q .len)
+
+and-pick : (a b : Bool) → (a && b) ≡ pick a b false
+and-pick true b = refl
+and-pick false b = refl
+
+bar-in : (X t K : List ℕ) (n i j : ℕ) → i < n → j < n → barAt X t K n i j ≡ pick (eqb (kindOf t K j) 22) (sameAt X t K i j) false
+unfolding barAt
+bar-in X t K n i j h k = rw (lt-ltb i n h, test-in t K n (isKind 22) j k)
+
+bar-out : (X t K : List ℕ) (n i j : ℕ) → n ≤ j → barAt X t K n i j ≡ false
+unfolding barAt
+bar-out X t K n i j h = go (ltb i n)
+  where
+    go : (b : Bool) → pick b (pick (testAt t K n (isKind 22) j) (sameAt X t K i j) false) false ≡ false
+    go true = rw (test-out t K n (isKind 22) j h)
+    go false = refl
+
+bar-none : (X t K : List ℕ) (n i j : ℕ) → n ≤ i → barAt X t K n i j ≡ false
+unfolding barAt
+bar-none X t K n i j h = rw (le-ltb i n h)
+
+pub bar-is : {X t : List ℕ} {n : ℕ} {K : List ℕ} {I : Input} (i p : ℕ) (o : Entry) → Given X t n K I → i < n → getElem? (I .es) i ≡ some o → isAt (I .text) (I .es) (isBar (I .text) (I .es) o) p ≡ barAt X t K n i p
+unfolding isBar
+bar-is {X} {t} {n} {K} {I} i p o g h there = go (ltb p n) refl
+  where
+    go : (b : Bool) → ltb p n ≡ b → isAt (I .text) (I .es) (isBar (I .text) (I .es) o) p ≡ barAt X t K n i p
+    go true e =
+        let l : p < n = ltb-true p n e in
+        let q = g .stands p l in
+        at-some (I .text) (I .es) _ p (q .entry) (q .there)
+        ∙ rw (same-is token.OpenCloseBracket (q .entry), same-text (I .text) (I .es) o (q .entry) (g .text) (row-of g h there) (q .row), ← q .row .kind) (and-pick (eqb (kindOf t K p) 22) (sameAt X t K i p))
+        ∙ sym (bar-in X t K n i p h l)
+    go false e = at-none (I .text) (I .es) _ p (past (I .es) p (omega (arith, ltb-false p n e, g .size))) ∙ sym (bar-out X t K n i p (ltb-false p n e))
+
+pub until-is : {X t : List ℕ} {n : ℕ} {K : List ℕ} (u : ℕ) (I : Input) (until : Option Entry) (p : ℕ) → Given X t n K I → Until n I u until → atOpenClose (I .text) (I .es) until p ≡ barAt X t K n u p
+unfolding atOpenClose
+until-is {X} {t} {n} {K} u I none p g h = sym (bar-none X t K n u p h)
+until-is u I (some o) p g h = bar-is u p o g (h .0) (h .1)
+
+-- At the loop's head: the items read so far, and turns enough for the rest.
+pub record Along (X t : List ℕ) (n : ℕ) (L : List ℕ) (d : ℕ) (stop : Bool) (I : Input) (until : Option Entry) (start : Option Node) (s : State) (e : ℕ) (x y : List ℕ) (cur : Cursor) (stp num : ℕ) (first sign : Bool) : Type 0 where
+  pub left : ℕ
+  pub acc : Nodes
+  pub before : Option Node
+  pub state : State
+  pub whole : itemsAt d until stop start I s ≡ joined acc (intermediates (I .text) (I .es) true (readers d I) (suc left) until (stopOf stop) before state)
+  pub enough : n - cur .pos ≤ left
+  pub at : At X t n L (cur .pos) (cur .takes) I state
+  pub tree : Wrote x e y stp (encodeItems acc)
+  pub number : num ≡ count acc
+  pub isFirst : first ≡ isNone before
+  pub isSign : sign ≡ prefixes before
+  pub last : before ≡ lastAfter start acc
+
+pub record Inv (X t : List ℕ) (n : ℕ) (K L : List ℕ) (u : ℕ) (stop first₀ sign₀ : Bool) (c : Cursor) (e : ℕ) (x y : List ℕ) (cur : Cursor) (stp num : ℕ) (first sign : Bool) : Type 0 where
+  pub moves : Moves X t 0 0 0 n K L c e x y cur stp
+  pub few : num + 2 * c .pos ≤ 2 * cur .pos
+  pub along : Each X t n K c (λ I s. (until : Option Entry) → Until n I u until → (start : Option Node) → first₀ ≡ isNone start → sign₀ ≡ prefixes start → Along X t n L (c .depth) stop I until start s e x y cur stp num first sign)
+
+-- one turn of the definition
+module _ (I : Input) (R : Readers) (until : Option Entry) (stop : Bool) (before : Option Node) (s u : State) where
+  turn-found : (f : ℕ) (x : Node) → atOpenClose (I .text) (I .es) until (s .pos) ≡ false → nextIntermediate (I .text) (I .es) true R (stopOf stop) (prefixes before) s ≡ (some x, u)
+      → intermediates (I .text) (I .es) true R (suc f) until (stopOf stop) before s
+      ≡ (let r = intermediates (I .text) (I .es) true R f until (stopOf stop) (some x) u in (spaced before (getElem? (I .es) (s .pos)) x (r .0), r .1))
+  unfolding intermediates
+  turn-found f x k h = bind _ _ s (at-here s) ∙ if-false _ _ s k ∙ bind _ _ s h ∙ bind _ _ u refl ∙ ret _ _
+
+  turn-nothing : (f : ℕ) → atOpenClose (I .text) (I .es) until (s .pos) ≡ false → nextIntermediate (I .text) (I .es) true R (stopOf stop) (prefixes before) s ≡ (none, u)
+      → intermediates (I .text) (I .es) true R (suc f) until (stopOf stop) before s ≡ (end, u)
+  unfolding intermediates
+  turn-nothing f k h = bind _ _ s (at-here s) ∙ if-false _ _ s k ∙ bind _ _ s h ∙ ret _ _
+
+module _ (I : Input) (R : Readers) (until : Option Entry) (stop : Bool) (before : Option Node) (s : State) where
+  turn-met : (f : ℕ) → atOpenClose (I .text) (I .es) until (s .pos) ≡ true → intermediates (I .text) (I .es) true R (suc f) until (stopOf stop) before s ≡ (end, s)
+  unfolding intermediates
+  turn-met f k = bind _ _ s (at-here s) ∙ if-true _ _ s k ∙ ret _ _
+
+module _ {X t : List ℕ} {n : ℕ} {K : List ℕ} (u : ℕ) (stop first₀ sign₀ : Bool) (c : Cursor) (e : ℕ) (x : List ℕ) where
+  pub along-none : c .pos ≤ n → Known X t n K → Inv X t n K K u stop first₀ sign₀ c e x x c e 0 first₀ sign₀
+  unfolding encodeItems prefixes
+  along-none k kn = record {
+    moves = record { within = k; on = omega arith; depth = refl; room = omega arith; long = refl; kept = kept-refl K; known = kn };
+    few = omega arith;
+    along = λ I s at until hu start hf hs. record { left = length (I .es); acc = end; before = start; state = s; whole = refl; enough = omega (arith, at .given .size); at = at; tree = wrote-none x e; number = refl; isFirst = hf; isSign = hs; last = refl };
+  }
+
+  module _ {L y y2 y3 : List ℕ} {cur : Cursor} {stp num : ℕ} {first sign : Bool} {g : Gap} (i : Inv X t n K L u stop first₀ sign₀ c e x y cur stp num first sign) (gp : Gapped t L n first (cur .pos) stp y y2 g)
+      (room : stp + 14 + 32 * (n - cur .pos) ≤ length y) (unmet : barAt X t L n u (cur .pos) ≡ false) where
+    pub along-more : {J : List ℕ} {b : Cursor} {E : ℕ} {f : Bool} → Intermediate X t n L J stop sign cur (g .end) y2 y3 (Found b E f) → Inv X t n K J u stop first₀ sign₀ c e x y3 b E (num + (1 + g .items)) false (not f)
+    unfolding encodeItems prefixes
+    along-more {J} {b} {E} {f} p = record {
+      moves = record { within = p .0 .within; on = omega (arith, p .0 .on, i .moves .on); depth = p .0 .depth ∙ i .moves .depth; room = omega (arith, p .0 .room, gp .short, i .moves .room); long = p .0 .long ∙ gp .tree .long ∙ i .moves .long; kept = kept-trans (i .moves .kept) (p .0 .kept); known = p .0 .known };
+      few = omega (arith, i .few, gp .few, p .0 .on);
+      along = λ I s at until hu start hf hs.
+          let a = i .along I s at until hu start hf hs in
+          let q = rw (i .moves .depth) at (p .1 I (a .state) (a .at)) in
+          let k = spaces (cur .pos) (a .before) (a .at .given) in
+          let run : nextIntermediate (I .text) (I .es) true (readers (c .depth) I) (stopOf stop) (prefixes (a .before)) (a .state) ≡ (some (q .node), q .state) = rw (a .isSign) at (q .runs) in
+          let l1 : a .left ≡ suc (a .left - 1) = omega (arith, a .enough, p .0 .on, p .0 .within) in
+          let rest = intermediates (I .text) (I .es) true (readers (c .depth) I) (a .left) until (stopOf stop) (some (q .node)) (q .state) in
+          record {
+            left = a .left - 1;
+            acc = a .acc ⧺ (k .nodes ⧺ (q .node ▸ end));
+            before = some (q .node);
+            state = q .state;
+            whole = a .whole ∙ ap (joined (a .acc)) (turn-found I (readers (c .depth) I) until stop (a .before) (a .state) (q .state) (a .left) (q .node) (ap (atOpenClose (I .text) (I .es) until) (sym (a .at .pos)) ∙ until-is u I until (cur .pos) (a .at .given) hu ∙ unmet) run)
+                ∙ ap (λ (w : Nodes). (a .acc ⧺ w, rest .1)) (ap (λ (p : ℕ). spaced (a .before) (getElem? (I .es) p) (q .node) (rest .0)) (sym (a .at .pos)) ∙ k .put (q .node) (rest .0))
+                ∙ ap (λ (w : Nodes). (w, rest .1)) (rejoin (a .acc) (k .nodes) (q .node) (rest .0))
+                ∙ ap (λ (m : ℕ). joined (a .acc ⧺ (k .nodes ⧺ (q .node ▸ end))) (intermediates (I .text) (I .es) true (readers (c .depth) I) m until (stopOf stop) (some (q .node)) (q .state))) l1;
+            enough = omega (arith, l1, a .enough, p .0 .on, p .0 .within);
+            at = q .at;
+            tree = rw (words-more (a .acc) (k .nodes) (q .node) (k .words ∙ ap (λ (b : Bool). gapWords t L n b (cur .pos)) (sym (a .isFirst)))) (seq (a .tree) (seq (gp .tree) (q .tree)));
+            number = omega (arith, a .number, gp .items, k .number ∙ ap (λ (b : Bool). gapItems t L n b (cur .pos)) (sym (a .isFirst)), count-append (a .acc) (k .nodes ⧺ (q .node ▸ end)), count-append (k .nodes) (q .node ▸ end));
+            isFirst = refl;
+            isSign = ap not (q .besides);
+            last = sym (last-more start (a .acc) (k .nodes) (q .node));
+          };
+    }
+
+    pub along-nothing : {J : List ℕ} {b : Cursor} → Intermediate X t n L J stop sign cur (g .end) y2 y3 (Nothing b) → Intermediates X t n K J u stop first₀ sign₀ c e x y3 (record { cur = b; end = stp; count = num; sign = sign })
+    along-nothing {J} {b} p = record {
+      moves = record { within = p .0 .within; on = omega (arith, p .0 .on, i .moves .on); depth = p .0 .depth ∙ i .moves .depth; room = omega (arith, p .0 .on, i .moves .room); long = p .0 .long ∙ gp .tree .long ∙ i .moves .long; kept = kept-trans (i .moves .kept) (p .0 .kept); known = p .0 .known };
+      few = omega (arith, i .few, p .0 .on);
+      means = λ I s at until hu start hf hs.
+          let a = i .along I s at until hu start hf hs in
+          let q = rw (i .moves .depth) at (p .1 I (a .state) (a .at)) in
+          let run : nextIntermediate (I .text) (I .es) true (readers (c .depth) I) (stopOf stop) (prefixes (a .before)) (a .state) ≡ (none, q .state) = rw (a .isSign) at (q .runs) in
+          record {
+            answer = a .acc;
+            state = q .state;
+            runs = a .whole ∙ ap (joined (a .acc)) (turn-nothing I (readers (c .depth) I) until stop (a .before) (a .state) (q .state) (a .left) (ap (atOpenClose (I .text) (I .es) until) (sym (a .at .pos)) ∙ until-is u I until (cur .pos) (a .at .given) hu ∙ unmet) run) ∙ ap (λ (w : Nodes). (w, q .state)) (nodes-nil (a .acc));
+            at = q .at;
+            tree = rw append-nil at (seq (a .tree) (back stp (seq (gp .tree) (q .tree)) (omega arith) (omega (arith, gp .short))));
+            besides = (a .number, a .isSign ∙ ap prefixes (a .last));
+          };
+    }
+
+  pub along-met : {L y : List ℕ} {cur : Cursor} {stp num : ℕ} {first sign : Bool} → Inv X t n K L u stop first₀ sign₀ c e x y cur stp num first sign → barAt X t L n u (cur .pos) ≡ true
+      → Intermediates X t n K L u stop first₀ sign₀ c e x y (record { cur = cur; end = stp; count = num; sign = sign })
+  along-met {L} {y} {cur} {stp} {num} i h = record {
+    moves = i .moves;
+    few = i .few;
+    means = λ I s at until hu start hf hs.
+        let a = i .along I s at until hu start hf hs in
+        record {
+          answer = a .acc;
+          state = a .state;
+          runs = a .whole ∙ ap (joined (a .acc)) (turn-met I (readers (c .depth) I) until stop (a .before) (a .state) (a .left) (ap (atOpenClose (I .text) (I .es) until) (sym (a .at .pos)) ∙ until-is u I until (cur .pos) (a .at .given) hu ∙ h)) ∙ ap (λ (w : Nodes). (w, a .state)) (nodes-nil (a .acc));
+          at = a .at;
+          tree = a .tree;
+          besides = (a .number, a .isSign ∙ ap prefixes (a .last));
+        };
+  }

@@ -1,0 +1,297 @@
+-- What each way through the attempt at a matrix shows.
+use Prim.Native.Nat.{ℕ, zero, suc, _+_, _*_, _-_, _≤_, _<_}
+use mathlib.Core.Path.{_≡_, refl, sym, ap, _∙_, subst}
+use mathlib.Core.List.{List, [], _∷_, _++_, append-assoc}
+use mathlib.Core.Option.{Option, none, some}
+use mathlib.Core.Bool.{Bool, true, false, not, _&&_}
+use native.Mathlib.Omega.{arith}
+use lib.ListN.{length, length-append, getD, getElem?, set, take, drop}
+use lib.Dec.{eqb, ltb}
+use lib.Seq.{sets, length-sets}
+use borrow.Author.Tests.{ltb-true, ltb-false, eqb-true, eqb-false, eq-eqb, ne-eqb}
+use Rattle.tokenizer.specs.declared.token.Token.the-variants as token
+use Rattle.tree.specs.Tree.{Head, Node, node, Nodes, end, _▸_, _⧺_, count}
+use Rattle.tree.specs.Words.{pick, encode, encodes, encodeItems}
+use Rattle.reading.specs.Entries.{Entry, is, hasSep}
+use Rattle.reading.specs.Reading.{State, M, matrixMark, made, lost, isAt, isByte, closeOf, closes, couldBeMatrix, makesMatrix, tryMatrix, endsOperand, look}
+use Rattle.parse.specs.declared.cursor.Cursor.{Cursor}
+use Rattle.parse.specs.declared.cursor.Step.the-variants.{Found, Nothing}
+use Rattle.parse.specs.Buffer.{Wrote}
+use Rattle.parse.specs.Entry.{Kept, afterClose, sepWord, marksOf, kindOf, testAt, isKind, byteAt, barAt, closesAt, gateAt, setAt, makesAt, isMarked, withMark, bit, matrixWords}
+use Rattle.parse.specs.Meet.{Input, Row, linkNumber, Given, At, Known, readers, Moves, Misses, Each, TryMatrix, onward, rewound}
+use Rattle.parse.proofs.Buffer.{fill, back, wrote-none}
+use Rattle.parse.proofs.Kit.{bind, ret, at-here, if-true, if-false, tick, at-tick, row-of, kept-refl, kept-trans, test-below, test-kind, same-is, past, at-some, at-none}
+use Rattle.reading.specs.Reading.{Rows, joinRows, matrixBody, splitColumnLines}
+use Rattle.parse.specs.declared.cursor.Cells.{Cells}
+use Rattle.parse.specs.Columns as columns
+use Rattle.parse.specs.Matrix.{Broke, Filled, Fails, HasMatrix, rowsAt}
+use lib.Seq.{take-take, take-at, length-take-le, getD-take, getD-append-add}
+use Rattle.parse.specs.declared.columns.Split.{Split}
+use Rattle.parse.proofs.Attempts.{mark-is, set-kept, at-lost, known-lost, attempt-known, attempt-made, attempt-lost}
+use Rattle.parse.proofs.Cells.{took-any, cell-words}
+use Rattle.parse.proofs.Loop.{bar-is}
+use Rattle.parse.proofs.Rows.{is-at-is, byte-at}
+use Rattle.parse.proofs.Scripting.{count-append}
+
+-- the words of the cells chain by their headers
+after : {x₀ x v : List ℕ} {e E : ℕ} (u : List ℕ) → Wrote x₀ e x E (u ++ v) → E ≤ length x → Wrote x (e + length u) x E v
+after {x₀} {x} {v} {e} {E} u p h =
+    let up : E ≡ e + (length u + length v) = p .upto ∙ ap (λ (k : ℕ). e + k) (length-append u v) in
+    let le : length (take e x₀) ≡ e = length-take-le e x₀ (omega (arith, p .long)) in
+    let lu : length (take e x₀ ++ u) ≡ e + length u = length-append (take e x₀) u ∙ ap (λ (k : ℕ). k + length u) le in
+    let b : take E x ≡ (take e x₀ ++ u) ++ v = p .body ∙ sym (append-assoc (take e x₀) u v) in
+    let f : take (e + length u) x ≡ take e x₀ ++ u = sym (take-take (e + length u) E x (omega arith)) ∙ ap (take (e + length u)) b ∙ take-at (take e x₀ ++ u) v (e + length u) lu in
+    record { upto = omega (arith, up); long = refl; body = b ∙ ap (λ (w : List ℕ). w ++ v) (sym f) }
+
+word-at : {x₀ x w : List ℕ} {e E : ℕ} (k : ℕ) → Wrote x₀ e x E w → E ≤ length x → k < length w → getD x (e + k) 0 ≡ getD w k 0
+word-at {x₀} {x} {w} {e} {E} k p h l =
+    let le : length (take e x₀) ≡ e = length-take-le e x₀ (omega (arith, p .upto, p .long)) in
+    sym (getD-take E x (e + k) 0 (omega (arith, p .upto))) ∙ ap (λ (v : List ℕ). getD v (e + k) 0) (p .body) ∙ ap (λ (j : ℕ). getD (take e x₀ ++ w) (j + k) 0) (sym le) ∙ getD-append-add (take e x₀) w k 0
+
+encodes-more : (x : Node) (l : Nodes) → encodes (x ▸ l) ≡ encode x ++ encodes l
+unfolding encodes
+encodes-more x l = refl
+
+encodes-end : encodes end ≡ []
+unfolding encodes
+encodes-end = refl
+
+abbrev cellWords : Nodes → List ℕ
+cellWords l = 17 ∷ 0 ∷ 0 ∷ count l ∷ length (encodeItems l) ∷ 0 ∷ encodeItems l
+
+pub chain-of : {x₀ x : List ℕ} {e E k : ℕ} {l : Nodes} → columns.Cells k l → Wrote x₀ e x E (encodes l) → E ≤ length x → columns.cellsEnd x e k ≡ E
+unfolding columns.cellsEnd
+chain-of {e = e} columns.Cells.none p h = omega (arith, p .upto, ap length encodes-end)
+chain-of {x₀} {x} {e} {E} (columns.Cells.cell {l = l} {m = m} {n = n} c) p h =
+    let cw : encodes (node Head.cell l ▸ m) ≡ cellWords l ++ encodes m = encodes-more (node Head.cell l) m ∙ ap (λ (v : List ℕ). v ++ encodes m) (cell-words l refl refl) in
+    let p2 : Wrote x₀ e x E (cellWords l ++ encodes m) = subst (λ (v : List ℕ). Wrote x₀ e x E v) cw p in
+    let w4 : getD x (e + 4) 0 ≡ length (encodeItems l) = word-at 4 p2 h (omega (arith, length-append (cellWords l) (encodes m))) in
+    let q : Wrote x (e + length (cellWords l)) x E (encodes m) = after (cellWords l) p2 h in
+    let z : e + length (cellWords l) ≡ e + (6 + getD x (e + 4) 0) = omega (arith, w4) in
+    ap (λ (k : ℕ). columns.cellsEnd x k n) (sym z) ∙ chain-of c q h
+
+cells-append : {j k : ℕ} {l m : Nodes} → columns.Cells j l → columns.Cells k m → columns.Cells (j + k) (l ⧺ m)
+cells-append {k = k} {m = m} columns.Cells.none d = let z : k ≡ 0 + k = omega arith in subst (λ (i : ℕ). columns.Cells i m) z d
+cells-append {k = k} {m = m} (columns.Cells.cell {l = l} {m = l2} {n = n} c) d =
+    let z : suc (n + k) ≡ suc n + k = omega arith in
+    subst (λ (i : ℕ). columns.Cells i (node Head.cell l ▸ (l2 ⧺ m))) z (columns.Cells.cell (cells-append c d))
+
+cells-count : {k : ℕ} {l : Nodes} → columns.Cells k l → count l ≡ k
+cells-count columns.Cells.none = refl
+cells-count (columns.Cells.cell c) = ap suc (cells-count c)
+
+grid-cells : {cols : ℕ} {rs : List Nodes} → columns.Grid cols rs → columns.Cells (count (columns.joined rs)) (columns.joined rs)
+unfolding joinRows
+grid-cells columns.Grid.none = columns.Cells.none
+grid-cells {cols} (columns.Grid.row {r = r} {rs = rs} c g) =
+    let z : cols + count (columns.joined rs) ≡ count (r ⧺ columns.joined rs) = omega (arith, cells-count c, count-append r (columns.joined rs)) in
+    subst (λ (i : ℕ). columns.Cells i (r ⧺ columns.joined rs)) z (cells-append c (grid-cells g))
+
+pub split-ready : {X t : List ℕ} {n : ℕ} {L x y : List ℕ} {m : M (Option Rows)} {I : Input} {s : State} {e cols l k E : ℕ} {d : Cursor} → HasMatrix X t n L m I s e x y cols l k d E → 1 ≤ cols → cols ≤ k → k ≤ 4096 → E + k ≤ length y
+    → columns.SplitReady y e E k cols
+split-ready {y = y} {e = e} {k = k} {E = E} w h1 h2 h3 h4 = record {
+  chain = ap (λ (j : ℕ). columns.cellsEnd y e j) (w .number) ∙ chain-of (grid-cells (w .all)) (w .tree) (omega arith);
+  some = omega arith;
+  few = omega arith;
+  room = omega arith;
+}
+
+-- The gate and the last test, as the definition's.
+eqb-suc : (a b : ℕ) → eqb (suc a) (b + 1) ≡ eqb a b
+eqb-suc a b = go (eqb a b) refl
+  where
+    go : (r : Bool) → eqb a b ≡ r → eqb (suc a) (b + 1) ≡ r
+    go true h = eq-eqb (suc a) (b + 1) (omega (arith, eqb-true a b h))
+    go false h = ne-eqb (suc a) (b + 1) (λ z. eqb-false a b h (omega arith))
+
+linked-to : (j : ℕ) (q : Option ℕ) → elim q as (λ _. Bool) [ none ↦ false | some k ↦ eqb k j ] ≡ eqb (linkNumber q) (j + 1)
+linked-to j none = sym (ne-eqb 0 (j + 1) (λ z. omega arith))
+linked-to j (some k) = sym (eqb-suc k j)
+
+module _ {X t : List ℕ} {n : ℕ} {K : List ℕ} {I : Input} (g : Given X t n K I) {i : ℕ} {o : Entry} (inside : i < n) (there : getElem? (I .es) i ≡ some o) where
+  pub closes-is : (j : ℕ) → closes (I .text) (I .es) o i j ≡ closesAt X t K n i j
+  unfolding closes closesAt
+  closes-is j =
+      let r = row-of g inside there in
+      let ob : is token.OpenBracket o ≡ eqb (kindOf t K i) 20 = same-is token.OpenBracket o ∙ ap (λ (w : ℕ). eqb w 20) (sym (r .kind)) in
+      go (eqb (kindOf t K i) 20) refl ob
+    where
+      go : (b : Bool) → eqb (kindOf t K i) 20 ≡ b → is token.OpenBracket o ≡ b → closes (I .text) (I .es) o i j ≡ pick b (eqb (afterClose K i) (j + 1)) (barAt X t K n i j)
+      go true e h = rw (closes, h) (linked-to j (closeOf (I .text) (I .es) i)) ∙ ap (λ (w : ℕ). eqb w (j + 1)) (sym (g .linked i inside (eqb-true (kindOf t K i) 20 e) .close))
+      go false e h = rw (closes, h) (bar-is i j o g inside there)
+
+  gate-row : (c : Option ℕ) (w : ℕ) → w ≡ linkNumber c
+      → elim c as (λ _. Bool) [
+        | none ↦ false
+        | some c ↦ elim (isAt (I .text) (I .es) (is token.Sep) (suc c)) as (λ _. Bool) [
+          | true ↦ true
+          | false ↦ closes (I .text) (I .es) o i (suc c) && hasSep zero (drop (suc (suc i)) (I .es))
+        ]
+      ] ≡ pick (eqb w 0) false (pick (testAt t K n (isKind 3) w) true (pick (closesAt X t K n i w) (hasSep zero (drop (suc (suc i)) (I .es))) false))
+  gate-row none w h = rw h
+  gate-row (some c) w h =
+      let z : eqb w 0 ≡ false = ne-eqb w 0 (λ q. omega arith) in
+      let H = hasSep zero (drop (suc (suc i)) (I .es)) in
+      let C = closes (I .text) (I .es) o i (suc c) in
+      two (isAt (I .text) (I .es) (is token.Sep) (suc c)) C H
+      ∙ ap (λ (b : Bool). pick b true (pick C H false)) (is-at-is token.Sep (suc c) g)
+      ∙ ap (λ (b : Bool). pick (testAt t K n (isKind 3) (suc c)) true (pick b H false)) (closes-is (suc c))
+      ∙ ap (λ (j : ℕ). pick (testAt t K n (isKind 3) j) true (pick (closesAt X t K n i j) H false)) (sym h)
+      ∙ sym (ap (λ (b : Bool). pick b false (pick (testAt t K n (isKind 3) w) true (pick (closesAt X t K n i w) H false))) z)
+    where
+      two : (a b c : Bool) → elim a as (λ _. Bool) [ true ↦ true | false ↦ b && c ] ≡ pick a true (pick b c false)
+      two true b c = refl
+      two false true c = refl
+      two false false c = refl
+
+  bit-is : (b : Bool) → eqb (bit b) 1 ≡ b
+  bit-is true = refl
+  bit-is false = refl
+
+  pub gate-is : couldBeMatrix (I .text) (I .es) o i ≡ gateAt X t K n i
+  unfolding couldBeMatrix gateAt
+  gate-is =
+      let z : i + 1 ≡ suc i = omega arith in
+      rw (couldBeMatrix, z, is-at-is token.OpenBracket (suc i) g) (go (testAt t K n (isKind 20) (suc i)) refl)
+    where
+      go : (b : Bool) → testAt t K n (isKind 20) (suc i) ≡ b → elim b as (λ _. Bool) [
+        | false ↦ false
+        | true ↦ elim (closeOf (I .text) (I .es) (suc i)) as (λ _. Bool) [
+          | none ↦ false
+          | some c ↦ elim (isAt (I .text) (I .es) (is token.Sep) (suc c)) as (λ _. Bool) [
+            | true ↦ true
+            | false ↦ closes (I .text) (I .es) o i (suc c) && hasSep zero (drop (suc (suc i)) (I .es))
+          ]
+        ]
+      ] ≡ pick b (pick (eqb (afterClose K (suc i)) 0) false (pick (testAt t K n (isKind 3) (afterClose K (suc i))) true (pick (closesAt X t K n i (afterClose K (suc i))) (eqb (sepWord K (suc i)) 1) false))) false
+      go false e = refl
+      go true e =
+          let h : suc i < n = test-below t K n (isKind 20) (suc i) e in
+          let l = g .linked (suc i) h (eqb-true (kindOf t K (suc i)) 20 (test-kind t K n (isKind 20) (suc i) true h e)) in
+          rw (l .sep, bit-is (hasSep zero (drop (suc (suc i)) (I .es)))) (gate-row (closeOf (I .text) (I .es) (suc i)) (afterClose K (suc i)) (l .close))
+
+  pub makes-is : {l k : ℕ} (r : Rows) (p : ℕ) → l < n → getElem? (I .es) l ≡ some (r .head .left) → (splitColumnLines (I .text) (I .es) r) .1 ≡ k
+      → makesMatrix (I .text) (I .es) o i r p ≡ makesAt X t K n i l k p
+  unfolding makesMatrix makesAt setAt
+  makes-is {l} {k} r p hl tl hk = rw (closes-is p, hk) (go (ltb p n) refl)
+    where
+      both : (a b : Bool) → (a && b) ≡ pick a b false
+      both true b = refl
+      both false b = refl
+
+      last : (a b c : Bool) → (not (a && b) && (ltb 1 k && c)) ≡ pick (pick a b false) false (pick (ltb 1 k) c false)
+      last true true c = refl
+      last true false c = both (ltb 1 k) c
+      last false b c = both (ltb 1 k) c
+
+      go : (b : Bool) → ltb p n ≡ b → (isAt (I .text) (I .es) (λ e. not (isByte (I .text) (I .es) 40 (r .head .left .span) && isByte (I .text) (I .es) 125 (e .span))) p && (ltb 1 k && closesAt X t K n i p)) ≡ pick b (pick (setAt X t K l p) false (pick (ltb 1 k) (closesAt X t K n i p) false)) false
+      go true e =
+          let q = g .stands p (ltb-true p n e) in
+          rw (at-some (I .text) (I .es) (λ e. not (isByte (I .text) (I .es) 40 (r .head .left .span) && isByte (I .text) (I .es) 125 (e .span))) p (q .entry) (q .there), byte-at (I .text) (I .es) 40 (r .head .left) (g .text) (row-of g hl tl), byte-at (I .text) (I .es) 125 (q .entry) (g .text) (q .row))
+          (last (byteAt X t K l 40) (byteAt X t K p 125) (closesAt X t K n i p))
+      go false e = rw (at-none (I .text) (I .es) (λ e. not (isByte (I .text) (I .es) 40 (r .head .left .span) && isByte (I .text) (I .es) 125 (e .span))) p (past (I .es) p (omega (arith, ltb-false p n e, g .size))))
+
+pub makes-below : (X t K : List ℕ) (n i l k p : ℕ) → makesAt X t K n i l k p ≡ true → p < n
+unfolding makesAt
+makes-below X t K n i l k p h = go (ltb p n) refl h
+  where
+    go : (b : Bool) → ltb p n ≡ b → pick b (pick (setAt X t K l p) false (pick (ltb 1 k) (closesAt X t K n i p) false)) false ≡ true → p < n
+    go true e q = ltb-true p n e
+    go false e q = let z : _≡_ {A = ℕ} 0 1 = cc in absurd (omega arith)
+
+matrix-encoded : {t K : List ℕ} {i j k : ℕ} {a b : Entry} (cols v : ℕ) (lines : List ℕ) (cells : Nodes) → Row t K i a → Row t K j b → count cells ≡ k → length lines ≡ v
+    → encode (node (Head.matrix (a .span) (b .span) cols lines) cells) ≡ matrixWords t K i j k cols v ++ (encodes cells ++ lines)
+unfolding encode
+matrix-encoded cols v lines cells r r2 hk hv = rw (← hk, ← hv, r .start, r .len, r2 .start, r2 .len)
+
+-- the attempt
+module _ {X t : List ℕ} {n : ℕ} {K : List ℕ} (i : ℕ) (c : Cursor) (e : ℕ) (x : List ℕ) (inside : i < n) (here-n : c .pos ≤ n) where
+  pub try-shut : gateAt X t K n i ≡ false → Known X t n K → TryMatrix X t n K K i c e x x (Nothing c)
+  unfolding tryMatrix
+  try-shut h kn = (
+    record { within = here-n; on = omega arith; depth = refl; room = omega arith; long = refl; kept = kept-refl K; known = kn },
+    λ I s at en there. record { state = s; runs = if-false _ _ s (gate-is (at .given) inside there ∙ h) ∙ ret _ _; at = at; tree = wrote-none x e },
+  )
+
+  module _ (gate : gateAt X t K n i ≡ true) where
+    pub try-known : isMarked (marksOf K i) 4 ≡ true → Known X t n K → TryMatrix X t n K K i c e x x (Nothing c)
+    unfolding tryMatrix
+    try-known h kn = (
+      record { within = here-n; on = omega arith; depth = refl; room = omega arith; long = refl; kept = kept-refl K; known = kn },
+      λ I s at en there. record {
+        state = s;
+        runs = if-true _ _ s (gate-is (at .given) inside there ∙ gate) ∙ attempt-known (I .text) (I .es) matrixMark i _ s (sym (mark-is matrixMark i (at .marks) inside) ∙ h);
+        at = at;
+        tree = wrote-none x e;
+      },
+    )
+
+    module _ (new : isMarked (marksOf K i) 4 ≡ false) (L y : List ℕ) (room : e + 20 + 32 * (n - c .pos) ≤ length x) where
+      lost-numbers : {N z : List ℕ} (d : Cursor) → d .depth ≡ c .depth → length z ≡ length x → Kept K L → Known X t n L → 4 * i + 3 < length L → N ≡ set L (4 * i + 3) (withMark (marksOf L i) 4)
+          → Moves X t 0 0 0 n K N c e x z (rewound (c .pos) d) e
+      lost-numbers d hd long kp kn fit hn = record { within = here-n; on = omega arith; depth = hd; room = omega arith; long = long; kept = kept-trans kp (rw hn (set-kept L i _ fit)); known = known-lost matrixMark i kn inside fit hn }
+
+      lost-runs : {N z : List ℕ} {I : Input} {s u : State} {en : Entry} (d : Cursor) → At X t n K (c .pos) (c .takes) I s → getElem? (I .es) i ≡ some en → matrixBody (I .text) (I .es) true (readers (c .depth) I) en i s ≡ (lost, u)
+          → At X t n L (d .pos) (d .takes) I u → 4 * i + 3 < length L → N ≡ set L (4 * i + 3) (withMark (marksOf L i) 4) → Wrote x e z e []
+          → Misses X t n N (tryMatrix (I .text) (I .es) true (readers (c .depth) I) en i) I s e x z (rewound (c .pos) d)
+      unfolding tryMatrix
+      lost-runs {I = I} {s = s} d at there run at2 fit hn wr = record {
+        state = _;
+        runs = if-true _ _ s (gate-is (at .given) inside there ∙ gate) ∙ attempt-lost (I .text) (I .es) matrixMark i _ s (sym (mark-is matrixMark i (at .marks) inside) ∙ new) run;
+        at = at-lost matrixMark i at2 at inside fit hn;
+        tree = wr;
+      }
+
+      pub try-broken : {N : List ℕ} {d : Cursor} → Broke X t n K L c (e + 8) x y d → Each X t n K c (λ I s. Fails X t n L (rowsAt X t n (c .depth) I) I s (e + 8) x y d)
+          → 4 * i + 3 < length L → N ≡ set L (4 * i + 3) (withMark (marksOf L i) 4) → TryMatrix X t n K N i c e x y (Nothing (rewound (c .pos) d))
+      unfolding matrixBody
+      try-broken {d = d} b p fit hn = (
+        lost-numbers d (b .depth) (b .long) (b .kept) (b .known) fit hn,
+        λ I s at en there.
+            let q = p I s at in
+            lost-runs d at there (bind _ _ s (q .runs) ∙ ret _ _) (q .at) fit hn (back e (q .tree) (omega arith) (omega arith)),
+      )
+
+      module _ {cols l k E : ℕ} {d : Cursor} (z : List ℕ) (sp : Split) (f : Filled X t n K L c (e + 8) x y k d E) (few : cols ≤ k) (hl : l < n) (p : Each X t n K c (λ I s. HasMatrix X t n L (rowsAt X t n (c .depth) I) I s (e + 8) x y cols l k d E))
+          (sl : columns.Splits X y (e + 8) E k cols z sp) (lz : length z ≡ length y) where
+        record Split-at (I : Input) (s : State) : Type 0 where
+          pub has : HasMatrix X t n L (rowsAt X t n (c .depth) I) I s (e + 8) x y cols l k d E
+          pub mat : columns.MatrixAt (splitColumnLines (I .text) (I .es) (has .rows)) x (e + 8) z sp
+
+        split-at : (I : Input) (s : State) → At X t n K (c .pos) (c .takes) I s → Split-at I s
+        split-at I s at =
+            let q = p I s at in
+            record { has = q; mat = subst (λ (w : List ℕ). columns.MatrixAt (splitColumnLines w (I .es) (q .rows)) x (e + 8) z sp) (sym (at .given .text)) (sl .gives (I .es) (q .rows) x (q .all) (q .tree)) }
+
+        pub try-unmade : {N : List ℕ} → makesAt X t L n i l (sp .cells) (d .pos) ≡ false → 4 * i + 3 < length L → N ≡ set L (4 * i + 3) (withMark (marksOf L i) 4) → TryMatrix X t n K N i c e x z (Nothing (rewound (c .pos) d))
+        unfolding matrixBody
+        try-unmade h fit hn = (
+          lost-numbers d (f .depth) (lz ∙ f .long) (f .kept) (f .known) fit hn,
+          λ I s at en there.
+              let w = split-at I s at in
+              let q = w .has in
+              let m : makesMatrix (I .text) (I .es) en i (q .rows) (q .state .pos) ≡ false = ap (makesMatrix (I .text) (I .es) en i (q .rows)) (sym (q .at .pos)) ∙ makes-is (q .at .given) inside there (q .rows) (d .pos) hl (q .left) (w .mat .size) ∙ h in
+              lost-runs d at there (bind _ _ s (q .runs) ∙ bind _ _ _ (at-here (q .state)) ∙ if-false _ _ _ m ∙ ret _ _) (q .at) fit hn (back e (w .mat .wrote) (omega arith) (omega (arith, f .room, sl .within))),
+        )
+
+        pub try-made : {w : List ℕ} → makesAt X t L n i l (sp .cells) (d .pos) ≡ true → w ≡ sets z e (matrixWords t L i (d .pos) (sp .cells) (sp .cols) (sp .lines)) → TryMatrix X t n K L i c e x w (Found (onward d) (sp .end) true)
+        unfolding tryMatrix matrixBody endsOperand look
+        try-made {w} h hw =
+            let b : d .pos < n = makes-below X t L n i l (sp .cells) (d .pos) h in (
+              record { within = omega arith; on = omega (arith, f .on); depth = f .depth; room = omega (arith, f .room, sl .within); long = ap length hw ∙ length-sets z e (matrixWords t L i (d .pos) (sp .cells) (sp .cols) (sp .lines)) ∙ lz ∙ f .long; kept = f .kept; known = f .known },
+              λ I s at en there.
+                  let v = split-at I s at in
+                  let q = v .has in
+                  let u = took-any (q .at) b in
+                  let m : makesMatrix (I .text) (I .es) en i (q .rows) (q .state .pos) ≡ true = ap (makesMatrix (I .text) (I .es) en i (q .rows)) (sym (q .at .pos)) ∙ makes-is (q .at .given) inside there (q .rows) (d .pos) hl (q .left) (v .mat .size) ∙ h in
+                  let mn : (splitColumnLines (I .text) (I .es) (q .rows)) .0 (en .span) (u .0 .entry .span) ≡ node (Head.matrix (en .span) (u .0 .entry .span) (sp .cols) (v .mat .lines)) (v .mat .cells) = v .mat .made (en .span) (u .0 .entry .span) in
+                  record {
+                    node = node (Head.matrix (en .span) (u .0 .entry .span) (sp .cols) (v .mat .lines)) (v .mat .cells);
+                    state = tick (q .state);
+                    runs = if-true _ _ s (gate-is (at .given) inside there ∙ gate) ∙ attempt-made (I .text) (I .es) matrixMark i _ s (sym (mark-is matrixMark i (at .marks) inside) ∙ new) _
+                        (bind _ _ s (q .runs) ∙ bind _ _ _ (at-here (q .state)) ∙ if-true _ _ _ m ∙ bind _ _ _ (u .1) ∙ ret _ _ ∙ ap (λ (x : Node). (made x, tick (q .state))) mn);
+                    at = at-tick (q .at);
+                    tree = rw (hw, matrix-encoded (sp .cols) (sp .lines) (v .mat .lines) (v .mat .cells) (row-of (q .at .given) inside there) (u .0 .row) (v .mat .kept) (v .mat .bars)) (fill e (matrixWords t L i (d .pos) (sp .cells) (sp .cols) (sp .lines)) (v .mat .wrote) refl (omega (arith, f .room, sl .within)));
+                    besides = refl;
+                  },
+            )

@@ -1,0 +1,336 @@
+-- The rows of a matrix: the loop over them, and what each way out of it shows.
+use Prim.Native.Nat.{ℕ, suc, _+_, _*_, _-_, _≤_, _<_}
+use mathlib.Core.Path.{_≡_, refl, sym, ap, _∙_, subst}
+use mathlib.Core.List.{List, [], _∷_, _++_, append-nil, append-assoc}
+use mathlib.Core.Option.{Option, none, some}
+use mathlib.Core.Bool.{Bool, true, false, _&&_, _||_}
+use native.Mathlib.Omega.{arith}
+use lib.ListN.{length, getElem?}
+use lib.Dec.{eqb, ltb}
+use borrow.Author.Tests.{ltb-true, ltb-false, eqb-true, eq-eqb, ne-eqb}
+use Rattle.tokenizer.specs.declared.token.Token.{Token}
+use Rattle.tokenizer.specs.declared.token.Token.the-variants as token
+use Rattle.tokenizer.specs.Kinds.{numberOf}
+use Rattle.tree.specs.Tree.{Nodes, end, _⧺_, count}
+use Rattle.tree.specs.Words.{pick, encodes}
+use Rattle.reading.specs.Entries.{Entry, is}
+use Rattle.reading.specs.Reading.{State, M, return, advance, any, Readers, isAt, textOf, same, isByte}
+use Rattle.parse.specs.declared.cursor.Cursor.{Cursor}
+use Rattle.parse.specs.Buffer.{Wrote}
+use Rattle.parse.specs.Entry.{testAt, isKind, sameAt, byteAt}
+use Rattle.parse.specs.Entry as entry
+use Rattle.parse.specs.Meet.{Input, Row, Given, At, Known, readers, Each, onward}
+use Rattle.parse.proofs.Buffer.{seq, back, wrote-none}
+use Rattle.parse.proofs.Kit.{bind, ret, at-here, if-true, if-false, tick, at-tick, row-of, kept-refl, kept-trans, test-below, test-in, test-out, same-is, past, at-some, at-none}
+use Rattle.reading.specs.Reading as reading
+use Rattle.reading.specs.Reading.{Rows, joinRows, nextMatrixRow, moreRows, nextMatrixRows, alike, rowBrackets}
+use Rattle.parse.specs.declared.cursor.Close.the-variants as close
+use Rattle.parse.specs.declared.cursor.Cells.{Cells}
+use Rattle.parse.specs.declared.cursor.Why.{Why}
+use Rattle.parse.specs.declared.cursor.Why.the-variants as why
+use Rattle.parse.specs.declared.cursor.Rows as rows
+use Rattle.parse.specs.Columns as columns
+use Rattle.parse.specs.Matrix.{Broke, Filled, Fails, HasRow, rowAt, MatrixRow, First, moreAt, MoreRows, MoreRows′, rowsAt, MatrixRows, MatrixRows′}
+use Rattle.parse.proofs.Cells.{took-any}
+use Rattle.parse.proofs.Loop.{nodes-assoc, nodes-nil, same-text}
+use Rattle.parse.proofs.Scripting.{encodes-append, count-append}
+
+-- The code's tests, as the definition's.
+pub is-at-is : {X t : List ℕ} {n : ℕ} {K : List ℕ} {I : Input} (k : Token) (p : ℕ) → Given X t n K I → isAt (I .text) (I .es) (is k) p ≡ testAt t K n (isKind (numberOf k)) p
+is-at-is {X} {t} {n} {K} {I} k p g = go (ltb p n) refl
+  where
+    go : (b : Bool) → ltb p n ≡ b → isAt (I .text) (I .es) (is k) p ≡ testAt t K n (isKind (numberOf k)) p
+    go true e =
+        let l : p < n = ltb-true p n e in
+        let q = g .stands p l in
+        at-some (I .text) (I .es) (is k) p (q .entry) (q .there) ∙ same-is k (q .entry) ∙ ap (λ (w : ℕ). eqb w (numberOf k)) (sym (q .row .kind)) ∙ sym (test-in t K n (isKind (numberOf k)) p l)
+    go false e = at-none (I .text) (I .es) (is k) p (past (I .es) p (omega (arith, ltb-false p n e, g .size))) ∙ sym (test-out t K n (isKind (numberOf k)) p (ltb-false p n e))
+
+pub byte-at : {X t K : List ℕ} {i : ℕ} (text : List ℕ) (es : List Entry) (b : ℕ) (a : Entry) → text ≡ X → Row t K i a → isByte text es b (a .span) ≡ byteAt X t K i b
+unfolding isByte textOf byteAt
+byte-at text es b a h r = rw (h, r .start, r .len)
+
+one-byte : (s : List ℕ) (a b : ℕ) → (a ≡ b → ⊥) → same s (a ∷ []) ≡ true → same s (b ∷ []) ≡ false
+unfolding same
+one-byte [] a b d h = refl
+one-byte (c ∷ s) a b d h = go (eqb c a) refl h
+  where
+    go : (q : Bool) → eqb c a ≡ q → (q && same s []) ≡ true → (eqb c b && same s []) ≡ false
+    go true e k = let z : eqb c b ≡ false = ne-eqb c b (λ w. d (sym (eqb-true c a e) ∙ w)) in rw z
+    go false e k = let z : _≡_ {A = ℕ} 0 1 = cc in absurd (omega arith)
+
+not-both : (X t K : List ℕ) (i a b : ℕ) → (a ≡ b → ⊥) → byteAt X t K i a ≡ true → byteAt X t K i b ≡ false
+unfolding byteAt
+not-both X t K i a b d h = one-byte _ a b d h
+
+pub brackets-are : {X t : List ℕ} {n : ℕ} {K : List ℕ} {I : Input} {l r : ℕ} (row : reading.Row) → Given X t n K I → l < n → r < n → getElem? (I .es) l ≡ some (row .left) → getElem? (I .es) r ≡ some (row .right)
+    → rowBrackets (I .text) (I .es) row ≡ entry.rowsAt X t K l r
+unfolding rowBrackets entry.rowsAt
+brackets-are {X} {t} {n} {K} {I} {l} {r} row g hl hr tl tr =
+    let a = row-of g hl tl in
+    let b = row-of g hr tr in
+    rw (byte-at (I .text) (I .es) 40 (row .left) (g .text) a, byte-at (I .text) (I .es) 41 (row .right) (g .text) b, byte-at (I .text) (I .es) 91 (row .left) (g .text) a, byte-at (I .text) (I .es) 93 (row .right) (g .text) b)
+    (go (byteAt X t K l 40) (byteAt X t K l 91) (byteAt X t K r 41) (byteAt X t K r 93) (not-both X t K l 40 91 (λ z. omega arith)))
+  where
+    go : (a c b d : Bool) → (a ≡ true → c ≡ false) → ((a && b) || (c && d)) ≡ pick a b (pick c d false)
+    go true true b d h = let z : true ≡ false = h refl in let w : _≡_ {A = ℕ} 0 1 = cc in absurd (omega arith)
+    go true false true d h = refl
+    go true false false d h = refl
+    go false true b true h = refl
+    go false true b false h = refl
+    go false false b d h = refl
+
+pub alike-is : {X t : List ℕ} {n : ℕ} {K : List ℕ} {I : Input} {l r l2 r2 cols k : ℕ} (a b : reading.Row) → Given X t n K I → l < n → r < n → l2 < n → r2 < n → getElem? (I .es) l ≡ some (a .left) → getElem? (I .es) r ≡ some (a .right)
+    → getElem? (I .es) l2 ≡ some (b .left) → getElem? (I .es) r2 ≡ some (b .right) → cols ≡ count (a .cells) → k ≡ count (b .cells) → alike (I .text) (I .es) a b ≡ pick (eqb cols k) (entry.likeAt X t K l r l2 r2) false
+unfolding alike entry.likeAt
+alike-is {X} {t} {n} {K} {I} {l} {r} {l2} {r2} {cols} {k} a b g h1 h2 h3 h4 t1 t2 t3 t4 hc hk =
+    rw (same-text (I .text) (I .es) (a .left) (b .left) (g .text) (row-of g h1 t1) (row-of g h3 t3), same-text (I .text) (I .es) (a .right) (b .right) (g .text) (row-of g h2 t2) (row-of g h4 t4), ← hc, ← hk)
+    (go (sameAt X t K l l2) (eqb cols k) (sameAt X t K r r2))
+  where
+    go : (a b c : Bool) → (a && b && c) ≡ pick b (pick a c false) false
+    go true true c = refl
+    go true false c = refl
+    go false true c = refl
+    go false false c = refl
+
+-- rows put together
+joined-snoc : (acc : List Nodes) (r : Nodes) → columns.joined (acc ++ (r ∷ [])) ≡ columns.joined acc ⧺ r
+unfolding joinRows
+joined-snoc [] r = nodes-nil r
+joined-snoc (a ∷ acc) r = ap (λ (w : Nodes). a ⧺ w) (joined-snoc acc r) ∙ sym (nodes-assoc a (columns.joined acc) r)
+
+grid-snoc : {cols : ℕ} {acc : List Nodes} {r : Nodes} → columns.Grid cols acc → columns.Cells cols r → columns.Grid cols (acc ++ (r ∷ []))
+grid-snoc columns.Grid.none c = columns.Grid.row c columns.Grid.none
+grid-snoc (columns.Grid.row d g) c = columns.Grid.row d (grid-snoc g c)
+
+-- the rows read so far before those to come
+abbrev withRows : List Nodes → Option (List Nodes) × State → Option (List Nodes) × State
+withRows acc (none, u) = (none, u)
+withRows acc (some m, u) = (some (acc ++ m), u)
+
+with-row : (acc : List Nodes) (r : Nodes) (q : Option (List Nodes)) (u : State) → withRows acc (withRows (r ∷ []) (q, u)) ≡ withRows (acc ++ (r ∷ [])) (q, u)
+with-row acc r none u = refl
+with-row acc r (some m) u = ap (λ (w : List Nodes). (some w, u)) (sym (append-assoc acc (r ∷ []) m))
+
+-- one turn of the definition
+module _ (I : Input) (R : Readers) (f : ℕ) (h : reading.Row) (s : State) where
+  turn-done : isAt (I .text) (I .es) (is token.Sep) (s .pos) ≡ false → moreRows (I .text) (I .es) true R (suc f) h s ≡ (some [], s)
+  unfolding moreRows
+  turn-done k = bind _ _ s (at-here s) ∙ if-false _ _ s k ∙ ret _ _
+
+  module _ (k : isAt (I .text) (I .es) (is token.Sep) (s .pos) ≡ true) {e : Entry} {v w : State} (adv : advance (I .text) (I .es) any s ≡ (some e, v)) where
+    turn-broken : nextMatrixRow (I .text) (I .es) true R v ≡ (none, w) → moreRows (I .text) (I .es) true R (suc f) h s ≡ (none, w)
+    unfolding moreRows
+    turn-broken r = bind _ _ s (at-here s) ∙ if-true _ _ s k ∙ bind _ _ s adv ∙ bind _ _ v r ∙ ret _ _
+
+    module _ {row : reading.Row} (r : nextMatrixRow (I .text) (I .es) true R v ≡ (some row, w)) where
+      turn-differs : alike (I .text) (I .es) h row ≡ false → moreRows (I .text) (I .es) true R (suc f) h s ≡ (none, w)
+      unfolding moreRows
+      turn-differs d = bind _ _ s (at-here s) ∙ if-true _ _ s k ∙ bind _ _ s adv ∙ bind _ _ v r ∙ if-false _ _ w d ∙ ret _ _
+
+      turn-more : alike (I .text) (I .es) h row ≡ true → moreRows (I .text) (I .es) true R (suc f) h s ≡ withRows (row .cells ∷ []) (moreRows (I .text) (I .es) true R f h w)
+      unfolding moreRows
+      turn-more d = bind _ _ s (at-here s) ∙ if-true _ _ s k ∙ bind _ _ s adv ∙ bind _ _ v r ∙ if-true _ _ w d ∙ bind _ _ w refl ∙ go (moreRows (I .text) (I .es) true R f h w)
+        where
+          go : (q : Option (List Nodes) × State) → elim (q .0) as (λ _. M (Option (List Nodes))) [ none ↦ return none | some m ↦ return (some (row .cells ∷ m)) ] (q .1) ≡ withRows (row .cells ∷ []) q
+          go (none, z) = ret _ _
+          go (some m, z) = ret _ _
+
+-- At the loop's head: the rows read so far, and turns enough for the rest.
+pub record Along (X t : List ℕ) (n : ℕ) (L : List ℕ) (d : ℕ) (I : Input) (h : reading.Row) (cols : ℕ) (s : State) (e : ℕ) (x y : List ℕ) (cur : Cursor) (stp num : ℕ) : Type 0 where
+  pub left : ℕ
+  pub acc : List Nodes
+  pub state : State
+  pub whole : moreAt X t n d h I s ≡ withRows acc (moreRows (I .text) (I .es) true (readers d I) (suc left) h state)
+  pub enough : n - cur .pos ≤ left
+  pub at : At X t n L (cur .pos) (cur .takes) I state
+  pub tree : Wrote x e y stp (encodes (columns.joined acc))
+  pub number : num ≡ cols + count (columns.joined acc)
+  pub all : columns.Grid cols acc
+
+pub record Inv (X t : List ℕ) (n : ℕ) (K L : List ℕ) (cols l r : ℕ) (c : Cursor) (e : ℕ) (x y : List ℕ) (cur : Cursor) (stp num : ℕ) : Type 0 where
+  pub moves : Filled X t n K L c e x y (num - cols) cur stp
+  pub least : cols ≤ num
+  pub along : Each X t n K c (λ I s. (h : reading.Row) → First X t n I cols l r h → Along X t n L (c .depth) I h cols s e x y cur stp num)
+
+module _ {X t : List ℕ} {n : ℕ} {K : List ℕ} (cols l r : ℕ) (c : Cursor) (e : ℕ) (x : List ℕ) where
+  pub rows-none : c .pos ≤ n → Known X t n K → Inv X t n K K cols l r c e x x c e cols
+  unfolding encodes joinRows
+  rows-none k kn = record {
+    moves = record { within = k; on = omega arith; depth = refl; room = omega arith; long = refl; kept = kept-refl K; known = kn };
+    least = omega arith;
+    along = λ I s at h fst. record { left = length (I .es); acc = []; state = s; whole = none-first (moreAt X t n (c .depth) h I s); enough = omega (arith, at .given .size); at = at; tree = wrote-none x e; number = omega arith; all = columns.Grid.none };
+  }
+    where
+      none-first : (q : Option (List Nodes) × State) → q ≡ withRows [] q
+      none-first (none, u) = refl
+      none-first (some m, u) = refl
+
+  module _ {L y : List ℕ} {cur : Cursor} {stp num : ℕ} (i : Inv X t n K L cols l r c e x y cur stp num) (hl : l < n) (hr : r < n) (room : e + 32 * (n - c .pos) ≤ length x) where
+    pub rows-done : testAt t L n (isKind 3) (cur .pos) ≡ false → MoreRows X t n K L cols l r c e x y (record { cur = cur; end = stp; cells = num; cols = cols; left = l; why = why.Done })
+    rows-done k = (
+      record { cols′ = refl; left′ = refl },
+      (
+        i .moves,
+        i .least,
+        λ I s at h fst.
+            let a = i .along I s at h fst in
+            record {
+              others = a .acc;
+              state = a .state;
+              runs = a .whole ∙ ap (withRows (a .acc)) (turn-done I (readers (c .depth) I) (a .left) h (a .state) (ap (isAt (I .text) (I .es) (is token.Sep)) (sym (a .at .pos)) ∙ is-at-is token.Sep (cur .pos) (a .at .given) ∙ k)) ∙ ap (λ (w : List Nodes). (some w, a .state)) (append-nil (a .acc));
+              at = a .at;
+              number = a .number;
+              all = a .all;
+              tree = a .tree;
+            },
+      ),
+    )
+
+    module _ (k : testAt t L n (isKind 3) (cur .pos) ≡ true) where
+      sep-there : {I : Input} {s : State} → At X t n L (cur .pos) (cur .takes) I s → isAt (I .text) (I .es) (is token.Sep) (s .pos) ≡ true
+      sep-there {I} {s} a = ap (isAt (I .text) (I .es) (is token.Sep)) (sym (a .pos)) ∙ is-at-is token.Sep (cur .pos) (a .given) ∙ k
+
+      inside : cur .pos < n
+      inside = test-below t L n (isKind 3) (cur .pos) k
+
+      -- whatever the cells and the end that a broken row left
+      pub rows-broken : {J z : List ℕ} (m : ℕ) (d : Cursor) (E v F : ℕ) → MatrixRow X t n L J (onward cur) stp y z (record { cur = d; end = E; count = m; close = close.Broken })
+          → MoreRows X t n K J cols l r c e x z (record { cur = d; end = F; cells = v; cols = cols; left = l; why = why.Broken })
+      rows-broken m d E v F p = (
+        record { cols′ = refl; left′ = refl },
+        (
+          record { within = p .0 .within; depth = p .0 .depth ∙ i .moves .depth; long = p .0 .long ∙ i .moves .long; kept = kept-trans (i .moves .kept) (p .0 .kept); known = p .0 .known },
+          λ I s at h fst.
+              let a = i .along I s at h fst in
+              let u = took-any (a .at) inside in
+              let q = rw (i .moves .depth) at (p .1 I (tick (a .state)) (at-tick (a .at))) in
+              record {
+                state = q .state;
+                runs = a .whole ∙ ap (withRows (a .acc)) (turn-broken I (readers (c .depth) I) (a .left) h (a .state) (sep-there (a .at)) (u .1) (q .runs));
+                at = q .at;
+                tree = back e (seq (a .tree) (q .tree)) (omega arith) (omega (arith, i .moves .room));
+              },
+        ),
+      )
+
+      module _ {J z : List ℕ} {m q E : ℕ} {d : Cursor} (p : MatrixRow X t n L J (onward cur) stp y z (record { cur = d; end = E; count = m; close = close.At q })) where
+        alike-row : {I : Input} {s : State} {h : reading.Row} (row : reading.Row) → At X t n J (d .pos) (d .takes) I s → First X t n I cols l r h → getElem? (I .es) (cur .pos + 1) ≡ some (row .left) → getElem? (I .es) q ≡ some (row .right) → m ≡ count (row .cells)
+            → alike (I .text) (I .es) h row ≡ pick (eqb cols m) (entry.likeAt X t J l r (cur .pos + 1) q) false
+        alike-row {I} {s} {h} row a fst tl tr hm = alike-is h row (a .given) hl hr (p .2) (p .3) (fst .left) (fst .right) tl tr (fst .number) hm
+
+        pub rows-differ : pick (eqb cols m) (entry.likeAt X t J l r (cur .pos + 1) q) false ≡ false → (v : ℕ) → MoreRows X t n K J cols l r c e x z (record { cur = d; end = E; cells = v; cols = cols; left = l; why = why.Differs })
+        rows-differ df v = (
+          record { cols′ = refl; left′ = refl },
+          (
+            record { within = p .0 .within; depth = p .0 .depth ∙ i .moves .depth; long = p .0 .long ∙ i .moves .long; kept = kept-trans (i .moves .kept) (p .0 .kept); known = p .0 .known },
+            λ I s at h fst.
+                let a = i .along I s at h fst in
+                let u = took-any (a .at) inside in
+                let w = rw (i .moves .depth) at (p .4 I (tick (a .state)) (at-tick (a .at))) in
+                record {
+                  state = w .state;
+                  runs = a .whole ∙ ap (withRows (a .acc)) (turn-differs I (readers (c .depth) I) (a .left) h (a .state) (sep-there (a .at)) (u .1) (w .runs) (alike-row (w .row) (w .at) fst (w .left) (w .right) (w .number) ∙ df));
+                  at = w .at;
+                  tree = back e (seq (a .tree) (w .tree)) (omega arith) (omega (arith, i .moves .room, p .0 .room));
+                },
+          ),
+        )
+
+        pub rows-more : cols ≡ m → entry.likeAt X t J l r (cur .pos + 1) q ≡ true → Inv X t n K J cols l r c e x z d E (num + m)
+        rows-more hm lk = record {
+          moves = record { within = p .0 .within; on = omega (arith, i .moves .on, p .0 .on, i .least); depth = p .0 .depth ∙ i .moves .depth; room = omega (arith, i .moves .room, p .0 .room, i .least, p .0 .on); long = p .0 .long ∙ i .moves .long; kept = kept-trans (i .moves .kept) (p .0 .kept); known = p .0 .known };
+          least = omega (arith, i .least);
+          along = λ I s at h fst.
+              let a = i .along I s at h fst in
+              let u = took-any (a .at) inside in
+              let w = rw (i .moves .depth) at (p .4 I (tick (a .state)) (at-tick (a .at))) in
+              let R = readers (c .depth) I in
+              let l1 : a .left ≡ suc (a .left - 1) = omega (arith, a .enough, inside) in
+              let rest = moreRows (I .text) (I .es) true R (a .left) h (w .state) in
+              let al : alike (I .text) (I .es) h (w .row) ≡ true = alike-row (w .row) (w .at) fst (w .left) (w .right) (w .number) ∙ rw (eq-eqb cols m hm, lk) in
+              record {
+                left = a .left - 1;
+                acc = a .acc ++ (w .row .cells ∷ []);
+                state = w .state;
+                whole = a .whole ∙ ap (withRows (a .acc)) (turn-more I R (a .left) h (a .state) (sep-there (a .at)) (u .1) (w .runs) al)
+                    ∙ with-row (a .acc) (w .row .cells) (rest .0) (rest .1)
+                    ∙ ap (λ (j : ℕ). withRows (a .acc ++ (w .row .cells ∷ [])) (moreRows (I .text) (I .es) true R j h (w .state))) l1;
+                enough = omega (arith, l1, a .enough, p .0 .on, p .1);
+                at = w .at;
+                tree = rw (joined-snoc (a .acc) (w .row .cells), encodes-append (columns.joined (a .acc)) (w .row .cells)) (seq (a .tree) (w .tree));
+                number = rw (joined-snoc (a .acc) (w .row .cells)) (omega (arith, a .number, w .number, count-append (columns.joined (a .acc)) (w .row .cells)));
+                all = grid-snoc (a .all) (subst (λ (j : ℕ). columns.Cells j (w .row .cells)) (sym hm) (w .all));
+              };
+        }
+
+-- all rows: the first, and the others
+module _ (X t : List ℕ) (n : ℕ) (K L : List ℕ) (c : Cursor) (e : ℕ) (x y : List ℕ) where
+  pub matrix-broken : (m : ℕ) (d : Cursor) (E v F k l : ℕ) → MatrixRow X t n K L c e x y (record { cur = d; end = E; count = m; close = close.Broken })
+      → MatrixRows X t n K L c e x y (record { cur = d; end = F; cells = v; cols = k; left = l; why = why.Broken })
+  unfolding nextMatrixRows
+  matrix-broken m d E v F k l p = (
+    p .0,
+    λ I s at. let q = p .1 I s at in record { state = q .state; runs = bind _ _ s (q .runs) ∙ ret _ _; at = q .at; tree = q .tree },
+  )
+
+  module _ (m q E : ℕ) (d : Cursor) (p : MatrixRow X t n K L c e x y (record { cur = d; end = E; count = m; close = close.At q })) (room : e + 32 * (n - c .pos) ≤ length x) where
+    pub matrix-differs : entry.rowsAt X t L (c .pos) q ≡ false → (v F k l : ℕ) → MatrixRows X t n K L c e x y (record { cur = d; end = F; cells = v; cols = k; left = l; why = why.Differs })
+    unfolding nextMatrixRows
+    matrix-differs df v F k l = (
+      record { within = p .0 .within; depth = p .0 .depth; long = p .0 .long; kept = p .0 .kept; known = p .0 .known },
+      λ I s at.
+          let w = p .4 I s at in
+          record {
+            state = w .state;
+            runs = bind _ _ s (w .runs) ∙ if-false _ _ _ (brackets-are (w .row) (w .at .given) (p .2) (p .3) (w .left) (w .right) ∙ df) ∙ ret _ _;
+            at = w .at;
+            tree = back e (w .tree) (omega arith) (omega (arith, p .0 .room));
+          },
+    )
+
+    module _ (bk : entry.rowsAt X t L (c .pos) q ≡ true) (J z : List ℕ) where
+      firstly : {I : Input} {s : State} (w : HasRow X t n L (rowAt X t n (c .depth) I) I s e x y (c .pos) q m d E) → First X t n I m (c .pos) q (w .row)
+      firstly w = record { left = w .left; right = w .right; number = w .number }
+
+      more-fails : {f : Cursor} (g : Each X t n L d (λ I s. (h : reading.Row) → First X t n I m (c .pos) q h → Fails X t n J (moreAt X t n (d .depth) h I) I s E y z f)) → Each X t n K c (λ I s. Fails X t n J (rowsAt X t n (c .depth) I) I s e x z f)
+      unfolding nextMatrixRows
+      more-fails g I s at =
+          let w = p .4 I s at in
+          let v = rw (p .0 .depth) at (g I (w .state) (w .at) (w .row) (firstly w)) in
+          record {
+            state = v .state;
+            runs = bind _ _ s (w .runs) ∙ if-true _ _ _ (brackets-are (w .row) (w .at .given) (p .2) (p .3) (w .left) (w .right) ∙ bk) ∙ bind _ _ _ (v .runs) ∙ ret _ _;
+            at = v .at;
+            tree = back e (seq (w .tree) (v .tree)) (omega arith) (omega (arith, p .0 .room));
+          }
+
+      broke : {f : Cursor} → Broke X t n L J d E y z f → Broke X t n K J c e x z f
+      broke b = record { within = b .within; depth = b .depth ∙ p .0 .depth; long = b .long ∙ p .0 .long; kept = kept-trans (p .0 .kept) (b .kept); known = b .known }
+
+      by-reason : (k : ℕ) (f : Cursor) (F : ℕ) (w : Why) → MoreRows′ X t n L J m (c .pos) q d E y z k f F w → MatrixRows′ X t n K J c e x z m (c .pos) k f F w
+      unfolding nextMatrixRows joinRows
+      by-reason k f F why.Differs g = (broke (g .0), more-fails (g .1))
+      by-reason k f F why.Broken g = (broke (g .0), more-fails (g .1))
+      by-reason k f F why.Done g = (
+        record { within = g .0 .within; on = omega (arith, p .0 .on, g .0 .on, g .1); depth = g .0 .depth ∙ p .0 .depth; room = omega (arith, p .0 .room, g .0 .room, g .1); long = g .0 .long ∙ p .0 .long; kept = kept-trans (p .0 .kept) (g .0 .kept); known = g .0 .known },
+        p .1,
+        g .1,
+        p .2,
+        λ I s at.
+            let w = p .4 I s at in
+            let v = rw (p .0 .depth) at (g .2 I (w .state) (w .at) (w .row) (firstly w)) in
+            record {
+              rows = record { head = w .row; others = v .others };
+              state = v .state;
+              runs = bind _ _ s (w .runs) ∙ if-true _ _ _ (brackets-are (w .row) (w .at .given) (p .2) (p .3) (w .left) (w .right) ∙ bk) ∙ bind _ _ _ (v .runs) ∙ ret _ _;
+              at = v .at;
+              left = w .left;
+              number = omega (arith, v .number, w .number, count-append (w .row .cells) (columns.joined (v .others)));
+              all = columns.Grid.row (w .all) (v .all);
+              tree = rw (encodes-append (w .row .cells) (columns.joined (v .others))) (seq (w .tree) (v .tree));
+            },
+      )
+
+      pub matrix-more : (g : rows.Rows) → MoreRows X t n L J m (c .pos) q d E y z g → MatrixRows X t n K J c e x z g
+      matrix-more g p2 = rw (p2 .0 .cols′, p2 .0 .left′) (by-reason (g .cells) (g .cur) (g .end) (g .why) (p2 .1))

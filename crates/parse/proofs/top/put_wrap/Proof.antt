@@ -1,0 +1,61 @@
+use Rattle.parse.proofs.Buffer.{seven}
+use native.Mathlib.Numerals.{add-one}
+use Prim.Native.Nat.{_-_}
+use borrow.Author.Needs.{needs}
+use Rattle.parse.proofs.top.put_wrap.Statement.{statement}
+use Rattle.parse.proofs.top.put_wrap.Tie as tie
+
+-- src/top.rt:118:5
+put1-requires : tie.Need-put1-requires
+put1-requires c κs = search needs
+
+-- src/top.rt:119:16
+add-put6 : tie.Need-add-put6
+add-put6 c = search needs
+
+-- src/top.rt:119:5
+put6-requires : tie.Need-put6-requires
+put6-requires c κs = search needs
+
+-- src/top.rt:120:16
+add-put6-2 : tie.Need-add-put6-2
+add-put6-2 c = search needs
+
+-- src/top.rt:120:34
+sep-word-requires : tie.Need-sep-word-requires
+sep-word-requires c κs = search needs
+
+-- src/top.rt:120:53
+start-at-requires : tie.Need-start-at-requires
+start-at-requires c κs = search needs
+
+-- src/top.rt:120:77
+len-at-requires : tie.Need-len-at-requires
+len-at-requires c κs = search needs
+
+-- src/top.rt:120:5
+put6-requires-2 : tie.Need-put6-requires-2
+put6-requires-2 c κs = search needs
+
+-- src/top.rt:113:1
+same-length : tie.Need-same-length
+same-length c = search needs
+
+-- src/top.rt:113:1
+returns : tie.Need-returns
+returns c = rw (c .before .before .put62 .ensures, c .before .before .before .before .before .before .before .before .before .put6 .ensures, c .before .before .before .before .before .before .before .before .before .before .before .before .before .put1 .ensures, c .before .before .before .before .before .sep-word .ensures, c .before .before .before .before .start-at .ensures, c .before .before .before .len-at .ensures, add-one, seven)
+
+pub put-wrap-spec : {M : Type 1} → statement M
+put-wrap-spec =
+    tie.close
+    (tie.spec
+    put1-requires
+    add-put6
+    put6-requires
+    add-put6-2
+    sep-word-requires
+    start-at-requires
+    len-at-requires
+    put6-requires-2
+    same-length
+    returns)

@@ -1,0 +1,6 @@
+pub mod Entry
+pub mod Buffer
+pub mod Meet
+pub mod Columns
+pub mod Matrix
+pub mod Top

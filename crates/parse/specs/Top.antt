@@ -1,0 +1,65 @@
+-- The whole reading: closing brackets that nothing opened, noted in their own records, and what the call gives.
+use Prim.Native.Nat.{ℕ, _+_, _-_, _*_, _%_, _≤_, _<_, _^_}
+use mathlib.Core.Path.{_≡_}
+use mathlib.Core.List.{List, [], _∷_, _++_}
+use mathlib.Core.Bool.{true}
+use lib.ListN.{length, take, replicate}
+use Rattle.tree.specs.Tree.{count}
+use Rattle.tree.specs.Words.{encodeItems}
+use Rattle.reading.specs.Reading.{parseEntries}
+use Rattle.parse.specs.declared.top.Wrapped.{Wrapped}
+use Rattle.parse.specs.declared.top.Reading.{Reading}
+use Rattle.parse.specs.Entry.{Safe, Placed, afterClose, sepWord, marksOf, startOf, lenOf}
+use Rattle.parse.specs.Meet.{Input, Given}
+
+-- A wrap: the entry of its closing bracket, and its items.
+pub record Wrap : Type 0 where
+  pub closer : ℕ
+  pub items : ℕ
+
+-- The wraps up to the one that `last` closes, the last first: the close word of each closing bracket leads to the one before it,
+-- and its word behind has the items.
+abbrev pub Chained : List ℕ → ℕ → ℕ → List Wrap → Type 0
+Chained K b last [] = Unit
+Chained K b last (w ∷ ws) = (w .closer ≡ last) × (last < b) × (sepWord K last ≡ w .items) × Chained K last (afterClose K last) ws
+
+-- The words of the wraps' headers: an item, a simple part and a group each.
+abbrev pub wrapWords : ℕ → ℕ → ℕ → List ℕ
+wrapWords k a l = 0 ∷ 13 ∷ 0 ∷ 0 ∷ 0 ∷ 0 ∷ 0 ∷ 15 ∷ 0 ∷ 0 ∷ k ∷ a ∷ l ∷ []
+
+unfoldable pub wrapsWords : List ℕ → List ℕ → List Wrap → List ℕ
+wrapsWords t K [] = []
+wrapsWords t K (w ∷ ws) = wrapWords (w .items) (startOf t K (w .closer)) (lenOf t K (w .closer)) ++ wrapsWords t K ws
+
+pub record Noted (n : ℕ) (t K : List ℕ) (wraps last : ℕ) : Type 0 where
+  pub list : List Wrap
+  pub number : length list ≡ wraps
+  pub chain : Chained K n last list
+  pub placed : (i : ℕ) → i < n → Placed t K i
+
+-- What the reading needs: records of an input, no mark set, and room for any tree.
+pub record TopReady (n : ℕ) (X t K tree : List ℕ) : Type 0 where
+  pub safe : Safe n X t K
+  pub input : Input
+  pub given : Given X t n K input
+  pub blank : (i : ℕ) → i < n → marksOf K i ≡ 0
+  pub room : 32 * (n + 1) ≤ length tree
+
+-- The items are the definition's, their wraps' headers aside.
+pub record Tops (X t : List ℕ) (L : List ℕ) (ws : List Wrap) (I : Input) (y : List ℕ) (g : Wrapped) : Type 0 where
+  pub words : encodeItems ((parseEntries (I .text) (I .es) true) .0) ≡ wrapsWords t L ws ++ take (g .end) y
+  pub number : g .count ≡ count ((parseEntries (I .text) (I .es) true) .0)
+  pub takes : g .cur .takes % 2 ^ 64 ≡ (parseEntries (I .text) (I .es) true) .1 .takes % 2 ^ 64
+
+pub record Topped (X t : List ℕ) (n : ℕ) (K L y : List ℕ) (g : Wrapped) : Type 0 where
+  pub noted : Noted n t L (g .wraps) (g .last)
+  pub few : g .wraps ≤ 256
+  pub fits : g .end + 13 * g .wraps ≤ length y
+  pub means : (I : Input) → Given X t n K I → Tops X t L (noted .list) I y g
+
+-- The words of the definition's tree, zeros behind them, and its takes.
+pub record Reads (I : Input) (len : ℕ) (y : List ℕ) (r : Reading) : Type 0 where
+  pub end : r .end ≡ length (encodeItems ((parseEntries (I .text) (I .es) true) .0))
+  pub tree : y ≡ encodeItems ((parseEntries (I .text) (I .es) true) .0) ++ replicate (len - r .end) 0
+  pub items : r .items ≡ count ((parseEntries (I .text) (I .es) true) .0)
+  pub takes : r .takes ≡ (parseEntries (I .text) (I .es) true) .1 .takes

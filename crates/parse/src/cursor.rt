@@ -1,0 +1,147 @@
+// Where a reader stands, and what readers answer.
+ghost use mathlib.Core.Path.{_≡_};
+ghost use Prim.Native.Nat.{_≤_, _<_};
+ghost use Rattle.parse.specs.Meet.{onward, seen, passing, inner, atDepth, rewound};
+
+// The position, the depth of the readers, and the takes so far, counted round 2^64.
+pub(crate) struct Cursor {
+    pub pos: usize,
+    pub depth: usize,
+    pub takes: u64,
+}
+
+impl Cursor {
+    // Past the next token.
+    pub(crate) fn next(self) -> Cursor
+        requires { ⌜ self .pos < 4096 ⌝ }
+        ensures { λ r. ⌜ r ≡ onward self ⌝ }
+    {
+        Cursor {
+            pos: self.pos + 1,
+            depth: self.depth,
+            takes: std::num::wrapping_add_u64(self.takes, 1),
+        }
+    }
+
+    // A look at the next token, counted if there is one.
+    pub(crate) fn look(self, n: usize) -> Cursor
+        ensures { λ r. ⌜ r ≡ seen n self ⌝ }
+    {
+        if self.pos < n {
+            Cursor {
+                pos: self.pos,
+                depth: self.depth,
+                takes: std::num::wrapping_add_u64(self.takes, 1),
+            }
+        } else {
+            self
+        }
+    }
+
+    // Past the next token, if there is one.
+    pub(crate) fn over(self, n: usize) -> Cursor
+        requires { ⌜ n ≤ 4096 ⌝ }
+        ensures { λ r. ⌜ r ≡ passing n self ⌝ }
+    {
+        if self.pos < n { self.next() } else { self }
+    }
+
+    // One reader deeper.
+    pub(crate) fn deeper(self) -> Cursor
+        requires { ⌜ self .depth < 256 ⌝ }
+        ensures { λ r. ⌜ r ≡ inner self ⌝ }
+    {
+        Cursor {
+            pos: self.pos,
+            depth: self.depth + 1,
+            takes: self.takes,
+        }
+    }
+
+    // Back in the reader of that depth.
+    pub(crate) fn at_depth(self, depth: usize) -> Cursor
+        ensures { λ r. ⌜ r ≡ atDepth depth self ⌝ }
+    {
+        Cursor {
+            pos: self.pos,
+            depth: depth,
+            takes: self.takes,
+        }
+    }
+
+    // Back at the position `pos`, the takes being kept.
+    pub(crate) fn rewind(self, pos: usize) -> Cursor
+        ensures { λ r. ⌜ r ≡ rewound pos self ⌝ }
+    {
+        Cursor {
+            pos: pos,
+            depth: self.depth,
+            takes: self.takes,
+        }
+    }
+}
+
+// A node was read, up to the word `end`, and whether it ends an operand; or none was there.
+pub(crate) enum Step {
+    Found(Cursor, usize, bool),
+    Nothing(Cursor),
+}
+
+// A node: the words end at `end`.
+pub(crate) struct Part {
+    pub cur: Cursor,
+    pub end: usize,
+    pub ends: bool,
+}
+
+// A script's number and its arguments.
+pub(crate) struct Scripted {
+    pub cur: Cursor,
+    pub end: usize,
+    pub script: u32,
+}
+
+// Items: how many, and whether a sign behind them prefixes.
+pub(crate) struct Items {
+    pub cur: Cursor,
+    pub end: usize,
+    pub count: u32,
+    pub sign: bool,
+}
+
+// The Space before an item: the end of its words, and 1 if it is kept.
+pub(crate) struct Gap {
+    pub end: usize,
+    pub items: u32,
+}
+
+// How a row ended: at the closing bracket of that entry, or broken off.
+pub(crate) enum Close {
+    At(usize),
+    Broken,
+}
+
+// A row's cells.
+pub(crate) struct Cells {
+    pub cur: Cursor,
+    pub end: usize,
+    pub count: usize,
+    pub close: Close,
+}
+
+// Why the rows ended: all are read, one differs from the first, or one is broken off.
+pub(crate) enum Why {
+    Done,
+    Differs,
+    Broken,
+}
+
+// Rows: their cells, the columns, the first row's opening bracket.
+pub(crate) struct Rows {
+    pub cur: Cursor,
+    pub end: usize,
+    pub cells: usize,
+    pub cols: usize,
+    pub left: usize,
+    pub why: Why,
+}

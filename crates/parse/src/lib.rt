@@ -1,0 +1,7 @@
+// The parser of asciimath-parser over a token list: parse.rs.
+mod columns;
+mod cursor;
+mod entry;
+mod readers;
+mod top;
+mod write;

@@ -1,0 +1,811 @@
+// The readers of the Rust's parse.rs. They call one another back; 256 less the cursor's depth falls.
+use crate::columns::split_column_lines;
+use crate::cursor::Cells;
+use crate::cursor::Close;
+use crate::cursor::Cursor;
+use crate::cursor::Items;
+use crate::cursor::Part;
+use crate::cursor::Rows;
+use crate::cursor::Scripted;
+use crate::cursor::Step;
+use crate::cursor::Why;
+use crate::entry::bar_at;
+use crate::entry::begins_at;
+use crate::entry::could_be_matrix;
+use crate::entry::failed_at;
+use crate::entry::heads_at;
+use crate::entry::is_at;
+use crate::entry::kind_at;
+use crate::entry::makes_matrix;
+use crate::entry::mark_failed;
+use crate::entry::marks_at;
+use crate::entry::open_mark;
+use crate::entry::row_brackets;
+use crate::entry::same_brackets;
+use crate::write::leaf;
+use crate::write::put_group;
+use crate::write::put_matrix;
+use crate::write::put_node;
+use crate::write::put_space;
+use crate::write::put1;
+use crate::write::put6;
+ghost use mathlib.Core.Path.{_≡_};
+ghost use mathlib.Core.Bool.{true};
+ghost use Prim.Native.Nat.{_≤_, _<_};
+ghost use Rattle.parse.specs.Entry.{testAt, beginsKind};
+ghost use Rattle.parse.specs.Meet.{Ready, Simple, ScriptFunc, Intermediate, Argument, Operand, Scripts, Intermediates, Headed, Begun, OpenGroup, Bracket, OpenCloseGroup, TryMatrix, Bars, Unary, Binary, prefixOf};
+ghost use Rattle.tree.specs.Words.{prefixKind};
+ghost use Rattle.parse.specs.Matrix.{RowCells, MatrixRow, MoreRows, MatrixRows};
+
+// A simple expression, or Missing.
+fn next_script_arg(
+    text: &[u8],
+    tok: &[u32],
+    n: usize,
+    work: &mut [u32],
+    tree: &mut [u32],
+    c: Cursor,
+    e: usize,
+    stop: bool,
+) -> Part
+    requires { ⌜ Ready 6 n (now text) (now tok) (now work) (now tree) c e ⌝ }
+    ensures { λ r. ⌜ Argument (now (text .entry)) (now (tok .entry)) n (now (work .entry)) (now (work .exit)) stop c e (now (tree .entry)) (now (tree .exit)) r ⌝ }
+{
+    match next_simple(text, tok, n, work, tree, c, e, stop, true) {
+        Step::Found(d, e1, f) => Part {
+            cur: d,
+            end: e1,
+            ends: f,
+        },
+        Step::Nothing(d) => {
+            put6(tree, e, 0, 0, 0, 0, 0, 0);
+            Part {
+                cur: d,
+                end: e + 6,
+                ends: false,
+            }
+        }
+    }
+}
+
+// A scripted part, or Missing.
+fn operand(
+    text: &[u8],
+    tok: &[u32],
+    n: usize,
+    work: &mut [u32],
+    tree: &mut [u32],
+    c: Cursor,
+    e: usize,
+    stop: bool,
+) -> Part
+    requires { ⌜ Ready 12 n (now text) (now tok) (now work) (now tree) c e ⌝ }
+    ensures { λ r. ⌜ Operand (now (text .entry)) (now (tok .entry)) n (now (work .entry)) (now (work .exit)) stop c e (now (tree .entry)) (now (tree .exit)) r ⌝ }
+{
+    match next_script_func(text, tok, n, work, tree, c, e, stop, true) {
+        Step::Found(d, e1, f) => Part {
+            cur: d,
+            end: e1,
+            ends: f,
+        },
+        Step::Nothing(d) => {
+            put6(tree, e, 13, 0, 0, 0, 0, 0);
+            put6(tree, e + 6, 0, 0, 0, 0, 0, 0);
+            Part {
+                cur: d,
+                end: e + 12,
+                ends: false,
+            }
+        }
+    }
+}
+
+// The scripts at the cursor.
+fn next_script(
+    text: &[u8],
+    tok: &[u32],
+    n: usize,
+    work: &mut [u32],
+    tree: &mut [u32],
+    c: Cursor,
+    e: usize,
+) -> Scripted
+    requires { ⌜ Ready 0 n (now text) (now tok) (now work) (now tree) c e ⌝ }
+    ensures { λ r. ⌜ Scripts (now (text .entry)) (now (tok .entry)) n (now (work .entry)) (now (work .exit)) c e (now (tree .entry)) (now (tree .exit)) r ⌝ }
+{
+    let pos = c.pos;
+    if marks_at(tok, work, n, pos) {
+        if is_at(tok, work, n, pos, 1) {
+            let a = next_script_arg(text, tok, n, work, tree, c.next(), e, false);
+            let ac = a.cur;
+            Scripted {
+                cur: ac,
+                end: a.end,
+                script: 2,
+            }
+        } else {
+            let a = next_script_arg(text, tok, n, work, tree, c.next(), e, false);
+            let ac = a.cur;
+            let at = ac.pos;
+            if is_at(tok, work, n, at, 1) {
+                let b = next_script_arg(text, tok, n, work, tree, ac.next(), a.end, false);
+                let bc = b.cur;
+                Scripted {
+                    cur: bc,
+                    end: b.end,
+                    script: 3,
+                }
+            } else {
+                Scripted {
+                    cur: ac.look(n),
+                    end: a.end,
+                    script: 1,
+                }
+            }
+        }
+    } else {
+        Scripted {
+            cur: c.look(n),
+            end: e,
+            script: 0,
+        }
+    }
+}
+
+// A scripted part, which a function or a prefixing sign can head.
+fn next_script_func(
+    text: &[u8],
+    tok: &[u32],
+    n: usize,
+    work: &mut [u32],
+    tree: &mut [u32],
+    c: Cursor,
+    e: usize,
+    stop: bool,
+    sign: bool,
+) -> Step
+    requires { ⌜ Ready 6 n (now text) (now tok) (now work) (now tree) c e ⌝ }
+    ensures { λ r. ⌜ ScriptFunc (now (text .entry)) (now (tok .entry)) n (now (work .entry)) (now (work .exit)) stop sign c e (now (tree .entry)) (now (tree .exit)) r ⌝ }
+{
+    let depth = c.depth;
+    if depth >= 256 {
+        return Step::Nothing(c);
+    }
+    let pos = c.pos;
+    if heads_at(tok, work, n, pos, sign) {
+        let g = headed(text, tok, n, work, tree, c.next().deeper(), e, stop, pos);
+        let gc = g.cur;
+        Step::Found(gc.at_depth(depth), g.end, g.ends)
+    } else {
+        match next_simple(
+            text,
+            tok,
+            n,
+            work,
+            tree,
+            c.look(n).deeper(),
+            e + 6,
+            stop,
+            sign,
+        ) {
+            Step::Nothing(d) => Step::Nothing(d.at_depth(depth)),
+            Step::Found(d, e1, f) => {
+                let m = next_script(text, tok, n, work, tree, d, e1);
+                let mc = m.cur;
+                put6(tree, e, 13, 0, 0, m.script, 0, 0);
+                Step::Found(mc.at_depth(depth), m.end, f)
+            }
+        }
+    }
+}
+
+// What the function or the sign at i heads.
+fn headed(
+    text: &[u8],
+    tok: &[u32],
+    n: usize,
+    work: &mut [u32],
+    tree: &mut [u32],
+    c: Cursor,
+    e: usize,
+    stop: bool,
+    i: usize,
+) -> Part
+    requires { ⌜ Ready 18 n (now text) (now tok) (now work) (now tree) c e ⌝ }
+    requires { ⌜ i < n ⌝ }
+    ensures { λ r. ⌜ Headed (now (text .entry)) (now (tok .entry)) n (now (work .entry)) (now (work .exit)) i stop c e (now (tree .entry)) (now (tree .exit)) r ⌝ }
+{
+    if is_at(tok, work, n, i, 17) {
+        let m = next_script(text, tok, n, work, tree, c, e + 6);
+        let mc = m.cur;
+        let g = operand(text, tok, n, work, tree, mc, m.end, false);
+        let gc = g.cur;
+        put_node(tok, work, tree, e, 14, i, m.script);
+        Part {
+            cur: gc,
+            end: g.end,
+            ends: true,
+        }
+    } else {
+        let g = operand(text, tok, n, work, tree, c, e + 6, stop);
+        let gc = g.cur;
+        put_node(tok, work, tree, e, 8, i, 0);
+        Part {
+            cur: gc,
+            end: g.end,
+            ends: true,
+        }
+    }
+}
+
+// One item: a scripted part, or a fraction of two.
+fn next_intermediate(
+    text: &[u8],
+    tok: &[u32],
+    n: usize,
+    work: &mut [u32],
+    tree: &mut [u32],
+    c: Cursor,
+    e: usize,
+    stop: bool,
+    sign: bool,
+) -> Step
+    requires { ⌜ Ready 7 n (now text) (now tok) (now work) (now tree) c e ⌝ }
+    ensures { λ r. ⌜ Intermediate (now (text .entry)) (now (tok .entry)) n (now (work .entry)) (now (work .exit)) stop sign c e (now (tree .entry)) (now (tree .exit)) r ⌝ }
+{
+    match next_script_func(text, tok, n, work, tree, c, e + 1, stop, sign) {
+        Step::Nothing(d) => Step::Nothing(d),
+        Step::Found(d, e1, f) => {
+            let pos = d.pos;
+            if is_at(tok, work, n, pos, 0) {
+                put1(tree, e, 1);
+                let g = operand(text, tok, n, work, tree, d.next(), e1, false);
+                let gc = g.cur;
+                Step::Found(gc, g.end, g.ends)
+            } else {
+                put1(tree, e, 0);
+                Step::Found(d.look(n), e1, f)
+            }
+        }
+    }
+}
+
+// The items from the cursor on, up to a bar like that at `until`, if an entry is there. `first0`: none stands before them.
+pub(crate) fn extend_intermediates(
+    text: &[u8],
+    tok: &[u32],
+    n: usize,
+    work: &mut [u32],
+    tree: &mut [u32],
+    c: Cursor,
+    e: usize,
+    until: usize,
+    stop: bool,
+    first0: bool,
+    sign0: bool,
+) -> Items
+    requires { ⌜ Ready 14 n (now text) (now tok) (now work) (now tree) c e ⌝ }
+    ensures { λ r. ⌜ Intermediates (now (text .entry)) (now (tok .entry)) n (now (work .entry)) (now (work .exit)) until stop first0 sign0 c e (now (tree .entry)) (now (tree .exit)) r ⌝ }
+{
+    let mut cur = c;
+    let mut end = e;
+    let mut count: u32 = 0;
+    let mut first = first0;
+    let mut sign = sign0;
+    'items: loop {
+        let pos = cur.pos;
+        if bar_at(text, tok, work, n, until, pos) {
+            break 'items;
+        }
+        let g = put_space(tok, work, n, tree, pos, end, first);
+        match next_intermediate(text, tok, n, work, tree, cur, g.end, stop, sign) {
+            Step::Found(d, e2, f) => {
+                cur = d;
+                end = e2;
+                count += 1 + g.items;
+                first = false;
+                sign = !f;
+            }
+            Step::Nothing(d) => {
+                cur = d;
+                break 'items;
+            }
+        }
+    }
+    Items {
+        cur: cur,
+        end: end,
+        count: count,
+        sign: sign,
+    }
+}
+
+// The cells behind a row's bracket, up to its closing bracket.
+fn row_cells(
+    text: &[u8],
+    tok: &[u32],
+    n: usize,
+    work: &mut [u32],
+    tree: &mut [u32],
+    c: Cursor,
+    e: usize,
+) -> Cells
+    requires { ⌜ Ready 20 n (now text) (now tok) (now work) (now tree) c e ⌝ }
+    ensures { λ r. ⌜ RowCells (now (text .entry)) (now (tok .entry)) n (now (work .entry)) (now (work .exit)) c e (now (tree .entry)) (now (tree .exit)) r ⌝ }
+{
+    let mut cur = c;
+    let mut end = e;
+    let mut count: usize = 0;
+    let close = 'cells: loop {
+        let at = end;
+        let run = extend_intermediates(text, tok, n, work, tree, cur, at + 6, n, true, true, true);
+        let rc = run.cur;
+        let p = rc.pos;
+        end = run.end;
+        put6(tree, at, 17, 0, 0, run.count, (end - at - 6) as u32, 0);
+        count += 1;
+        cur = rc.over(n);
+        if is_at(tok, work, n, p, 3) {} else if is_at(tok, work, n, p, 21) {
+            break 'cells Close::At(p);
+        } else {
+            break 'cells Close::Broken;
+        }
+    };
+    Cells {
+        cur: cur,
+        end: end,
+        count: count,
+        close: close,
+    }
+}
+
+// A matrix row; a token that opens none is taken too.
+fn next_matrix_row(
+    text: &[u8],
+    tok: &[u32],
+    n: usize,
+    work: &mut [u32],
+    tree: &mut [u32],
+    c: Cursor,
+    e: usize,
+) -> Cells
+    requires { ⌜ Ready 0 n (now text) (now tok) (now work) (now tree) c e ⌝ }
+    ensures { λ r. ⌜ MatrixRow (now (text .entry)) (now (tok .entry)) n (now (work .entry)) (now (work .exit)) c e (now (tree .entry)) (now (tree .exit)) r ⌝ }
+{
+    let pos = c.pos;
+    if is_at(tok, work, n, pos, 20) {
+        row_cells(text, tok, n, work, tree, c.next(), e)
+    } else {
+        Cells {
+            cur: c.over(n),
+            end: e,
+            count: 0,
+            close: Close::Broken,
+        }
+    }
+}
+
+// The rows behind the first one, which is of `cols` cells between the brackets `left` and `right`.
+fn more_rows(
+    text: &[u8],
+    tok: &[u32],
+    n: usize,
+    work: &mut [u32],
+    tree: &mut [u32],
+    c: Cursor,
+    e: usize,
+    cols: usize,
+    left: usize,
+    right: usize,
+) -> Rows
+    requires { ⌜ Ready 0 n (now text) (now tok) (now work) (now tree) c e ⌝ }
+    requires { ⌜ cols ≤ c .pos ⌝ }
+    requires { ⌜ left < n ⌝ }
+    requires { ⌜ right < n ⌝ }
+    ensures { λ r. ⌜ MoreRows (now (text .entry)) (now (tok .entry)) n (now (work .entry)) (now (work .exit)) cols left right c e (now (tree .entry)) (now (tree .exit)) r ⌝ }
+{
+    let mut cur = c;
+    let mut end = e;
+    let mut cells = cols;
+    let why = 'rows: loop {
+        let p = cur.pos;
+        if is_at(tok, work, n, p, 3) {
+            let row = next_matrix_row(text, tok, n, work, tree, cur.next(), end);
+            cur = row.cur;
+            end = row.end;
+            let count = row.count;
+            let close = row.close;
+            match close {
+                Close::Broken => {
+                    break 'rows Why::Broken;
+                }
+                Close::At(q) => {
+                    cells += count;
+                    if count != cols {
+                        break 'rows Why::Differs;
+                    }
+                    if same_brackets(text, tok, work, n, left, right, p + 1, q) {} else {
+                        break 'rows Why::Differs;
+                    }
+                }
+            }
+        } else {
+            break 'rows Why::Done;
+        }
+    };
+    Rows {
+        cur: cur,
+        end: end,
+        cells: cells,
+        cols: cols,
+        left: left,
+        why: why,
+    }
+}
+
+// The rows of a matrix, up to its closing bracket.
+fn next_matrix_rows(
+    text: &[u8],
+    tok: &[u32],
+    n: usize,
+    work: &mut [u32],
+    tree: &mut [u32],
+    c: Cursor,
+    e: usize,
+) -> Rows
+    requires { ⌜ Ready 0 n (now text) (now tok) (now work) (now tree) c e ⌝ }
+    ensures { λ r. ⌜ MatrixRows (now (text .entry)) (now (tok .entry)) n (now (work .entry)) (now (work .exit)) c e (now (tree .entry)) (now (tree .exit)) r ⌝ }
+{
+    let left = c.pos;
+    let row = next_matrix_row(text, tok, n, work, tree, c, e);
+    let cur = row.cur;
+    let end = row.end;
+    let cols = row.count;
+    let close = row.close;
+    match close {
+        Close::Broken => Rows {
+            cur: cur,
+            end: end,
+            cells: cols,
+            cols: cols,
+            left: left,
+            why: Why::Broken,
+        },
+        Close::At(right) => {
+            if row_brackets(text, tok, work, n, left, right) {
+                more_rows(text, tok, n, work, tree, cur, end, cols, left, right)
+            } else {
+                Rows {
+                    cur: cur,
+                    end: end,
+                    cells: cols,
+                    cols: cols,
+                    left: left,
+                    why: Why::Differs,
+                }
+            }
+        }
+    }
+}
+
+// The matrix that the bracket at i opens, or nothing: a failed attempt is marked and given back.
+fn try_matrix(
+    text: &[u8],
+    tok: &[u32],
+    n: usize,
+    work: &mut [u32],
+    tree: &mut [u32],
+    c: Cursor,
+    e: usize,
+    i: usize,
+) -> Step
+    requires { ⌜ Ready 20 n (now text) (now tok) (now work) (now tree) c e ⌝ }
+    requires { ⌜ i < n ⌝ }
+    ensures { λ r. ⌜ TryMatrix (now (text .entry)) (now (tok .entry)) n (now (work .entry)) (now (work .exit)) i c e (now (tree .entry)) (now (tree .exit)) r ⌝ }
+{
+    if could_be_matrix(text, tok, work, n, i) {
+        if failed_at(work, i, 4) {
+            return Step::Nothing(c);
+        }
+        let from = c.pos;
+        let rows = next_matrix_rows(text, tok, n, work, tree, c, e + 8);
+        let cur = rows.cur;
+        let p = cur.pos;
+        let why = rows.why;
+        match why {
+            Why::Done => {
+                let split = split_column_lines(text, tree, e + 8, rows.end, rows.cells, rows.cols);
+                if makes_matrix(text, tok, work, n, i, rows.left, split.cells, p) {
+                    put_matrix(
+                        tok,
+                        work,
+                        tree,
+                        e,
+                        i,
+                        p,
+                        split.cells as u32,
+                        split.cols as u32,
+                        split.lines as u32,
+                    );
+                    Step::Found(cur.next(), split.end, true)
+                } else {
+                    mark_failed(work, i, 4);
+                    Step::Nothing(cur.rewind(from))
+                }
+            }
+            Why::Differs => {
+                mark_failed(work, i, 4);
+                Step::Nothing(cur.rewind(from))
+            }
+            Why::Broken => {
+                mark_failed(work, i, 4);
+                Step::Nothing(cur.rewind(from))
+            }
+        }
+    } else {
+        Step::Nothing(c)
+    }
+}
+
+// The group that the bracket at i opens.
+fn next_open_group(
+    text: &[u8],
+    tok: &[u32],
+    n: usize,
+    work: &mut [u32],
+    tree: &mut [u32],
+    c: Cursor,
+    e: usize,
+    i: usize,
+) -> Part
+    requires { ⌜ Ready 20 n (now text) (now tok) (now work) (now tree) c e ⌝ }
+    requires { ⌜ i < n ⌝ }
+    ensures { λ r. ⌜ OpenGroup (now (text .entry)) (now (tok .entry)) n (now (work .entry)) (now (work .exit)) i c e (now (tree .entry)) (now (tree .exit)) r ⌝ }
+{
+    let run = extend_intermediates(text, tok, n, work, tree, c, e + 6, n, false, true, true);
+    let cur = run.cur;
+    let at = cur.pos;
+    if is_at(tok, work, n, at, 21) {
+        put_group(tok, work, n, tree, e, i, at, run.count);
+        Part {
+            cur: cur.next(),
+            end: run.end,
+            ends: true,
+        }
+    } else {
+        put_group(tok, work, n, tree, e, i, n, run.count);
+        Part {
+            cur: cur.look(n),
+            end: run.end,
+            ends: true,
+        }
+    }
+}
+
+// The matrix or the group that the bracket at i opens.
+fn bracket(
+    text: &[u8],
+    tok: &[u32],
+    n: usize,
+    work: &mut [u32],
+    tree: &mut [u32],
+    c: Cursor,
+    e: usize,
+    i: usize,
+) -> Part
+    requires { ⌜ Ready 20 n (now text) (now tok) (now work) (now tree) c e ⌝ }
+    requires { ⌜ i < n ⌝ }
+    ensures { λ r. ⌜ Bracket (now (text .entry)) (now (tok .entry)) n (now (work .entry)) (now (work .exit)) i c e (now (tree .entry)) (now (tree .exit)) r ⌝ }
+{
+    match try_matrix(text, tok, n, work, tree, c, e, i) {
+        Step::Found(d, e1, f) => Part {
+            cur: d,
+            end: e1,
+            ends: f,
+        },
+        Step::Nothing(d) => next_open_group(text, tok, n, work, tree, d, e, i),
+    }
+}
+
+// The matrix or the group that the bar at i opens, or the bar alone.
+fn next_open_close_group(
+    text: &[u8],
+    tok: &[u32],
+    n: usize,
+    work: &mut [u32],
+    tree: &mut [u32],
+    c: Cursor,
+    e: usize,
+    stop: bool,
+    i: usize,
+) -> Part
+    requires { ⌜ Ready 20 n (now text) (now tok) (now work) (now tree) c e ⌝ }
+    requires { ⌜ i < n ⌝ }
+    ensures { λ r. ⌜ OpenCloseGroup (now (text .entry)) (now (tok .entry)) n (now (work .entry)) (now (work .exit)) i stop c e (now (tree .entry)) (now (tree .exit)) r ⌝ }
+{
+    match try_matrix(text, tok, n, work, tree, c, e, i) {
+        Step::Found(d, e1, f) => Part {
+            cur: d,
+            end: e1,
+            ends: f,
+        },
+        Step::Nothing(d) => bars(text, tok, n, work, tree, d, e, stop, i),
+    }
+}
+
+// The group between the bar at i and another like it, or the bar alone: a failed attempt is marked and given back.
+fn bars(
+    text: &[u8],
+    tok: &[u32],
+    n: usize,
+    work: &mut [u32],
+    tree: &mut [u32],
+    c: Cursor,
+    e: usize,
+    stop: bool,
+    i: usize,
+) -> Part
+    requires { ⌜ Ready 20 n (now text) (now tok) (now work) (now tree) c e ⌝ }
+    requires { ⌜ i < n ⌝ }
+    ensures { λ r. ⌜ Bars (now (text .entry)) (now (tok .entry)) n (now (work .entry)) (now (work .exit)) i stop c e (now (tree .entry)) (now (tree .exit)) r ⌝ }
+{
+    let from = c.pos;
+    let mark = open_mark(stop);
+    if failed_at(work, i, mark) {
+        return leaf(tok, work, tree, c, e, i, 22);
+    }
+    match next_intermediate(text, tok, n, work, tree, c, e + 6, stop, true) {
+        Step::Nothing(d) => leaf(tok, work, tree, d, e, i, 22),
+        Step::Found(d, e1, f) => {
+            let run = extend_intermediates(text, tok, n, work, tree, d, e1, i, stop, false, !f);
+            let cur = run.cur;
+            let at = cur.pos;
+            if bar_at(text, tok, work, n, i, at) {
+                put_group(tok, work, n, tree, e, i, at, run.count + 1);
+                Part {
+                    cur: cur.next(),
+                    end: run.end,
+                    ends: true,
+                }
+            } else {
+                mark_failed(work, i, mark);
+                leaf(tok, work, tree, cur.rewind(from), e, i, 22)
+            }
+        }
+    }
+}
+
+// The node of kind `kind` that the entry i prefixes, with one argument.
+fn unary(
+    text: &[u8],
+    tok: &[u32],
+    n: usize,
+    work: &mut [u32],
+    tree: &mut [u32],
+    c: Cursor,
+    e: usize,
+    stop: bool,
+    i: usize,
+    kind: u32,
+) -> Part
+    requires { ⌜ Ready 12 n (now text) (now tok) (now work) (now tree) c e ⌝ }
+    requires { ⌜ i < n ⌝ }
+    requires { ⌜ prefixKind (prefixOf kind) ≡ kind ⌝ }
+    ensures { λ r. ⌜ Unary (now (text .entry)) (now (tok .entry)) n (now (work .entry)) (now (work .exit)) i kind stop c e (now (tree .entry)) (now (tree .exit)) r ⌝ }
+{
+    let g = next_script_arg(text, tok, n, work, tree, c, e + 6, stop);
+    let gc = g.cur;
+    put_node(tok, work, tree, e, kind, i, 0);
+    Part {
+        cur: gc,
+        end: g.end,
+        ends: true,
+    }
+}
+
+// The binary operation at i, with its two arguments.
+fn binary(
+    text: &[u8],
+    tok: &[u32],
+    n: usize,
+    work: &mut [u32],
+    tree: &mut [u32],
+    c: Cursor,
+    e: usize,
+    i: usize,
+) -> Part
+    requires { ⌜ Ready 18 n (now text) (now tok) (now work) (now tree) c e ⌝ }
+    requires { ⌜ i < n ⌝ }
+    ensures { λ r. ⌜ Binary (now (text .entry)) (now (tok .entry)) n (now (work .entry)) (now (work .exit)) i c e (now (tree .entry)) (now (tree .exit)) r ⌝ }
+{
+    let g = next_script_arg(text, tok, n, work, tree, c, e + 6, false);
+    let gc = g.cur;
+    let h = next_script_arg(text, tok, n, work, tree, gc, g.end, false);
+    let hc = h.cur;
+    put_node(tok, work, tree, e, 12, i, 0);
+    Part {
+        cur: hc,
+        end: h.end,
+        ends: true,
+    }
+}
+
+// What the entry i, just taken, begins.
+fn begun(
+    text: &[u8],
+    tok: &[u32],
+    n: usize,
+    work: &mut [u32],
+    tree: &mut [u32],
+    c: Cursor,
+    e: usize,
+    stop: bool,
+    sign: bool,
+    i: usize,
+) -> Part
+    requires { ⌜ Ready 32 n (now text) (now tok) (now work) (now tree) c e ⌝ }
+    requires { ⌜ testAt (now tok) (now work) n (beginsKind stop) i ≡ true ⌝ }
+    requires { ⌜ i < n ⌝ }
+    ensures { λ r. ⌜ Begun (now (text .entry)) (now (tok .entry)) n (now (work .entry)) (now (work .exit)) i stop sign c e (now (tree .entry)) (now (tree .exit)) r ⌝ }
+{
+    let k = kind_at(tok, work, i);
+    if k == 20 {
+        bracket(text, tok, n, work, tree, c, e, i)
+    } else if k == 22 {
+        next_open_close_group(text, tok, n, work, tree, c, e, stop, i)
+    } else if k == 18 {
+        unary(text, tok, n, work, tree, c, e, false, i, 10)
+    } else if k == 17 {
+        unary(text, tok, n, work, tree, c, e, false, i, 11)
+    } else if k == 19 {
+        binary(text, tok, n, work, tree, c, e, i)
+    } else if k == 16 {
+        if sign {
+            unary(text, tok, n, work, tree, c, e, stop, i, 9)
+        } else {
+            leaf(tok, work, tree, c, e, i, k)
+        }
+    } else {
+        leaf(tok, work, tree, c, e, i, k)
+    }
+}
+
+// A simple expression. `sign`: a sign here prefixes what follows it.
+fn next_simple(
+    text: &[u8],
+    tok: &[u32],
+    n: usize,
+    work: &mut [u32],
+    tree: &mut [u32],
+    c: Cursor,
+    e: usize,
+    stop: bool,
+    sign: bool,
+) -> Step
+    requires { ⌜ Ready 0 n (now text) (now tok) (now work) (now tree) c e ⌝ }
+    ensures { λ r. ⌜ Simple (now (text .entry)) (now (tok .entry)) n (now (work .entry)) (now (work .exit)) stop sign c e (now (tree .entry)) (now (tree .exit)) r ⌝ }
+{
+    let depth = c.depth;
+    if depth >= 256 {
+        return Step::Nothing(c);
+    }
+    let pos = c.pos;
+    if begins_at(tok, work, n, pos, stop) {
+        let g = begun(
+            text,
+            tok,
+            n,
+            work,
+            tree,
+            c.next().deeper(),
+            e,
+            stop,
+            sign,
+            pos,
+        );
+        let gc = g.cur;
+        Step::Found(gc.at_depth(depth), g.end, g.ends)
+    } else {
+        Step::Nothing(c.look(n))
+    }
+}

@@ -1,0 +1,199 @@
+// The whole reading: the items, and the groups of closing brackets that nothing opened.
+use crate::cursor::Cursor;
+use crate::entry::after_close;
+use crate::entry::is_at;
+use crate::entry::len_at;
+use crate::entry::sep_word;
+use crate::entry::start_at;
+use crate::readers::extend_intermediates;
+use crate::write::put1;
+use crate::write::put6;
+ghost use mathlib.Core.Path.{_≡_};
+ghost use mathlib.Core.List.{List, [], _∷_, _++_};
+ghost use Prim.Native.Nat.{ℕ, _+_, _-_, _*_, _≤_, _<_};
+ghost use lib.ListN.{length, take, replicate};
+ghost use lib.Seq.{sets};
+ghost use Rattle.parse.specs.Buffer.{Wrote};
+ghost use Rattle.parse.specs.Entry.{Placed, sepWord, startOf, lenOf};
+ghost use Rattle.parse.specs.Meet.{Input, Given};
+ghost use Rattle.parse.specs.Top.{Noted, wrapWords, wrapsWords, TopReady, Topped, Reads};
+
+pub(crate) struct Reading {
+    pub takes: u64,
+    pub end: usize,
+    pub items: u32,
+}
+
+// Items, and the unmatched closing brackets so far: how many, and the last.
+pub(crate) struct Wrapped {
+    pub cur: Cursor,
+    pub end: usize,
+    pub count: u32,
+    pub wraps: usize,
+    pub last: usize,
+}
+
+// Zeros from `from` on.
+fn clear_from(b: &mut [u32], from: usize)
+    requires { ⌜ from ≤ length (now b) ⌝ }
+    ensures { λ _. ⌜ now (b .exit) ≡ take from (now (b .entry)) ++ replicate (length (now (b .entry)) - from) 0 ⌝ }
+{
+    let mut i = from;
+    while i < b.len() {
+        b[i] = 0;
+        i += 1;
+    }
+}
+
+// The first `end` words, `by` places on.
+fn shift(tree: &mut [u32], end: usize, by: usize)
+    requires { ⌜ end + by ≤ length (now tree) ⌝ }
+    ensures { λ _. ⌜ Wrote (now (tree .exit)) by (now (tree .exit)) (by + end) (take end (now (tree .entry))) ⌝ }
+{
+    let mut i = end;
+    while 0 < i {
+        i -= 1;
+        tree[i + by] = tree[i];
+    }
+}
+
+// Notes the wrap of `count` items that the closing bracket at i makes; the one before it is `last`.
+fn note_wrap(work: &mut [u32], i: usize, last: usize, count: u32)
+    requires { ⌜ 4 * i + 3 < length (now work) ⌝ }
+    requires { ⌜ last ≤ 4096 ⌝ }
+    ensures { λ _. ⌜ now (work .exit) ≡ sets (now (work .entry)) (4 * i + 1) (last ∷ count ∷ []) ⌝ }
+{
+    work[4 * i + 1] = last as u32;
+    work[4 * i + 2] = count;
+}
+
+// All items; a closing bracket that nothing opened closes all before it, 256 times at most.
+fn read_items(text: &[u8], tok: &[u32], n: usize, work: &mut [u32], tree: &mut [u32]) -> Wrapped
+    requires { ⌜ TopReady n (now text) (now tok) (now work) (now tree) ⌝ }
+    ensures { λ r. ⌜ Topped (now (text .entry)) (now (tok .entry)) n (now (work .entry)) (now (work .exit)) (now (tree .exit)) r ⌝ }
+{
+    let mut cur = Cursor {
+        pos: 0,
+        depth: 0,
+        takes: 0,
+    };
+    let mut end = 0;
+    let mut count: u32 = 0;
+    let mut first = true;
+    let mut sign = true;
+    let mut wraps: usize = 0;
+    let mut last: usize = 0;
+    'all: loop {
+        let run = extend_intermediates(text, tok, n, work, tree, cur, end, n, false, first, sign);
+        let rc = run.cur;
+        let at = rc.pos;
+        end = run.end;
+        count += run.count;
+        first = false;
+        sign = run.sign;
+        if is_at(tok, work, n, at, 21) {
+            cur = rc.next();
+            if wraps < 256 {
+                note_wrap(work, at, last, count);
+                last = at;
+                count = 1;
+                sign = false;
+                wraps += 1;
+            }
+        } else {
+            cur = rc.look(n);
+            break 'all;
+        }
+    }
+    Wrapped {
+        cur: cur,
+        end: end,
+        count: count,
+        wraps: wraps,
+        last: last,
+    }
+}
+
+// The header of the wrap that the closing bracket at i makes, at `at`.
+fn put_wrap(tok: &[u32], work: &[u32], tree: &mut [u32], at: usize, i: usize)
+    requires { ⌜ Placed (now tok) (now work) i ⌝ }
+    requires { ⌜ at + 13 ≤ length (now tree) ⌝ }
+    ensures { λ _. ⌜ now (tree .exit) ≡ sets (now (tree .entry)) at (wrapWords (sepWord (now (work .entry)) i) (startOf (now (tok .entry)) (now (work .entry)) i) (lenOf (now (tok .entry)) (now (work .entry)) i)) ⌝ }
+{
+    put1(tree, at, 0);
+    put6(tree, at + 1, 13, 0, 0, 0, 0, 0);
+    put6(
+        tree,
+        at + 7,
+        15,
+        0,
+        0,
+        sep_word(work, i),
+        start_at(tok, work, i),
+        len_at(tok, work, i),
+    );
+}
+
+// The headers of the wraps, the last first.
+fn put_wraps(tok: &[u32], work: &[u32], n: usize, tree: &mut [u32], wraps: usize, last: usize)
+    requires { ⌜ Noted n (now tok) (now work) wraps last ⌝ }
+    requires { ⌜ 13 * wraps ≤ length (now tree) ⌝ }
+    ensures { λ _. ⌜ ((p : Noted n (now (tok .entry)) (now (work .entry)) wraps last) → now (tree .exit) ≡ sets (now (tree .entry)) 0 (wrapsWords (now (tok .entry)) (now (work .entry)) (p .list))) ⌝ }
+{
+    let mut i = last;
+    let mut at = 0;
+    let mut k = 0;
+    while k < wraps {
+        put_wrap(tok, work, tree, at, i);
+        i = after_close(work, i);
+        at += 13;
+        k += 1;
+    }
+}
+
+// The wraps around the first `end` words.
+fn wrap_items(
+    tok: &[u32],
+    work: &[u32],
+    n: usize,
+    tree: &mut [u32],
+    end: usize,
+    wraps: usize,
+    last: usize,
+)
+    requires { ⌜ Noted n (now tok) (now work) wraps last ⌝ }
+    requires { ⌜ wraps ≤ 256 ⌝ }
+    requires { ⌜ end + 13 * wraps ≤ length (now tree) ⌝ }
+    ensures { λ _. ⌜ ((p : Noted n (now (tok .entry)) (now (work .entry)) wraps last) → take (end + 13 * wraps) (now (tree .exit)) ≡ wrapsWords (now (tok .entry)) (now (work .entry)) (p .list) ++ take end (now (tree .entry))) ⌝ }
+{
+    if wraps == 0 {
+        return;
+    }
+    shift(tree, end, 13 * wraps);
+    put_wraps(tok, work, n, tree, wraps, last);
+}
+
+// The whole reading of the entries: its tree's words, zeros behind them, and the work words all zero.
+pub(crate) fn parse_entries(
+    text: &[u8],
+    tok: &[u32],
+    n: usize,
+    work: &mut [u32],
+    tree: &mut [u32],
+) -> Reading
+    requires { ⌜ TopReady n (now text) (now tok) (now work) (now tree) ⌝ }
+    ensures { λ r. ⌜ ((I : Input) → Given (now (text .entry)) (now (tok .entry)) n (now (work .entry)) I → Reads I (length (now (tree .entry))) (now (tree .exit)) r) ⌝ }
+    ensures { λ r. ⌜ now (work .exit) ≡ replicate (length (now (work .entry))) 0 ⌝ }
+{
+    let run = read_items(text, tok, n, work, tree);
+    let cur = run.cur;
+    wrap_items(tok, work, n, tree, run.end, run.wraps, run.last);
+    let end = run.end + 13 * run.wraps;
+    clear_from(tree, end);
+    clear_from(work, 0);
+    Reading {
+        takes: cur.takes,
+        end: end,
+        items: run.count,
+    }
+}

@@ -1,0 +1,5 @@
+pub mod Example
+pub mod Puts
+pub mod Fields
+pub mod Printing
+pub mod Decimals

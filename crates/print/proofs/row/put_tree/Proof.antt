@@ -1,0 +1,20 @@
+-- The first line, then the rows of the root.
+use Rattle.print.proofs.Printing.{whole-tree}
+use borrow.Author.Needs.{needs}
+use Rattle.print.proofs.row.put_tree.Statement.{statement}
+use Rattle.print.proofs.row.put_tree.Tie as tie
+
+put-first-requires : tie.Need-put-first-requires
+put-first-requires c κs = search needs
+
+put-row-requires : tie.Need-put-row-requires
+put-row-requires c κs = search needs
+
+same-length : tie.Need-same-length
+same-length c = search needs
+
+returns : tie.Need-returns
+returns c = whole-tree (c .before .before .before .before .before .before .put-first .ensures) (c .before .before .put-row .ensures)
+
+pub put-tree-spec : {M : Type 1} → statement M
+put-tree-spec = tie.close (tie.spec put-first-requires put-row-requires same-length returns)

@@ -1,0 +1,5 @@
+pub mod Decimal
+pub mod Put
+pub mod Print
+pub mod Lines
+pub mod Rows

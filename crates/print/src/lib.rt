@@ -1,0 +1,4 @@
+// The printed tree.
+mod line;
+mod put;
+mod row;

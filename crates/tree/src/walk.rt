@@ -1,0 +1,165 @@
+// One step of a walk over tree words, in preorder: what stands at a place, and where the nodes below it begin. Past the last of them,
+// and past the words behind them, the next node of the same row begins.
+ghost use mathlib.Core.Path.{_≡_};
+ghost use Prim.Native.Nat.{_≤_, _<_};
+ghost use lib.ListN.{length, getD, take, drop};
+ghost use Rattle.tree.specs.Walk.{argumentsOf, belowOf, headedAt, placedAt, stepAt, cellsEnd};
+
+pub struct Opened {
+    // the node's kind; a fraction is 18
+    pub kind: u32,
+    // where its own words begin
+    pub head: usize,
+    // where the nodes below it begin, how many they are, and whether they are items
+    pub from: usize,
+    pub count: usize,
+    pub items: bool,
+    // how many words stand behind them: a matrix's column lines
+    pub tail: usize,
+}
+
+pub enum Step {
+    Node(Opened),
+    // no whole node stands there
+    End,
+}
+
+// The word at i, or 0 past the end.
+pub fn word(words: &[u32], i: usize) -> u32
+    ensures { λ r. ⌜ r ≡ getD (now (words .entry)) i 0 ⌝ }
+{
+    if i < words.len() { words[i] } else { 0 }
+}
+
+fn arguments(script: u32) -> u32
+    ensures { λ r. ⌜ r ≡ argumentsOf script ⌝ }
+    ensures { λ r. ⌜ r ≤ 2 ⌝ }
+{
+    if script == 0 {
+        0
+    } else if script == 3 {
+        2
+    } else {
+        1
+    }
+}
+
+// How many nodes stand below one of this kind whose word 3 is `held`.
+fn below(kind: u32, held: u32) -> u32
+    ensures { λ r. ⌜ r ≡ belowOf kind held ⌝ }
+{
+    if kind < 8 {
+        0
+    } else if kind < 12 {
+        1
+    } else if kind < 13 {
+        2
+    } else if kind < 15 {
+        1 + arguments(held)
+    } else if kind < 18 {
+        held
+    } else {
+        2
+    }
+}
+
+// The node whose own words begin at `head`.
+fn headed(words: &[u32], head: usize) -> Opened
+    requires { ⌜ head ≤ length (now words) ⌝ }
+    ensures { λ r. ⌜ r ≡ headedAt (now (words .entry)) head ⌝ }
+{
+    let kind = word(words, head);
+    let count = below(kind, word(words, head + 3)) as usize;
+    if kind == 16 {
+        Opened {
+            kind: kind,
+            head: head,
+            from: head + 8,
+            count: count,
+            items: false,
+            tail: word(words, head + 7) as usize,
+        }
+    } else {
+        Opened {
+            kind: kind,
+            head: head,
+            from: head + 6,
+            count: count,
+            items: if kind == 15 { true } else { kind == 17 },
+            tail: 0,
+        }
+    }
+}
+
+fn placed(words: &[u32], at: usize, items: bool) -> Opened
+    requires { ⌜ at < length (now words) ⌝ }
+    ensures { λ r. ⌜ r ≡ placedAt (now (words .entry)) at items ⌝ }
+{
+    if items {
+        if word(words, at) == 1 {
+            Opened {
+                kind: 18,
+                head: at,
+                from: at + 1,
+                count: 2,
+                items: false,
+                tail: 0,
+            }
+        } else {
+            headed(words, at + 1)
+        }
+    } else {
+        headed(words, at)
+    }
+}
+
+// The node at a place of a row of items, or of nodes that are none.
+pub fn node_at(words: &[u32], at: usize, items: bool) -> Step
+    ensures { λ r. ⌜ r ≡ stepAt (now (words .entry)) at items ⌝ }
+{
+    if at < words.len() {
+        let o = placed(words, at, items);
+        if o.from <= words.len() {
+            Step::Node(o)
+        } else {
+            Step::End
+        }
+    } else {
+        Step::End
+    }
+}
+
+// The end of `count` cells.
+fn cells_end(words: &[u32], from: usize, count: usize) -> usize
+    ensures { λ r. ⌜ r ≡ cellsEnd (now (words .entry)) count from ⌝ }
+{
+    let mut at = from;
+    let mut left = count;
+    while left > 0 {
+        if at < words.len() {
+            at = at + 6 + word(words, at + 4) as usize;
+            left -= 1;
+        } else {
+            return at;
+        }
+    }
+    at
+}
+
+// The column lines of a matrix.
+pub fn column_lines(words: &[u32], o: Opened) -> &[u32]
+    ensures { λ r. ⌜ now r ≡ take (o .tail) (drop (cellsEnd (now (words .entry)) (o .count) (o .from)) (now (words .entry))) ⌝ }
+{
+    let n = o.tail;
+    let e = cells_end(words, o.from, o.count);
+    let len = words.len();
+    if e > len {
+        return &words[len..];
+    }
+    if n <= len - e {
+        let f = e + n;
+        &words[e..f]
+    } else {
+        &words[e..]
+    }
+}
