@@ -11,7 +11,8 @@ use Rattle.tokenizer.proofs.Cases.{by-test, by-eq, by-lt}
 use Rattle.lists.proofs.Order.{text-long, text-not-ascii, count-large, table-short, to-tokens}
 use Rattle.lists.proofs.Tokens.{refusalFrom, refusal-all, kind-refused, span-refused, space-refused, space-passed, other-passed}
 
-met : {A : Type 0} {o : Option ℕ} {k : ℕ} → o ≡ none → o ≡ some k → A
+-- an answer is not both
+pub met : {A : Type 0} {o : Option ℕ} {k : ℕ} → o ≡ none → o ≡ some k → A
 met p q = let z : _≡_ {A = ℕ} 0 1 = cc in absurd (omega arith)
 
 -- token i has a kind and a span of the text

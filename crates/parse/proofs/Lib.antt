@@ -14,3 +14,6 @@ pub mod Rows
 pub mod Matrices
 pub mod Tops
 pub mod Wrapping
+pub mod Records
+pub mod Calls
+pub mod Theorems

@@ -4,3 +4,6 @@ pub mod Meet
 pub mod Columns
 pub mod Matrix
 pub mod Top
+pub mod Call
+pub mod Checks
+pub mod Answers

@@ -1,7 +1,164 @@
-// The parser of asciimath-parser over a token list: parse.rs.
+// The parser of asciimath-parser over a token list: parse.rs, and its calls on a text and on a token list.
 mod columns;
 mod cursor;
 mod entry;
 mod readers;
 mod top;
 mod write;
+
+use entries::Prepared;
+use entries::prepare;
+use lists::Checked;
+use lists::check_list;
+use tokenizer::Counted;
+use tokenizer::Tokenized;
+use tokenizer::count_tokens;
+use tokenizer::tokenize;
+use top::parse_entries;
+ghost use mathlib.Core.Path.{_≡_};
+ghost use mathlib.Core.Option.{none};
+ghost use Prim.Native.Nat.{_+_, _*_, _≤_};
+ghost use lib.ListN.{length};
+ghost use Rattle.tokenizer.specs.Refusals.{listRefusal};
+ghost use Rattle.tokenizer.specs.Table.{tokenList};
+ghost use Rattle.parse.specs.Call.{answerOf, listAnswerOf, roomRefusal, parsedText, parsedTokens};
+ghost use Rattle.parse.specs.Checks.{Lacks, Fits};
+
+// What the reading of a text answers.
+pub enum Parsed {
+    // Tokens with Space, takes, the root's items, and whether it has none.
+    Read {
+        tokens: usize,
+        takes: u64,
+        items: u32,
+        blank: bool,
+    },
+    // The refusal's number.
+    Refused(u8),
+}
+
+// What the reading of a token list answers.
+pub enum ParsedTokens {
+    Read { takes: u64, items: u32, blank: bool },
+    Refused(u8),
+}
+
+// Whether the buffers are long enough, or the number of the refusal.
+enum Room {
+    Enough,
+    Refused(u8),
+}
+
+// Refusals 8 and 9 for n tokens other than Space, by the buffers' words.
+fn check_room(n: usize, work: usize, tree: usize) -> Room
+    requires { ⌜ n ≤ 4096 ⌝ }
+    ensures { λ r. ⌜ Lacks n work tree r ⌝ }
+{
+    if work < 4 * (n + 1) {
+        return Room::Refused(8);
+    }
+    if tree < 32 * (n + 1) {
+        return Room::Refused(9);
+    }
+    Room::Enough
+}
+
+// Refusals 1, 2, 7, 8 and 9. Buffers that are long enough for any text of this length need no count; there 1 and 2 are left open.
+fn check_buffers(text: &[u8], table: usize, work: usize, tree: usize) -> Room
+    ensures { λ r. ⌜ Fits (now (text .entry)) table work tree r ⌝ }
+{
+    let len = text.len();
+    if len <= table / 3 && len < work / 4 && len < tree / 32 {
+        return Room::Enough;
+    }
+    match count_tokens(text) {
+        Counted::Refused(k) => Room::Refused(k),
+        Counted::Tokens { all, others } => {
+            if table < 3 * all {
+                return Room::Refused(7);
+            }
+            check_room(others, work, tree)
+        }
+    }
+}
+
+// The reading of an accepted list for which the buffers are long enough.
+fn read_list(
+    text: &[u8],
+    table: &[u32],
+    count: usize,
+    work: &mut [u32],
+    tree: &mut [u32],
+) -> ParsedTokens
+    requires { ⌜ listRefusal (now text) count (now table) ≡ none ⌝ }
+    requires { ⌜ roomRefusal (tokenList count (now table)) (length (now work)) (length (now tree)) ≡ none ⌝ }
+    ensures { λ r.
+        ⌜
+        (listAnswerOf r, now (work .exit), now (tree .exit))
+        ≡ parsedTokens (now (text .entry)) (now (table .entry)) count (now (work .entry)) (now (tree .entry))
+        ⌝ }
+{
+    match prepare(table, count, work) {
+        Prepared::Refused(k) => ParsedTokens::Refused(k),
+        Prepared::Entries(n) => {
+            let r = parse_entries(text, table, n, work, tree);
+            ParsedTokens::Read {
+                takes: r.takes,
+                items: r.items,
+                blank: r.items == 0,
+            }
+        }
+    }
+}
+
+// Reads a list of `count` tokens over a text: the tree's words, or a refusal by 1 to 6, 8 or 9.
+pub fn parse_tokens(
+    text: &[u8],
+    table: &[u32],
+    count: usize,
+    work: &mut [u32],
+    tree: &mut [u32],
+) -> ParsedTokens
+    ensures { λ r.
+        ⌜
+        (listAnswerOf r, now (work .exit), now (tree .exit))
+        ≡ parsedTokens (now (text .entry)) (now (table .entry)) count (now (work .entry)) (now (tree .entry))
+        ⌝ }
+{
+    match check_list(text, table, count) {
+        Checked::Refused(k) => ParsedTokens::Refused(k),
+        Checked::Accepted { others } => match check_room(others, work.len(), tree.len()) {
+            Room::Refused(k) => ParsedTokens::Refused(k),
+            Room::Enough => read_list(text, table, count, work, tree),
+        },
+    }
+}
+
+// Reads a text: its tokens, its tree's words, or a refusal by 1, 2, 7, 8 or 9. Nothing is written before all are decided.
+pub fn parse(text: &[u8], table: &mut [u32], work: &mut [u32], tree: &mut [u32]) -> Parsed
+    ensures { λ r.
+        ⌜
+        (answerOf r, now (table .exit), now (work .exit), now (tree .exit))
+        ≡ parsedText (now (text .entry)) (now (table .entry)) (now (work .entry)) (now (tree .entry))
+        ⌝ }
+{
+    match check_buffers(text, table.len(), work.len(), tree.len()) {
+        Room::Refused(k) => Parsed::Refused(k),
+        Room::Enough => match tokenize(text, table) {
+            Tokenized::Refused(k) => Parsed::Refused(k),
+            Tokenized::Tokens(tokens) => match read_list(text, table, tokens, work, tree) {
+                ParsedTokens::Refused(k) => Parsed::Refused(k),
+                ParsedTokens::Read {
+                    takes,
+                    items,
+                    blank,
+                } => Parsed::Read {
+                    tokens,
+                    takes,
+                    items,
+                    blank,
+                },
+            },
+        },
+    }
+}

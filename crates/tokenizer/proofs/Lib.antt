@@ -6,9 +6,9 @@ pub mod Moves
 pub mod Tokens
 pub mod Order
 pub mod Spaces
-pub mod TokenList
 pub mod Numbers
 pub mod Accepted
+pub mod TokenList
 pub mod Sorted
 pub mod Flat
 pub mod Compared
@@ -16,4 +16,5 @@ pub mod Lookup
 pub mod RuleCases
 pub mod Writing
 pub mod Calls
+pub mod Counting
 pub mod Theorems

@@ -90,6 +90,13 @@ module _ (text : List ℕ) (at : ℕ) where
         by-rules OfOthers rule5 text at (rw (no-blanks h) tt) spelling-others number-others quotation-others
         (s .no-space text at l)
 
+    -- no Space waits
+    pub waiting-others : Sound rule5 → at < length text → NoSpace (readAt rule5 text at .waiting)
+    waiting-others s l =
+        by-lt at (runEnd blank text at)
+        (λ b. rw (read-blanks b) tt)
+        (λ b. read-others s l b .1)
+
 spaced-append : (ts us : List Lexeme) → NoSpace ts → Spaced false us → Spaced false (ts ++ us)
 spaced-append [] us n p = p
 spaced-append (t ∷ ts) us n p = (refl, rw (n .0) (spaced-append ts us (n .1) p))

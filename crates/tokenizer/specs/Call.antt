@@ -1,4 +1,4 @@
--- The call on a text: what it answers, and what it leaves in the token table.
+-- The calls on a text: what they answer, and what is left in the token table.
 use mathlib.Core.Bool.{Bool, true, false}
 use mathlib.Core.List.{List, [], _∷_, _++_}
 use mathlib.Core.Option.{Option, none, some}
@@ -7,8 +7,10 @@ use lib.Dec.{ltb}
 use lib.ListN.{length, drop}
 use Rattle.tokenizer.specs.declared.Tokenized.{Tokenized}
 use Rattle.tokenizer.specs.declared.Tokenized.the-variants.{Tokens, Refused}
+use Rattle.tokenizer.specs.declared.Counted.{Counted}
+use Rattle.tokenizer.specs.declared.Counted.the-variants as count
 use Rattle.tokenizer.specs.Rules.{tokens}
-use Rattle.tokenizer.specs.Table.{tableWords}
+use Rattle.tokenizer.specs.Table.{tableWords, countOthers}
 use Rattle.tokenizer.specs.Refusals.{Answer, accepted, refused, textRefusal}
 
 -- the code's answer in the words of document 01
@@ -28,4 +30,16 @@ tokenized text table =
             | false ↦
                 (accepted (length (tokens text) ∷ []), tableWords (tokens text) ++ drop (3 * length (tokens text)) table)
           ]
+    ]
+
+abbrev pub countOf : Counted → Answer
+countOf (count.Tokens all others) = accepted (all ∷ others ∷ [])
+countOf (count.Refused k) = refused k
+
+-- "For text: 1, 2": an accepted text's tokens, and n, "the tokens other than Space"
+unfoldable pub counted : List ℕ → Answer
+counted text =
+    elim (textRefusal text) [
+      | some k ↦ refused k
+      | none ↦ accepted (length (tokens text) ∷ countOthers (tokens text) ∷ [])
     ]

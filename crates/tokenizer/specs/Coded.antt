@@ -3,6 +3,7 @@ use mathlib.Core.Bool.{Bool, true, false}
 use mathlib.Core.List.{List, [], _∷_, _++_}
 use mathlib.Core.Option.{Option, none, some}
 use Prim.Native.Nat.{ℕ, _+_, _*_}
+use lib.Dec.{eqb}
 use lib.ListN.{length, getD, take, drop}
 use Rattle.tokenizer.specs.declared.rules.Piece.{Piece}
 use Rattle.tokenizer.specs.declared.rules.Lexed.{Lexed}
@@ -68,3 +69,7 @@ withWords table at words = take at table ++ words ++ drop (at + length words) ta
 abbrev pub ifWritten : Bool → List ℕ → List ℕ → List ℕ
 ifWritten true old new = new
 ifWritten false old new = old
+
+-- how many tokens of a read are other than Space, by the first one's kind and how many wait
+unfoldable pub othersIn : ℕ → ℕ → ℕ
+othersIn kind waiting = elim (eqb kind 23) [ true ↦ waiting | false ↦ waiting + 1 ]

@@ -9,11 +9,12 @@ use spellings::BYTES;
 use spellings::FIRST;
 use spellings::KINDS;
 use spellings::STARTS;
+use table::count_list;
 use table::has_room;
 use table::list_tokens;
 ghost use mathlib.Core.Path.{_≡_};
 ghost use Rattle.tokenizer.specs.Refusals.{ascii};
-ghost use Rattle.tokenizer.specs.Call.{answerOf, tokenized};
+ghost use Rattle.tokenizer.specs.Call.{answerOf, tokenized, countOf, counted};
 
 // How many tokens the text has, or the number of the refusal.
 pub enum Tokenized {
@@ -52,4 +53,31 @@ pub fn tokenize(text: &[u8], table: &mut [u32]) -> Tokenized
         return Tokenized::Refused(7);
     }
     Tokenized::Tokens(list_tokens(&bytes, &starts, &kinds, &first, text, table, true))
+}
+
+// How many tokens the text has, and how many of them are other than Space; or the number of the refusal.
+pub enum Counted {
+    Tokens { all: usize, others: usize },
+    Refused(u8),
+}
+
+// Counts the text's tokens, or refuses it by 1 or 2.
+pub fn count_tokens(text: &[u8]) -> Counted
+    ensures { λ r. ⌜ countOf r ≡ counted (now (text .entry)) ⌝ }
+{
+    if 4096 < text.len() {
+        return Counted::Refused(1);
+    }
+    if !is_ascii(text) {
+        return Counted::Refused(2);
+    }
+    let bytes = BYTES;
+    let starts = STARTS;
+    let kinds = KINDS;
+    let first = FIRST;
+    let counts = count_list(&bytes, &starts, &kinds, &first, text);
+    Counted::Tokens {
+        all: counts.all,
+        others: counts.others,
+    }
 }

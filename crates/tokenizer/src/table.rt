@@ -10,8 +10,8 @@ ghost use lib.Dec.{leb};
 ghost use lib.ListN.{length, drop};
 ghost use Rattle.tokenizer.specs.Constants.{Lent};
 ghost use Rattle.tokenizer.specs.Rules.{tokens};
-ghost use Rattle.tokenizer.specs.Table.{tableWords};
-ghost use Rattle.tokenizer.specs.Coded.{pieceWords, lexedWords, withWords, ifWritten};
+ghost use Rattle.tokenizer.specs.Table.{tableWords, countOthers};
+ghost use Rattle.tokenizer.specs.Coded.{pieceWords, lexedWords, withWords, ifWritten, othersIn};
 
 // Writes a token as the n-th.
 fn put_piece(table: &mut [u32], n: usize, p: Piece)
@@ -113,4 +113,50 @@ pub(crate) fn has_room(
         return true;
     }
     3 * list_tokens(bytes, starts, kinds, first, text, table, false) <= words
+}
+
+// How many tokens there are, and how many of them are other than Space.
+pub(crate) struct Counts {
+    pub all: usize,
+    pub others: usize,
+}
+
+// How many tokens of a read are other than Space: none that waits is one.
+fn others_in(kind: u32, waiting: usize) -> usize
+    requires { ⌜ waiting ≤ 3 ⌝ }
+    ensures { λ r. ⌜ r ≡ othersIn kind waiting ⌝ }
+{
+    if kind == 23 { waiting } else { waiting + 1 }
+}
+
+// Counts the text's tokens, and writes none.
+pub(crate) fn count_list(
+    bytes: &[u8; 1809],
+    starts: &[u16; 430],
+    kinds: &[u8; 429],
+    first: &[u16; 129],
+    text: &[u8],
+) -> Counts
+    requires { ⌜ Lent (now bytes) (now starts) (now kinds) (now first) × (length (now text) ≤ 4096) ⌝ }
+    ensures { λ r.
+        ⌜
+        (r .all ≡ length (tokens (now (text .entry)))) × (r .others ≡ countOthers (tokens (now (text .entry))))
+        ⌝ }
+{
+    let mut all = 0;
+    let mut others = 0;
+    let mut at = 0;
+    while at < text.len() {
+        let r = read_at(bytes, starts, kinds, first, text, at);
+        let head = r.first;
+        let waiting = r.count;
+        let next = r.next;
+        all += waiting + 1;
+        others += others_in(head.kind, waiting);
+        at = next;
+    }
+    Counts {
+        all: all,
+        others: others,
+    }
 }

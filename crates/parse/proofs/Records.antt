@@ -1,0 +1,90 @@
+-- The records of an accepted list are what the whole reading needs, and it reads the list's entries.
+use Prim.Native.Nat.{ℕ, zero, suc, _+_, _-_, _*_, _≤_, _<_}
+use mathlib.Core.Path.{_≡_, refl, sym, _∙_}
+use mathlib.Core.Bool.{Bool, true, false}
+use mathlib.Core.List.{List, _++_}
+use mathlib.Core.Option.{Option, none, some}
+use native.Mathlib.Omega.{arith}
+use lib.ListN.{length, drop}
+use borrow.Author.Tests.{eq-eqb}
+use Rattle.tokenizer.specs.declared.token.Token.the-variants as token
+use Rattle.tokenizer.specs.Kinds.{numberOf}
+use Rattle.tokenizer.specs.Lexeme.{Lexeme}
+use Rattle.tokenizer.specs.Table.{tokenList, countOthers}
+use Rattle.tokenizer.specs.Refusals.{listRefusal}
+use Rattle.tokenizer.proofs.TokenList.{others-few}
+use Rattle.tree.specs.Tree.{nowhere}
+use Rattle.tree.specs.Words.{pick}
+use Rattle.reading.specs.Entries.{is, entries, hasSep}
+use Rattle.reading.specs.Reading.{closeOf}
+use Rattle.reading.proofs.Theorems.{entries-count}
+use Rattle.lists.proofs.Accepted.{accepted}
+use Rattle.entries.specs.Prepared.{workWords}
+use Rattle.entries.specs.Record as words
+use Rattle.entries.proofs.Recorded.{Recorded, recorded, behind}
+use Rattle.parse.specs.Entry.{placeOf, afterClose, sepWord, marksOf, kindOf, startOf, lenOf, spaceWord, spaceStart, spaceLen, bit}
+use Rattle.parse.specs.Meet.{Input, Stands, Linked, Given, linkNumber}
+use Rattle.parse.specs.Top.{TopReady}
+
+-- the entries of the list, over the text
+abbrev pub inputOf : List ℕ → List Lexeme → Input
+inputOf text ts = record { text = text; es = entries nowhere ts }
+
+same-bit : (b : Bool) → pick b 1 0 ≡ bit b
+same-bit true = refl
+same-bit false = refl
+
+same-link : (o : Option ℕ) → behind o ≡ linkNumber o
+same-link none = refl
+same-link (some k) = refl
+
+module _ (text table : List ℕ) (count : ℕ) (ok : listRefusal text count table ≡ none) (K rest : List ℕ)
+    (work : K ≡ workWords (tokenList count table) ++ rest) where
+  at : (i : ℕ) → i < countOthers (tokenList count table) → Recorded count table K (entries nowhere (tokenList count table)) i
+  at i h = recorded count table (λ j l. accepted text count table ok .sound j l .kind) K rest work i h
+
+  place : (i : ℕ) → i < countOthers (tokenList count table) → placeOf K i < count
+  unfolding placeOf words.placeOf
+  place i h = at i h .inside
+
+  stands : (i : ℕ) → i < countOthers (tokenList count table) → Stands table K (entries nowhere (tokenList count table)) i
+  unfolding placeOf kindOf startOf lenOf spaceWord spaceStart spaceLen words.placeOf words.kindOf words.startOf words.lenOf words.spaceWord words.spaceStart words.spaceLen
+  stands i h =
+      let r = at i h in
+      record {
+        entry = r .entry;
+        there = r .there;
+        row = record { kind = r .kind; start = r .start; len = r .len; space = r .space; spaceSize = r .spaceSize };
+      }
+
+  linked : (i : ℕ) → i < countOthers (tokenList count table) → kindOf table K i ≡ 20 → Linked K (inputOf text (tokenList count table)) i
+  unfolding placeOf kindOf afterClose sepWord words.placeOf words.kindOf words.afterClose words.sepWord is
+  linked i h k =
+      let r = at i h in
+      let o : is token.OpenBracket (r .entry) ≡ true = eq-eqb 20 (numberOf (r .entry .token)) (sym k ∙ r .kind) in
+      record { close = r .close text o ∙ same-link (closeOf text (entries nowhere (tokenList count table)) i); sep = r .sep o ∙ same-bit (hasSep zero (drop (suc i) (entries nowhere (tokenList count table)))) }
+
+  pub given : Given text table (countOthers (tokenList count table)) K (inputOf text (tokenList count table))
+  given = record { text = refl; size = entries-count nowhere (tokenList count table); stands = stands; linked = linked }
+
+  spans : (i : ℕ) → i < countOthers (tokenList count table) → startOf table K i + lenOf table K i ≤ length text
+  unfolding startOf lenOf
+  spans i h = accepted text count table ok .sound (placeOf K i) (place i h) .span
+
+  pub top-ready : 4 * countOthers (tokenList count table) ≤ length K → (tree : List ℕ) → 32 * (countOthers (tokenList count table) + 1) ≤ length tree
+      → TopReady (countOthers (tokenList count table)) text table K tree
+  unfolding marksOf words.marksOf
+  top-ready fit tree room =
+      let a = accepted text count table ok in
+      record {
+        safe =
+            record {
+              few = omega (arith, a .few, others-few count table);
+              placed = λ i h. record { fit = omega arith; inside = omega (arith, place i h, a .words) };
+              spans = spans;
+            };
+        input = inputOf text (tokenList count table);
+        given = given;
+        blank = λ i h. at i h .marks;
+        room = room;
+      }

@@ -1,0 +1,24 @@
+-- What is promised of an accepted call's answer: takes, the root's items and blank, and the words it leaves in the tree buffer, where
+-- the list ts was read over the text.
+use Prim.Native.Nat.{ℕ, _+_, _*_, _≤_}
+use mathlib.Core.Path.{_≡_}
+use mathlib.Core.List.{List}
+use Rattle.tokenizer.specs.Lexeme.{Lexeme}
+use Rattle.tokenizer.specs.Table.{countOthers}
+use Rattle.tree.specs.Decode.{decode}
+use Rattle.reading.specs.Reading.{readTokens, readPlain, blank}
+use Rattle.reading.specs.Grammar.{Settled, treeE}
+use Rattle.reading.specs.Strip.{strip}
+use Rattle.parse.specs.Entry.{bit}
+
+pub record Answered (text : List ℕ) (ts : List Lexeme) (takes items blankness : ℕ) (words : List ℕ) : Type 0 where
+  -- "The whole reading of any list is what this definition gives for it, takes and tree."
+  pub whole-takes : takes ≡ readTokens text ts .takes
+  pub whole-tree : decode items words ≡ readTokens text ts .tree
+  pub whole-blank : blankness ≡ bit (blank text (decode items words))
+  -- "the whole reading of condition 2 takes tokens at most 32 × (n + 1) × (n + 1) times, takes given back included"
+  pub few-takes : takes ≤ 32 * ((countOthers ts + 1) * (countOthers ts + 1))
+  -- "where n is at most 127, its tree equals the tree read without remembering any failed attempt"
+  pub memory : countOthers ts ≤ 127 → decode items words ≡ readPlain text ts .tree
+  -- "There the tree is that derivation, Space items aside."
+  pub settled : (s : Settled ts) → strip (decode items words) ≡ treeE (s .derivation)

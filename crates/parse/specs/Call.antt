@@ -1,0 +1,90 @@
+-- The calls on a text and on a token list: what they answer, and what they leave in the lent buffers.
+use mathlib.Core.Bool.{true, false}
+use mathlib.Core.List.{List, [], _∷_, _++_}
+use mathlib.Core.Option.{Option, none, some}
+use Prim.Native.Nat.{ℕ, _+_, _-_, _*_}
+use lib.Dec.{ltb}
+use lib.ListN.{length, drop, replicate}
+use Rattle.tokenizer.specs.Lexeme.{Lexeme}
+use Rattle.tokenizer.specs.Rules.{tokens}
+use Rattle.tokenizer.specs.Table.{tableWords, tokenList, countOthers}
+use Rattle.tokenizer.specs.Refusals.{Answer, accepted, refused, textRefusal, listRefusal}
+use Rattle.tree.specs.Tree.{count}
+use Rattle.tree.specs.Words.{encodeItems}
+use Rattle.reading.specs.Reading.{readTokens, blank}
+use Rattle.parse.specs.declared.Parsed.{Parsed}
+use Rattle.parse.specs.declared.Parsed.the-variants as parsed
+use Rattle.parse.specs.declared.ParsedTokens.{ParsedTokens}
+use Rattle.parse.specs.declared.ParsedTokens.the-variants as list
+use Rattle.parse.specs.Entry.{bit}
+
+-- The code's answers in the words of document 01. Blank is 1 or 0.
+abbrev pub answerOf : Parsed → Answer
+answerOf (parsed.Read tokens takes items blank) = accepted (tokens ∷ takes ∷ items ∷ bit blank ∷ [])
+answerOf (parsed.Refused k) = refused k
+
+abbrev pub listAnswerOf : ParsedTokens → Answer
+listAnswerOf (list.Read takes items blank) = accepted (takes ∷ items ∷ bit blank ∷ [])
+listAnswerOf (list.Refused k) = refused k
+
+-- "Work needs 4 × (n + 1) words, tree 32 × (n + 1)": "8 work too short; 9 tree too short". The buffers have this many words.
+unfoldable pub roomRefusal : List Lexeme → ℕ → ℕ → Option ℕ
+roomRefusal ts work tree =
+    let n = countOthers ts in
+    elim (ltb work (4 * (n + 1))) [
+      | true ↦ some 8
+      | false ↦
+          elim (ltb tree (32 * (n + 1))) [ true ↦ some 9 | false ↦ none ]
+    ]
+
+-- "For text: 1, 2, 7, 8, 9, 10, each where the call has that buffer." "7 token table shorter than 3 words a token"
+unfoldable pub parseRefusal : List ℕ → ℕ → ℕ → ℕ → Option ℕ
+parseRefusal text table work tree =
+    elim (textRefusal text) [
+      | some k ↦ some k
+      | none ↦
+          elim (ltb table (3 * length (tokens text))) [ true ↦ some 7 | false ↦ roomRefusal (tokens text) work tree ]
+    ]
+
+-- "For a token list: 1, 2, 3, then token by token 4, 5, 6, then 8, 9."
+unfoldable pub parseTokensRefusal : List ℕ → List ℕ → ℕ → ℕ → ℕ → Option ℕ
+parseTokensRefusal text table count work tree =
+    elim (listRefusal text count table) [ some k ↦ some k | none ↦ roomRefusal (tokenList count table) work tree ]
+
+-- What an accepted reading of a list answers: takes, the root's items, and "blank".
+unfoldable pub values : List ℕ → List Lexeme → List ℕ
+values text ts =
+    let r = readTokens text ts in r .takes ∷ count (r .tree) ∷ bit (blank text (r .tree)) ∷ []
+
+-- "After an accepted reading work is all zero, tree words past the tree's end are zero": what it leaves in buffers of this many
+-- words
+unfoldable pub workAfter : ℕ → List ℕ
+workAfter work = replicate work 0
+
+unfoldable pub treeAfter : List ℕ → List Lexeme → ℕ → List ℕ
+treeAfter text ts tree =
+    let words = encodeItems (readTokens text ts .tree) in words ++ replicate (tree - length words) 0
+
+-- The call on a text: the answer, and the buffers after it. A refusal changes nothing; table words past the list are unchanged.
+unfoldable pub parsedText : List ℕ → List ℕ → List ℕ → List ℕ → Answer × List ℕ × List ℕ × List ℕ
+parsedText text table work tree =
+    elim (parseRefusal text (length table) (length work) (length tree)) [
+      | some k ↦ (refused k, table, work, tree)
+      | none ↦
+          let ts = tokens text in (
+            accepted (length ts ∷ values text ts),
+            tableWords ts ++ drop (3 * length ts) table,
+            workAfter (length work),
+            treeAfter text ts (length tree),
+          )
+    ]
+
+-- The call on a list of `count` tokens in a table, which it reads only.
+unfoldable pub parsedTokens : List ℕ → List ℕ → ℕ → List ℕ → List ℕ → Answer × List ℕ × List ℕ
+parsedTokens text table count work tree =
+    elim (parseTokensRefusal text table count (length work) (length tree)) [
+      | some k ↦ (refused k, work, tree)
+      | none ↦
+          let ts = tokenList count table in
+          (accepted (values text ts), workAfter (length work), treeAfter text ts (length tree))
+    ]
