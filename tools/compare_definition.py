@@ -147,7 +147,7 @@ def main():
             left.append(f"readTokens ({data}) ({lex})" if toks is not None else f"readText ({data})")
             right.append(f"record {{ tree = {tree_term(lines[1:])}; takes = {first['takes']} }}")
         with open(os.path.join(base, "specs", name + ".antt"), "w", encoding="utf-8") as f:
-            f.write(uses + "\nuse Rattle.tokenizer.specs.declared.token.Token.the-variants as token\n")
+            f.write(uses + "\nuse Rattle.tokens.specs.declared.token.Token.the-variants as token\n")
             f.write("\nabbrev at : ℕ → ℕ → Span\nat s n = record { start = s; len = n }\n\n")
             f.write("cases : _≡_ {A = List Reading}\n    (" + " ∷\n    ".join(left) + " ∷ [])\n    (")
             f.write(" ∷\n    ".join(right) + " ∷ [])\nunfolding " + opened + "\ncases = refl\n")

@@ -1,33 +1,131 @@
-// The reader for programs in C and Rust: its calls with plain numbers for answers.
+// The reader for programs in C and Rust: its calls with plain numbers for answers. Each returns 0 and puts its values into the lent
+// answer, as many as it has words for, or returns the number of a refusal and leaves the answer as it was.
+use parse::Parsed;
+use parse::ParsedTokens;
+use parse::parse;
+use parse::parse_tokens;
+use tokenizer::Counted;
 use tokenizer::Tokenized;
+use tokenizer::count_tokens;
 use tokenizer::tokenize;
 ghost use mathlib.Core.Path.{_≡_};
-ghost use Rattle.tokenizer.specs.Call.{tokenized};
-ghost use Rattle.asciimath.specs.Exported.{exported};
+ghost use Rattle.tokenizer.specs.Call.{tokenized, counted};
+ghost use Rattle.parse.specs.Call.{parsedText, parsedTokens};
+ghost use Rattle.asciimath.specs.Exported.{codeOf, valuesIn};
+ghost use lib.ListN.{set};
 
-fn widen(n: usize) -> u64
-    ensures { λ r. ⌜ r ≡ n ⌝ }
+fn put(answer: &mut [u64], i: usize, value: u64)
+    ensures { λ _. ⌜ now (answer .exit) ≡ set (now (answer .entry)) i value ⌝ }
 {
-    n as u64
+    if i < answer.len() {
+        answer[i] = value;
+    }
 }
 
-fn number(k: u8) -> u64
-    ensures { λ r. ⌜ r ≡ k ⌝ }
-{
-    k as u64
-}
-
-// Writes the text's token list into the table and answers the number of tokens; 2^32 + k for refusal k, which changes nothing.
+// Writes the text's token list into the table. Values: tokens.
 #[no_mangle]
-pub extern "C" fn asciimath_tokens(text: &[u8], table: &mut [u32]) -> u64
+pub extern "C" fn asciimath_tokens(text: &[u8], table: &mut [u32], answer: &mut [u64]) -> u32
     ensures { λ r.
         ⌜
-        (r ≡ exported (tokenized (now (text .entry)) (now (table .entry)) .0))
+        (r ≡ codeOf (tokenized (now (text .entry)) (now (table .entry)) .0))
         × (now (table .exit) ≡ tokenized (now (text .entry)) (now (table .entry)) .1)
+        × (now (answer .exit) ≡ valuesIn (tokenized (now (text .entry)) (now (table .entry)) .0) (now (answer .entry)))
         ⌝ }
 {
     match tokenize(text, table) {
-        Tokenized::Tokens(n) => widen(n),
-        Tokenized::Refused(k) => 4294967296 + number(k),
+        Tokenized::Refused(k) => k as u32,
+        Tokenized::Tokens(tokens) => {
+            put(answer, 0, tokens as u64);
+            0
+        }
+    }
+}
+
+// Counts the text's tokens. Values: tokens, tokens other than Space.
+#[no_mangle]
+pub extern "C" fn asciimath_count(text: &[u8], answer: &mut [u64]) -> u32
+    ensures { λ r.
+        ⌜
+        (r ≡ codeOf (counted (now (text .entry))))
+        × (now (answer .exit) ≡ valuesIn (counted (now (text .entry))) (now (answer .entry)))
+        ⌝ }
+{
+    match count_tokens(text) {
+        Counted::Refused(k) => k as u32,
+        Counted::Tokens { all, others } => {
+            put(answer, 0, all as u64);
+            put(answer, 1, others as u64);
+            0
+        }
+    }
+}
+
+// Reads a text. Values: tokens, takes, items of the root, blank.
+#[no_mangle]
+pub extern "C" fn asciimath_parse(
+    text: &[u8],
+    table: &mut [u32],
+    work: &mut [u32],
+    tree: &mut [u32],
+    answer: &mut [u64],
+) -> u32
+    ensures { λ r.
+        ⌜
+        (r ≡ codeOf (parsedText (now (text .entry)) (now (table .entry)) (now (work .entry)) (now (tree .entry)) .0))
+        × (now (table .exit) ≡ parsedText (now (text .entry)) (now (table .entry)) (now (work .entry)) (now (tree .entry)) .1)
+        × (now (work .exit) ≡ parsedText (now (text .entry)) (now (table .entry)) (now (work .entry)) (now (tree .entry)) .2)
+        × (now (tree .exit) ≡ parsedText (now (text .entry)) (now (table .entry)) (now (work .entry)) (now (tree .entry)) .3)
+        × (now (answer .exit)
+        ≡ valuesIn (parsedText (now (text .entry)) (now (table .entry)) (now (work .entry)) (now (tree .entry)) .0) (now (answer .entry)))
+        ⌝ }
+{
+    match parse(text, table, work, tree) {
+        Parsed::Refused(k) => k as u32,
+        Parsed::Read {
+            tokens,
+            takes,
+            items,
+            blank,
+        } => {
+            put(answer, 0, tokens as u64);
+            put(answer, 1, takes);
+            put(answer, 2, items as u64);
+            put(answer, 3, blank as u64);
+            0
+        }
+    }
+}
+
+// Reads a list of `count` tokens over a text. Values: takes, items of the root, blank.
+#[no_mangle]
+pub extern "C" fn asciimath_parse_tokens(
+    text: &[u8],
+    table: &[u32],
+    count: usize,
+    work: &mut [u32],
+    tree: &mut [u32],
+    answer: &mut [u64],
+) -> u32
+    ensures { λ r.
+        ⌜
+        (r ≡ codeOf (parsedTokens (now (text .entry)) (now (table .entry)) count (now (work .entry)) (now (tree .entry)) .0))
+        × (now (work .exit) ≡ parsedTokens (now (text .entry)) (now (table .entry)) count (now (work .entry)) (now (tree .entry)) .1)
+        × (now (tree .exit) ≡ parsedTokens (now (text .entry)) (now (table .entry)) count (now (work .entry)) (now (tree .entry)) .2)
+        × (now (answer .exit)
+        ≡ valuesIn (parsedTokens (now (text .entry)) (now (table .entry)) count (now (work .entry)) (now (tree .entry)) .0) (now (answer .entry)))
+        ⌝ }
+{
+    match parse_tokens(text, table, count, work, tree) {
+        ParsedTokens::Refused(k) => k as u32,
+        ParsedTokens::Read {
+            takes,
+            items,
+            blank,
+        } => {
+            put(answer, 0, takes);
+            put(answer, 1, items as u64);
+            put(answer, 2, blank as u64);
+            0
+        }
     }
 }

@@ -4,7 +4,7 @@ use mathlib.Core.Path.{_≡_}
 use mathlib.Core.List.{List, _++_}
 use lib.ListN.{length, drop}
 use borrow.Author.Tests.{lt-ltb, le-ltb}
-use Rattle.tokenizer.specs.Table.{tokenList, countOthers}
+use Rattle.tokens.specs.Table.{tokenList, countOthers}
 use Rattle.entries.specs.declared.Prepared.the-variants.{Entries, Refused}
 use Rattle.entries.specs.Prepared.{workWords, prepared}
 

@@ -9,14 +9,14 @@ use lib.Dec.{eqb}
 use lib.ListN.{length, getD, drop, length-append, length-drop, List·getD-append}
 use lib.Seq.{sets, length-sets, getD-drop, drop-drop, getD-append-add, ext-getD}
 use borrow.Author.Tests.{eq-eqb, ne-eqb}
-use Rattle.tokenizer.specs.declared.token.Token.{Token}
-use Rattle.tokenizer.specs.declared.token.Token.the-variants as token
-use Rattle.tokenizer.specs.Kinds.{numberOf, tokenOf}
-use Rattle.tokenizer.specs.Lexeme.{Span, Lexeme}
-use Rattle.tokenizer.specs.Table.{tokenList, countOthers}
-use Rattle.tokenizer.proofs.Cases.{by-eq, by-lt}
-use Rattle.tokenizer.proofs.Numbers.{number-of-token}
-use Rattle.tokenizer.proofs.TokenList.{kind-space, kind-other, count-space, count-other, tokenAt, tokensFrom, tokens-all, tokens-none, tokens-next, others-same, others-more}
+use Rattle.tokens.specs.declared.token.Token.{Token}
+use Rattle.tokens.specs.declared.token.Token.the-variants as token
+use Rattle.tokens.specs.Kinds.{numberOf, tokenOf}
+use Rattle.tokens.specs.Lexeme.{Span, Lexeme}
+use Rattle.tokens.specs.Table.{tokenList, countOthers}
+use Rattle.tokens.proofs.Cases.{by-eq, by-lt}
+use Rattle.tokens.proofs.Numbers.{number-of-token}
+use Rattle.tokens.proofs.TokenList.{kind-space, kind-other, count-space, count-other, tokenAt, tokensFrom, tokens-all, tokens-none, tokens-next, others-same, others-more}
 use Rattle.tree.specs.Tree.{nowhere}
 use Rattle.tree.specs.Words.{pick}
 use Rattle.reading.specs.Entries.{Entry, is, entries, closeAfter, hasSep}

@@ -8,10 +8,10 @@ use mathlib.Core.Option.{Option, none, some}
 use native.Mathlib.Omega.{arith}
 use lib.Dec.{eqb}
 use borrow.Author.Tests.{eq-eqb, ne-eqb}
-use Rattle.tokenizer.specs.declared.token.Token.the-variants as token
+use Rattle.tokens.specs.declared.token.Token.the-variants as token
 use Rattle.tree.specs.Words.{pick}
 use Rattle.reading.specs.Entries.{Entry, is, closeAfter, hasSep}
-use Rattle.tokenizer.proofs.Cases.{by-eq}
+use Rattle.tokens.proofs.Cases.{by-eq}
 use Rattle.entries.specs.Prepared.{closeFrom, ofBracket}
 use Rattle.entries.specs.Open.{Chain}
 

@@ -8,13 +8,13 @@ use native.Mathlib.Omega.{arith}
 use native.Mathlib.Nat.{add-zero, zero-add}
 use native.Mathlib.Numerals.{add-one}
 use lib.ListN.{length, getD, drop, getElem?, length-map, List·getD-append}
-use Rattle.tokenizer.specs.declared.token.Token.the-variants as token
-use Rattle.tokenizer.specs.Kinds.{numberOf}
-use Rattle.tokenizer.specs.Lexeme.{Span, Lexeme}
-use Rattle.tokenizer.specs.Table.{tokenList, countOthers}
-use Rattle.tokenizer.proofs.Cases.{by-eq, by-lt, by-option}
-use Rattle.tokenizer.proofs.Numbers.{number-of-token}
-use Rattle.tokenizer.proofs.TokenList.{kind-space, kind-other, count-space, count-other, tokenAt, tokensFrom, tokens-all, tokens-none, tokens-next}
+use Rattle.tokens.specs.declared.token.Token.the-variants as token
+use Rattle.tokens.specs.Kinds.{numberOf}
+use Rattle.tokens.specs.Lexeme.{Span, Lexeme}
+use Rattle.tokens.specs.Table.{tokenList, countOthers}
+use Rattle.tokens.proofs.Cases.{by-eq, by-lt, by-option}
+use Rattle.tokens.proofs.Numbers.{number-of-token}
+use Rattle.tokens.proofs.TokenList.{kind-space, kind-other, count-space, count-other, tokenAt, tokensFrom, tokens-all, tokens-none, tokens-next}
 use Rattle.tree.specs.Tree.{nowhere}
 use Rattle.tree.specs.Words.{pick}
 use Rattle.reading.specs.Entries.{Entry, is, entries, closeAfter, hasSep}

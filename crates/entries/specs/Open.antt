@@ -3,8 +3,8 @@ use Prim.Native.Nat.{ℕ, zero, suc, _+_, _*_, _<_, _≤_}
 use mathlib.Core.Path.{_≡_}
 use mathlib.Core.List.{List, [], _∷_, _++_}
 use lib.ListN.{length, drop, set}
-use Rattle.tokenizer.specs.Lexeme.{Lexeme}
-use Rattle.tokenizer.specs.Table.{countOthers}
+use Rattle.tokens.specs.Lexeme.{Lexeme}
+use Rattle.tokens.specs.Table.{countOthers}
 use Rattle.entries.specs.Record.{afterClose}
 use Rattle.entries.specs.Prepared.{workWords}
 

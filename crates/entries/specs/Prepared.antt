@@ -5,10 +5,10 @@ use mathlib.Core.List.{List, [], _∷_, _++_}
 use mathlib.Core.Option.{none, some}
 use lib.Dec.{eqb, ltb}
 use lib.ListN.{length, drop}
-use Rattle.tokenizer.specs.declared.token.Token.the-variants as token
-use Rattle.tokenizer.specs.Kinds.{numberOf}
-use Rattle.tokenizer.specs.Lexeme.{Lexeme}
-use Rattle.tokenizer.specs.Table.{tokenList, countOthers}
+use Rattle.tokens.specs.declared.token.Token.the-variants as token
+use Rattle.tokens.specs.Kinds.{numberOf}
+use Rattle.tokens.specs.Lexeme.{Lexeme}
+use Rattle.tokens.specs.Table.{tokenList, countOthers}
 use Rattle.tree.specs.Tree.{nowhere}
 use Rattle.tree.specs.Words.{pick}
 use Rattle.reading.specs.Entries.{Entry, is, entries, closeAfter, hasSep}

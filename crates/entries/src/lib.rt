@@ -6,7 +6,7 @@ ghost use mathlib.Core.List.{List, [], _∷_};
 ghost use Prim.Native.Nat.{ℕ, _+_, _*_, _≤_, _<_};
 ghost use lib.ListN.{length};
 ghost use lib.Seq.{sets};
-ghost use Rattle.tokenizer.specs.Table.{tokenList, countOthers};
+ghost use Rattle.tokens.specs.Table.{tokenList, countOthers};
 ghost use Rattle.entries.specs.Record.{afterClose};
 ghost use Rattle.entries.specs.Prepared.{prepared};
 ghost use Rattle.entries.specs.Open.{Chain, Opened, clearAll, Link, Filled};

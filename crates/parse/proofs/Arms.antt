@@ -7,7 +7,7 @@ use mathlib.Core.Bool.{Bool, true, false}
 use native.Mathlib.Omega.{arith}
 use lib.ListN.{length}
 use lib.Seq.{sets, length-sets}
-use Rattle.tokenizer.specs.declared.token.Token.the-variants as token
+use Rattle.tokens.specs.declared.token.Token.the-variants as token
 use Rattle.tree.specs.Tree.{Script, Head, Prefix, node, end, _▸_, one}
 use Rattle.tree.specs.Words.{encode, encodes, prefixKind}
 use Rattle.reading.specs.Reading.{argument, nextScript, orMissing, endsOperand, look}

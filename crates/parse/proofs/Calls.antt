@@ -12,21 +12,21 @@ use Rattle.tokenizer.specs.declared.Counted.{Counted}
 use Rattle.tokenizer.specs.declared.Counted.the-variants as counts
 use Rattle.tokenizer.specs.declared.Tokenized.{Tokenized}
 use Rattle.tokenizer.specs.declared.Tokenized.the-variants as listed
-use Rattle.tokenizer.specs.Lexeme.{Lexeme}
+use Rattle.tokens.specs.Lexeme.{Lexeme}
 use Rattle.tokenizer.specs.Rules.{tokens}
-use Rattle.tokenizer.specs.Table.{tableWords, tokenList, countOthers}
-use Rattle.tokenizer.specs.Refusals.{Answer, accepted, refused, textRefusal, listRefusal}
+use Rattle.tokens.specs.Table.{tableWords, tokenList, countOthers}
+use Rattle.tokens.specs.Refusals.{Answer, accepted, refused, textRefusal, listRefusal}
 use Rattle.tokenizer.specs.Call as call
-use Rattle.tokenizer.proofs.Cases.{by-lt, by-option}
-use Rattle.tokenizer.proofs.TokenList.{others-few}
+use Rattle.tokens.proofs.Cases.{by-lt, by-option}
+use Rattle.tokens.proofs.TokenList.{others-few}
 use Rattle.tokenizer.proofs.Theorems.{never-outnumber, list-of-words, accepted-list}
 use Rattle.tree.specs.Tree.{Nodes, end, _▸_, count}
 use Rattle.reading.specs.Reading.{readingBy, blank}
-use Rattle.lists.specs.declared.Checked.{Checked}
-use Rattle.lists.specs.declared.Checked.the-variants as list
-use Rattle.lists.specs.Checks.{answer, checked}
-use Rattle.lists.proofs.Accepted as lists
-use Rattle.lists.proofs.Accepted.{met}
+use Rattle.tokens.specs.declared.Checked.{Checked}
+use Rattle.tokens.specs.declared.Checked.the-variants as list
+use Rattle.tokens.specs.Checks.{answer, checked}
+use Rattle.tokens.proofs.Accepted as lists
+use Rattle.tokens.proofs.Accepted.{met}
 use Rattle.entries.specs.declared.Prepared.{Prepared}
 use Rattle.entries.specs.declared.Prepared.the-variants as records
 use Rattle.entries.specs.Prepared.{workWords, prepared}

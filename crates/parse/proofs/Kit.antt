@@ -10,9 +10,9 @@ use native.Mathlib.Nat.{mod-add-mod, mod-mod}
 use lib.ListN.{length, getD, getElem?}
 use lib.Dec.{eqb, ltb}
 use borrow.Author.Tests.{ltb-true, ltb-false, lt-ltb, le-ltb, eqb-true, eqb-false, eq-eqb, ne-eqb}
-use Rattle.tokenizer.specs.declared.token.Token.{Token}
-use Rattle.tokenizer.specs.declared.token.Token.the-variants as token
-use Rattle.tokenizer.specs.Kinds.{numberOf}
+use Rattle.tokens.specs.declared.token.Token.{Token}
+use Rattle.tokens.specs.declared.token.Token.the-variants as token
+use Rattle.tokens.specs.Kinds.{numberOf}
 use Rattle.tree.specs.Words.{pick}
 use Rattle.reading.specs.Entries.{Entry, is}
 use Rattle.reading.specs.Reading.{State, M, return, _>>=_, if_then_else_, here, advance, heads, marksScript, begins, stops, level, nextSimple, nextScriptFunc, step, isAt}

@@ -4,6 +4,7 @@ pub mod Arms
 pub mod Scripting
 pub mod Sorts
 pub mod Begins
+pub mod Alone
 pub mod Loop
 pub mod Gaps
 pub mod Attempts

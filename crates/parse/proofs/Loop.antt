@@ -8,7 +8,7 @@ use native.Mathlib.Omega.{arith}
 use lib.ListN.{length, getElem?}
 use lib.Dec.{eqb, ltb}
 use borrow.Author.Tests.{ltb-true, ltb-false, lt-ltb, le-ltb, ne-eqb}
-use Rattle.tokenizer.specs.declared.token.Token.the-variants as token
+use Rattle.tokens.specs.declared.token.Token.the-variants as token
 use Rattle.tree.specs.Tree.{Head, Atom, Node, node, Nodes, end, _▸_, _⧺_, count, leaf}
 use Rattle.tree.specs.Words.{pick, encodeItem, encodeItems}
 use Rattle.reading.specs.Entries.{Entry}

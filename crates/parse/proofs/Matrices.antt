@@ -9,7 +9,7 @@ use lib.ListN.{length, length-append, getD, getElem?, set, take, drop}
 use lib.Dec.{eqb, ltb}
 use lib.Seq.{sets, length-sets}
 use borrow.Author.Tests.{ltb-true, ltb-false, eqb-true, eqb-false, eq-eqb, ne-eqb}
-use Rattle.tokenizer.specs.declared.token.Token.the-variants as token
+use Rattle.tokens.specs.declared.token.Token.the-variants as token
 use Rattle.tree.specs.Tree.{Head, Node, node, Nodes, end, _▸_, _⧺_, count}
 use Rattle.tree.specs.Words.{pick, encode, encodes, encodeItems}
 use Rattle.reading.specs.Entries.{Entry, is, hasSep}

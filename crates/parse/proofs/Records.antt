@@ -7,18 +7,18 @@ use mathlib.Core.Option.{Option, none, some}
 use native.Mathlib.Omega.{arith}
 use lib.ListN.{length, drop}
 use borrow.Author.Tests.{eq-eqb}
-use Rattle.tokenizer.specs.declared.token.Token.the-variants as token
-use Rattle.tokenizer.specs.Kinds.{numberOf}
-use Rattle.tokenizer.specs.Lexeme.{Lexeme}
-use Rattle.tokenizer.specs.Table.{tokenList, countOthers}
-use Rattle.tokenizer.specs.Refusals.{listRefusal}
-use Rattle.tokenizer.proofs.TokenList.{others-few}
+use Rattle.tokens.specs.declared.token.Token.the-variants as token
+use Rattle.tokens.specs.Kinds.{numberOf}
+use Rattle.tokens.specs.Lexeme.{Lexeme}
+use Rattle.tokens.specs.Table.{tokenList, countOthers}
+use Rattle.tokens.specs.Refusals.{listRefusal}
+use Rattle.tokens.proofs.TokenList.{others-few}
 use Rattle.tree.specs.Tree.{nowhere}
 use Rattle.tree.specs.Words.{pick}
 use Rattle.reading.specs.Entries.{is, entries, hasSep}
 use Rattle.reading.specs.Reading.{closeOf}
 use Rattle.reading.proofs.Theorems.{entries-count}
-use Rattle.lists.proofs.Accepted.{accepted}
+use Rattle.tokens.proofs.Accepted.{accepted}
 use Rattle.entries.specs.Prepared.{workWords}
 use Rattle.entries.specs.Record as words
 use Rattle.entries.proofs.Recorded.{Recorded, recorded, behind}

@@ -8,9 +8,9 @@ use native.Mathlib.Omega.{arith}
 use lib.ListN.{length, getElem?}
 use lib.Dec.{eqb, ltb}
 use borrow.Author.Tests.{ltb-true, ltb-false, eqb-true, eq-eqb, ne-eqb}
-use Rattle.tokenizer.specs.declared.token.Token.{Token}
-use Rattle.tokenizer.specs.declared.token.Token.the-variants as token
-use Rattle.tokenizer.specs.Kinds.{numberOf}
+use Rattle.tokens.specs.declared.token.Token.{Token}
+use Rattle.tokens.specs.declared.token.Token.the-variants as token
+use Rattle.tokens.specs.Kinds.{numberOf}
 use Rattle.tree.specs.Tree.{Nodes, end, _⧺_, count}
 use Rattle.tree.specs.Words.{pick, encodes}
 use Rattle.reading.specs.Entries.{Entry, is}

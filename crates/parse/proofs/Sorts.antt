@@ -4,11 +4,11 @@ use mathlib.Core.Path.{_≡_, refl}
 use mathlib.Core.Option.{some}
 use mathlib.Core.Bool.{Bool, true, false}
 use native.Mathlib.Omega.{arith}
-use Rattle.tokenizer.specs.declared.token.SymbolClass.{SymbolClass}
-use Rattle.tokenizer.specs.declared.token.SymbolClass.the-variants as class
-use Rattle.tokenizer.specs.declared.token.Token.{Token}
-use Rattle.tokenizer.specs.declared.token.Token.the-variants as token
-use Rattle.tokenizer.specs.Kinds.{numberOf, classNumber}
+use Rattle.tokens.specs.declared.token.SymbolClass.{SymbolClass}
+use Rattle.tokens.specs.declared.token.SymbolClass.the-variants as class
+use Rattle.tokens.specs.declared.token.Token.{Token}
+use Rattle.tokens.specs.declared.token.Token.the-variants as token
+use Rattle.tokens.specs.Kinds.{numberOf, classNumber}
 use Rattle.tree.specs.Tree.{Head, Atom, leaf}
 use Rattle.tree.specs.Words.{atomKind, classWord}
 use Rattle.reading.specs.Entries.{Entry}

@@ -4,11 +4,11 @@ use Prim.Native.Nat.{ℕ}
 use mathlib.Core.Path.{_≡_, sym, ap, _∙_}
 use mathlib.Core.List.{List, [], _∷_}
 use lib.ListN.{length}
-use Rattle.tokenizer.specs.Lexeme.{Lexeme}
+use Rattle.tokens.specs.Lexeme.{Lexeme}
 use Rattle.tokenizer.specs.Rules.{tokens}
-use Rattle.tokenizer.specs.Table.{tokenList}
-use Rattle.tokenizer.specs.Refusals.{Answer, accepted, refused}
-use Rattle.tokenizer.proofs.Cases.{by-option}
+use Rattle.tokens.specs.Table.{tokenList}
+use Rattle.tokens.specs.Refusals.{Answer, accepted, refused}
+use Rattle.tokens.proofs.Cases.{by-option}
 use Rattle.tree.specs.Tree.{count}
 use Rattle.tree.specs.Decode.{decode}
 use Rattle.reading.specs.Reading.{readTokens, blank}

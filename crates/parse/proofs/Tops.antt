@@ -8,8 +8,8 @@ use native.Mathlib.Omega.{arith}
 use lib.ListN.{length, getD, set, take}
 use lib.Seq.{sets, length-sets}
 use borrow.Author.Tests.{eqb-true}
-use Rattle.tokenizer.specs.declared.token.Token.the-variants as token
-use Rattle.tokenizer.specs.Lexeme.{Span}
+use Rattle.tokens.specs.declared.token.Token.the-variants as token
+use Rattle.tokens.specs.Lexeme.{Span}
 use Rattle.tree.specs.Tree.{nowhere, Head, Node, node, Nodes, end, _▸_, _⧺_, count}
 use Rattle.tree.specs.Words.{encode, encodes, encodeItem, encodeItems}
 use Rattle.reading.specs.Stop.{Stop}

@@ -3,8 +3,8 @@
 use Prim.Native.Nat.{ℕ, _+_, _*_, _≤_}
 use mathlib.Core.Path.{_≡_}
 use mathlib.Core.List.{List}
-use Rattle.tokenizer.specs.Lexeme.{Lexeme}
-use Rattle.tokenizer.specs.Table.{countOthers}
+use Rattle.tokens.specs.Lexeme.{Lexeme}
+use Rattle.tokens.specs.Table.{countOthers}
 use Rattle.tree.specs.Decode.{decode}
 use Rattle.reading.specs.Reading.{readTokens, readPlain, blank}
 use Rattle.reading.specs.Grammar.{Settled, treeE}

@@ -5,10 +5,10 @@ use mathlib.Core.Option.{Option, none, some}
 use Prim.Native.Nat.{ℕ, _+_, _-_, _*_}
 use lib.Dec.{ltb}
 use lib.ListN.{length, drop, replicate}
-use Rattle.tokenizer.specs.Lexeme.{Lexeme}
+use Rattle.tokens.specs.Lexeme.{Lexeme}
 use Rattle.tokenizer.specs.Rules.{tokens}
-use Rattle.tokenizer.specs.Table.{tableWords, tokenList, countOthers}
-use Rattle.tokenizer.specs.Refusals.{Answer, accepted, refused, textRefusal, listRefusal}
+use Rattle.tokens.specs.Table.{tableWords, tokenList, countOthers}
+use Rattle.tokens.specs.Refusals.{Answer, accepted, refused, textRefusal, listRefusal}
 use Rattle.tree.specs.Tree.{count}
 use Rattle.tree.specs.Words.{encodeItems}
 use Rattle.reading.specs.Reading.{readTokens, blank}

@@ -3,9 +3,9 @@ use mathlib.Core.Path.{_≡_}
 use mathlib.Core.List.{List}
 use mathlib.Core.Option.{Option, none, some}
 use Prim.Native.Nat.{ℕ}
-use Rattle.tokenizer.specs.Lexeme.{Lexeme}
-use Rattle.tokenizer.specs.Refusals.{textRefusal}
-use Rattle.tokenizer.specs.Table.{countOthers}
+use Rattle.tokens.specs.Lexeme.{Lexeme}
+use Rattle.tokens.specs.Refusals.{textRefusal}
+use Rattle.tokens.specs.Table.{countOthers}
 use Rattle.parse.specs.declared.Room.{Room}
 use Rattle.parse.specs.declared.Room.the-variants.{Enough, Refused}
 use Rattle.parse.specs.Call.{roomRefusal, parseRefusal}

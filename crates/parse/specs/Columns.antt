@@ -6,7 +6,7 @@ use mathlib.Core.List.{List, [], _∷_, _++_, map}
 use mathlib.Core.Bool.{Bool, true, false, _&&_}
 use lib.ListN.{length, take, drop, getD}
 use lib.Dec.{eqb}
-use Rattle.tokenizer.specs.Lexeme.{Span}
+use Rattle.tokens.specs.Lexeme.{Span}
 use Rattle.tree.specs.Tree.{Head, Node, node, Nodes, end, _▸_, count}
 use Rattle.tree.specs.Words.{pick, encode, encodes}
 use Rattle.reading.specs.Entries.{Entry}

@@ -76,6 +76,17 @@ marksKind w = eqb w 1 || eqb w 2
 abbrev pub beginsKind : Bool → ℕ → Bool
 beginsKind stop w = not (eqb w 21 || (eqb w 23 || (stop && eqb w 3)))
 
+-- an entry that is a leaf by its kind, with neither a script nor a fraction behind it, and no reader too deep for it: an item by
+-- itself
+abbrev pub leafOnly : ℕ → Bool
+leafOnly w = pick (ltb w 4) false (ltb w 16)
+
+abbrev pub joinsKind : ℕ → Bool
+joinsKind w = ltb w 3
+
+unfoldable pub plainAt : List ℕ → List ℕ → ℕ → ℕ → ℕ → Bool
+plainAt t K n d i = pick (ltb d 255) (pick (testAt t K n leafOnly i) (not (testAt t K n joinsKind (i + 1))) false) false
+
 -- the takes after a look at the next token: a take, if there is one
 unfoldable pub looked : ℕ → ℕ → ℕ → ℕ
 looked n p u = pick (ltb p n) ((u + 1) % 2 ^ 64) u

@@ -8,8 +8,8 @@ use mathlib.Core.Option.{Option, none, some}
 use mathlib.Core.Bool.{Bool, true, false}
 use lib.ListN.{length, drop, getD, getElem?}
 use lib.Dec.{eqb, ltb}
-use Rattle.tokenizer.specs.declared.token.Token.the-variants as token
-use Rattle.tokenizer.specs.Kinds.{numberOf}
+use Rattle.tokens.specs.declared.token.Token.the-variants as token
+use Rattle.tokens.specs.Kinds.{numberOf}
 use Rattle.tree.specs.Tree.{Head, Prefix, Node, node, Nodes, end, _▸_, _⧺_, count, one}
 use Rattle.tree.specs.Words.{encode, encodes, encodeItem, encodeItems, scriptNumber, pick}
 use Rattle.reading.specs.Stop.{Stop}

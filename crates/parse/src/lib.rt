@@ -2,25 +2,26 @@
 mod columns;
 mod cursor;
 mod entry;
+mod plain;
 mod readers;
 mod top;
 mod write;
 
 use entries::Prepared;
 use entries::prepare;
-use lists::Checked;
-use lists::check_list;
 use tokenizer::Counted;
 use tokenizer::Tokenized;
 use tokenizer::count_tokens;
 use tokenizer::tokenize;
+use tokens::Checked;
+use tokens::check_list;
 use top::parse_entries;
 ghost use mathlib.Core.Path.{_≡_};
 ghost use mathlib.Core.Option.{none};
 ghost use Prim.Native.Nat.{_+_, _*_, _≤_};
 ghost use lib.ListN.{length};
-ghost use Rattle.tokenizer.specs.Refusals.{listRefusal};
-ghost use Rattle.tokenizer.specs.Table.{tokenList};
+ghost use Rattle.tokens.specs.Refusals.{listRefusal};
+ghost use Rattle.tokens.specs.Table.{tokenList};
 ghost use Rattle.parse.specs.Call.{answerOf, listAnswerOf, roomRefusal, parsedText, parsedTokens};
 ghost use Rattle.parse.specs.Checks.{Lacks, Fits};
 

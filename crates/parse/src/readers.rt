@@ -22,6 +22,8 @@ use crate::entry::marks_at;
 use crate::entry::open_mark;
 use crate::entry::row_brackets;
 use crate::entry::same_brackets;
+use crate::plain::is_plain;
+use crate::plain::plain_item;
 use crate::write::leaf;
 use crate::write::put_group;
 use crate::write::put_matrix;
@@ -298,6 +300,15 @@ pub(crate) fn extend_intermediates(
             break 'items;
         }
         let g = put_space(tok, work, n, tree, pos, end, first);
+        if is_plain(tok, work, n, cur) {
+            let p = plain_item(tok, work, n, tree, cur, g.end);
+            cur = p.cur;
+            end = p.end;
+            count += 1 + g.items;
+            first = false;
+            sign = !p.ends;
+            continue 'items;
+        }
         match next_intermediate(text, tok, n, work, tree, cur, g.end, stop, sign) {
             Step::Found(d, e2, f) => {
                 cur = d;

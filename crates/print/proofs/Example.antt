@@ -3,8 +3,8 @@ use Prim.Native.Nat.{ℕ}
 use Prim.Native.String.{String}
 use mathlib.Core.Path.{_≡_, refl}
 use mathlib.Core.List.{List, [], _∷_, _++_}
-use Rattle.tokenizer.specs.Bytes.{bytes}
-use Rattle.tokenizer.specs.Lexeme.{Span}
+use Rattle.tokens.specs.Bytes.{bytes}
+use Rattle.tokens.specs.Lexeme.{Span}
 use Rattle.tree.specs.Tree.{Script, Head, Atom, Node, node, Nodes, end, _▸_, leaf, one}
 use Rattle.tree.specs.Visits.{visits}
 use Rattle.print.specs.Decimal.{digits, decimal}

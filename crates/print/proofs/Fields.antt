@@ -9,7 +9,7 @@ use lib.Seq.{take-suc, take-length}
 use lib.Dec.{eqb}
 use borrow.Author.Tests.{ne-eqb}
 use borrow.Author.Count.{below-more}
-use Rattle.tokenizer.specs.Bytes.{bytes}
+use Rattle.tokens.specs.Bytes.{bytes}
 use Rattle.tree.specs.declared.walk.Opened.{Opened}
 use Rattle.print.specs.Decimal.{decimal}
 use Rattle.print.specs.Print.{names, nameOf, number, field, commas, more}

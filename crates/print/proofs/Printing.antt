@@ -8,7 +8,7 @@ use native.Mathlib.Numerals.{add-one}
 use native.Mathlib.Nat.{add-zero, zero-add}
 use lib.ListN.{length, getD, drop, length-append, length-drop}
 use lib.Seq.{getD-drop, drop-drop, drop-append-seam, take-append-seam}
-use Rattle.tokenizer.specs.Bytes.{bytes}
+use Rattle.tokens.specs.Bytes.{bytes}
 use Rattle.tree.specs.declared.walk.Opened.{Opened}
 use Rattle.tree.specs.declared.walk.Step.the-variants as step
 use Rattle.tree.specs.Tree.{Script, Head, Atom, Prefix, Node, node, Nodes, end, _▸_, count}

@@ -3,7 +3,7 @@ use Prim.Native.Nat.{ℕ, _+_}
 use mathlib.Core.List.{List, [], _++_}
 use lib.ListN.{getD, take, drop}
 use lib.Dec.{eqb}
-use Rattle.tokenizer.specs.Bytes.{bytes}
+use Rattle.tokens.specs.Bytes.{bytes}
 use Rattle.tree.specs.declared.walk.Opened.{Opened}
 use Rattle.tree.specs.Words.{pick}
 use Rattle.tree.specs.Walk.{cellsEnd}

@@ -3,9 +3,9 @@ use Prim.Native.Nat.{ℕ}
 use mathlib.Core.List.{List, [], _∷_, _++_}
 use Prim.Native.String.{String}
 use lib.ListN.{getD}
-use Rattle.tokenizer.specs.Bytes.{bytes}
-use Rattle.tokenizer.specs.Kinds.{classNumber}
-use Rattle.tokenizer.specs.Lexeme.{Span}
+use Rattle.tokens.specs.Bytes.{bytes}
+use Rattle.tokens.specs.Kinds.{classNumber}
+use Rattle.tokens.specs.Lexeme.{Span}
 use Rattle.tree.specs.Tree.{Script, Head, Atom, Nodes, count}
 use Rattle.tree.specs.Words.{headWords}
 use Rattle.tree.specs.Visits.{Visit, visits}

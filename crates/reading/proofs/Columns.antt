@@ -6,7 +6,7 @@ use mathlib.Core.Bool.{Bool, true, false, _||_}
 use native.Mathlib.Omega.{arith}
 use lib.ListN.{length}
 use lib.Dec.{eqb}
-use Rattle.tokenizer.specs.Lexeme.{Span}
+use Rattle.tokens.specs.Lexeme.{Span}
 use Rattle.tree.specs.Tree.{Head, Node, node, Nodes, end, _▸_, count}
 use Rattle.reading.specs.Entries.{Entry}
 use Rattle.reading.specs.Reading.{Rows, splitColumnLines, joinRows, keepCells, keptCols, columnLines, lineCells, bothLines, lineCols}

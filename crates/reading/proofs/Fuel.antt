@@ -7,13 +7,13 @@ use mathlib.Core.Option.{Option, none, some}
 use mathlib.Core.Bool.{Bool, true, false, false≢true}
 use native.Mathlib.Omega.{arith}
 use lib.ListN.{length, getElem?}
-use Rattle.tokenizer.specs.declared.token.Token.the-variants as token
+use Rattle.tokens.specs.declared.token.Token.the-variants as token
 use Rattle.tree.specs.Tree.{nowhere, Head, Node, node, Nodes, end, _▸_, _⧺_}
 use Rattle.reading.specs.Stop.{Stop}
 use Rattle.reading.specs.Entries.{Entry, is}
 use Rattle.reading.specs.Reading.{State, M, return, _>>=_, here, if_then_else_, Readers, Row, any, advance, atOpenClose, isAt, alike, nextIntermediate, intermediates, nextExpression, rowCells, nextMatrixRow, moreRows, prefixes, spaced, level, parse, lastOf, unscripted}
-use Rattle.tree.proofs.Size.{sizeItem}
-use Rattle.reading.proofs.Room.{Fits, Room, kept, opt, level-room, advance-fits, nextIntermediate-fits, intermediates-fits, nextMatrixRow-fits}
+use Rattle.reading.specs.Peak.{CountedReaders, level-counted}
+use Rattle.reading.proofs.Room.{Fits, Room, opt, level-room, advance-fits, nextIntermediate-fits, intermediates-fits, nextMatrixRow-fits}
 
 same-bind : {A B : Type 0} (m n : M A) (f : A → M B) (s : State) → m s ≡ n s → (m >>= f) s ≡ (n >>= f) s
 unfolding _>>=_
@@ -31,7 +31,8 @@ turns loop f (suc k) h =
     let z : suc k + f ≡ suc (k + f) = omega arith in
     ap loop z ∙ h (k + f) (omega arith) ∙ turns loop f k h
 
-module _ (text : List ℕ) (es : List Entry) (remember : Bool) (R : Readers) (room : Room text es remember R) where
+module _ (text : List ℕ) (es : List Entry) (remember : Bool) (R : Readers) (counted : CountedReaders text es remember R)
+    (room : Room text es remember R counted) where
   abbrev Enough : ℕ → State → Type 0
   Enough f s = (s .pos ≤ length es) × (suc (length es) ≤ f + s .pos)
 
@@ -62,8 +63,8 @@ module _ (text : List ℕ) (es : List Entry) (remember : Bool) (R : Readers) (ro
 
         moved : (x : Node) → (item s) .0 ≡ some x → Enough f ((item s) .1)
         moved x e =
-            let fits = nextIntermediate-fits text es remember R room stop (prefixes before) in
-            (fits .stays s (enough .0), omega (arith, fits .run s, ap (kept 7 (λ (y : Node). sizeItem y + 14)) e, enough .1))
+            let fits = nextIntermediate-fits text es remember R counted room stop (prefixes before) in
+            (fits .stays s (enough .0), omega (arith, fits .run s, ap (opt 7 14) e, enough .1))
 
         next : Again → (a : Option Node) → (item s) .0 ≡ a → after (suc f) a ((item s) .1) ≡ after f a ((item s) .1)
         next again none e = refl
@@ -99,10 +100,10 @@ module _ (text : List ℕ) (es : List Entry) (remember : Bool) (R : Readers) (ro
 
       moved : (e : Entry) → taken .0 ≡ some e → Enough f (taken .1)
       moved e k =
-          let cell = intermediates-fits text es remember R room (suc (length es)) none Stop.sep none in
+          let cell = intermediates-fits text es remember R counted room (suc (length es)) none Stop.sep none in
           let step = advance-fits text es remember any in (
             step .stays (read .1) (cell .stays s (enough .0)),
-            omega (arith, cell .run s, step .run (read .1), ap (opt 32) k, enough .1),
+            omega (arith, cell .run s, step .run (read .1), ap (opt 0 32) k, enough .1),
           )
 
       next : ((t : State) → Enough f t → rowCells text es remember R (suc f) t ≡ rowCells text es remember R f t) →
@@ -145,7 +146,7 @@ module _ (text : List ℕ) (es : List Entry) (remember : Bool) (R : Readers) (ro
         moved : isAt text es (is token.Sep) (s .pos) ≡ true → Enough f (row .1)
         moved k =
             let step = advance-fits text es remember any in
-            let fits = nextMatrixRow-fits text es remember R room in (
+            let fits = nextMatrixRow-fits text es remember R counted room in (
               fits .stays ((advance text es any s) .1) (step .stays s (enough .0)),
               omega (arith, sep-taken s k, fits .run ((advance text es any s) .1), enough .1),
             )
@@ -207,14 +208,14 @@ module _ (text : List ℕ) (es : List Entry) (remember : Bool) where
 
       within : taken .1 .pos ≤ length es
       within =
-          let items = intermediates-fits text es remember (level text es remember 256) (level-room text es remember 256) (suc (length es)) none Stop.none (lastOf inters) in
+          let items = intermediates-fits text es remember (level text es remember 256) (level-counted text es remember 256) (level-room text es remember 256) (suc (length es)) none Stop.none (lastOf inters) in
           advance-fits text es remember (is token.CloseBracket) .stays (read .1) (items .stays s low)
 
       moved : (c : Entry) → taken .0 ≡ some c → suc (length es) ≤ f + taken .1 .pos
       moved c k =
-          let items = intermediates-fits text es remember (level text es remember 256) (level-room text es remember 256) (suc (length es)) none Stop.none (lastOf inters) in
+          let items = intermediates-fits text es remember (level text es remember 256) (level-counted text es remember 256) (level-room text es remember 256) (suc (length es)) none Stop.none (lastOf inters) in
           let step = advance-fits text es remember (is token.CloseBracket) in
-          omega (arith, items .run s, step .run (read .1), ap (opt 32) k)
+          omega (arith, items .run s, step .run (read .1), ap (opt 0 32) k)
 
       next : (w : ℕ) → ((w : ℕ) (i : Nodes) (t : State) → t .pos ≤ length es → suc (length es) ≤ f + t .pos →
           parse text es remember (suc f) w i t ≡ parse text es remember f w i t) →

@@ -10,3 +10,4 @@ pub mod Settled
 pub mod SettledExamples
 pub mod Starred
 pub mod Theorems
+pub mod PeakExamples

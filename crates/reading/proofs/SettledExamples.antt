@@ -5,9 +5,9 @@ use Prim.Native.String.{String}
 use mathlib.Core.Path.{_≡_, refl}
 use mathlib.Core.List.{List, [], _∷_}
 use native.Mathlib.Omega.{arith}
-use Rattle.tokenizer.specs.declared.token.Token.the-variants as token
-use Rattle.tokenizer.specs.Bytes.{bytes}
-use Rattle.tokenizer.specs.Lexeme.{Span, Lexeme, lexeme}
+use Rattle.tokens.specs.declared.token.Token.the-variants as token
+use Rattle.tokens.specs.Bytes.{bytes}
+use Rattle.tokens.specs.Lexeme.{Span, Lexeme, lexeme}
 use Rattle.tokenizer.specs.Longest.{begins, longestOf, longestAt}
 use Rattle.tokenizer.specs.Spellings.{rows}
 use Rattle.tokenizer.specs.Rules.{run, runEnd, blank, digit, letter, blanksAt, same, isTextCommand, spellingAt, numberEnd}

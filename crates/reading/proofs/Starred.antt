@@ -4,11 +4,11 @@ use Prim.Native.Nat.{ℕ}
 use Prim.Native.String.{String}
 use mathlib.Core.Path.{_≡_, refl}
 use mathlib.Core.List.{List, [], _∷_, map}
-use Rattle.tokenizer.specs.declared.token.SymbolClass.{SymbolClass}
-use Rattle.tokenizer.specs.declared.token.SymbolClass.the-variants as class
-use Rattle.tokenizer.specs.declared.token.Token.the-variants.{Super, Sep, Number, Text, Ident, Operator, Symbol, Unary, OpenBracket, CloseBracket, OpenCloseBracket}
-use Rattle.tokenizer.specs.Bytes.{bytes}
-use Rattle.tokenizer.specs.Lexeme.{Span, Lexeme, lexeme}
+use Rattle.tokens.specs.declared.token.SymbolClass.{SymbolClass}
+use Rattle.tokens.specs.declared.token.SymbolClass.the-variants as class
+use Rattle.tokens.specs.declared.token.Token.the-variants.{Super, Sep, Number, Text, Ident, Operator, Symbol, Unary, OpenBracket, CloseBracket, OpenCloseBracket}
+use Rattle.tokens.specs.Bytes.{bytes}
+use Rattle.tokens.specs.Lexeme.{Span, Lexeme, lexeme}
 use Rattle.tokenizer.specs.Spellings.{rows}
 use Rattle.tokenizer.specs.Longest as longest
 use Rattle.tokenizer.specs.Rules as rules

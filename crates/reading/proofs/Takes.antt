@@ -8,12 +8,12 @@ use native.Mathlib.Nat.{suc-mul, mul-assoc, zero-mul}
 use lib.ListN.{length, getD, take, drop, set, replicate, getElem?, length-set, length-replicate}
 use lib.Seq.{getD-set-same, getD-set-other}
 use lib.Dec.{T, eqb, ltb, leb, lit≤, leb→le}
-use Rattle.tokenizer.specs.declared.token.SymbolClass.{SymbolClass}
-use Rattle.tokenizer.specs.declared.token.SymbolClass.the-variants as class
-use Rattle.tokenizer.specs.declared.token.Token.{Token}
-use Rattle.tokenizer.specs.declared.token.Token.the-variants as token
-use Rattle.tokenizer.specs.Kinds.{numberOf, classNumber}
-use Rattle.tokenizer.specs.Lexeme.{Span, Lexeme}
+use Rattle.tokens.specs.declared.token.SymbolClass.{SymbolClass}
+use Rattle.tokens.specs.declared.token.SymbolClass.the-variants as class
+use Rattle.tokens.specs.declared.token.Token.{Token}
+use Rattle.tokens.specs.declared.token.Token.the-variants as token
+use Rattle.tokens.specs.Kinds.{numberOf, classNumber}
+use Rattle.tokens.specs.Lexeme.{Span, Lexeme}
 use Rattle.tree.specs.Tree.{nowhere, Script, Head, Atom, Prefix, Node, node, Nodes, end, _▸_, _⧺_, count, leaf, one}
 use Rattle.reading.specs.Stop.{Stop}
 use Rattle.reading.specs.Entries.{Entry, is, entries}

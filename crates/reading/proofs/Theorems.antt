@@ -9,12 +9,12 @@ use native.Mathlib.Nat.{suc-mul}
 use native.Mathlib.Numerals.{add-one}
 use lib.Dec.{eqb}
 use lib.ListN.{length}
-use Rattle.tokenizer.specs.declared.token.Token.the-variants as token
-use Rattle.tokenizer.specs.Kinds.{numberOf}
-use Rattle.tokenizer.specs.Lexeme.{Span, Lexeme}
+use Rattle.tokens.specs.declared.token.Token.the-variants as token
+use Rattle.tokens.specs.Kinds.{numberOf}
+use Rattle.tokens.specs.Lexeme.{Span, Lexeme}
 use Rattle.tokenizer.specs.Rules.{tokens}
-use Rattle.tokenizer.specs.Table.{tokenList, countOthers}
-use Rattle.tokenizer.specs.Refusals.{AcceptedText, AcceptedList}
+use Rattle.tokens.specs.Table.{tokenList, countOthers}
+use Rattle.tokens.specs.Refusals.{AcceptedText, AcceptedList}
 use Rattle.tree.specs.Tree.{nowhere}
 use Rattle.reading.specs.Entries.{entries}
 use Rattle.reading.specs.Reading.{readTokens, readingBy}
@@ -45,7 +45,8 @@ bounds text ts =
     record {
       takes = rw add-one (omega (arith, takes, suc-mul (countOthers ts) (suc (countOthers ts))));
       memory = λ few. same-tree text ts (omega arith);
-      room = omega (arith, room.room text ts);
+      partial = omega (arith, room.partial-room text ts);
+      room = omega (arith, room.room text ts, room.partial-room text ts);
       well-formed = well-formed text ts;
       decoded = decoded text ts;
     }

@@ -9,9 +9,9 @@ use native.Mathlib.Nat.{le-refl, suc-mul, zero-mul}
 use lib.ListN.{length, getElem?}
 use lib.Dec.{eqb, ltb}
 use borrow.Author.Tests.{eqb-true, ltb-true}
-use Rattle.tokenizer.specs.declared.token.Token.{Token}
-use Rattle.tokenizer.specs.declared.token.Token.the-variants as token
-use Rattle.tokenizer.specs.Lexeme.{Span, Lexeme}
+use Rattle.tokens.specs.declared.token.Token.{Token}
+use Rattle.tokens.specs.declared.token.Token.the-variants as token
+use Rattle.tokens.specs.Lexeme.{Span, Lexeme}
 use Rattle.tree.specs.Tree.{nowhere, Script, Head, Atom, Node, node, Nodes, end, _▸_, _⧺_, count, leaf}
 use Rattle.tree.specs.Words.{encodeItems}
 use Rattle.tree.specs.Decode.{decode}

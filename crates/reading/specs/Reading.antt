@@ -5,10 +5,10 @@ use mathlib.Core.Option.{Option, none, some}
 use mathlib.Core.Bool.{Bool, true, false, not, _&&_, _||_}
 use lib.ListN.{length, getD, take, drop, set, replicate, getElem?}
 use lib.Dec.{eqb, ltb}
-use Rattle.tokenizer.specs.declared.token.SymbolClass.the-variants as class
-use Rattle.tokenizer.specs.declared.token.Token.{Token}
-use Rattle.tokenizer.specs.declared.token.Token.the-variants as token
-use Rattle.tokenizer.specs.Lexeme.{Span, Lexeme}
+use Rattle.tokens.specs.declared.token.SymbolClass.the-variants as class
+use Rattle.tokens.specs.declared.token.Token.{Token}
+use Rattle.tokens.specs.declared.token.Token.the-variants as token
+use Rattle.tokens.specs.Lexeme.{Span, Lexeme}
 use Rattle.tokenizer.specs.Rules.{tokens}
 use Rattle.tree.specs.Tree.{nowhere, Script, Head, Atom, Prefix, Node, node, Nodes, end, _▸_, _⧺_, count, leaf, one}
 use Rattle.reading.specs.Stop.{Stop}

@@ -8,16 +8,16 @@ use native.Mathlib.Omega.{arith}
 use lib.Dec.{eqb}
 use lib.ListN.{length, length-append}
 use borrow.Author.Tests.{le-ltb, lt-ltb}
-use Rattle.tokenizer.specs.Kinds.{numberOf}
-use Rattle.tokenizer.specs.Lexeme.{Lexeme}
+use Rattle.tokens.specs.Kinds.{numberOf}
+use Rattle.tokens.specs.Lexeme.{Lexeme}
 use Rattle.tokenizer.specs.Rules.{Read, tokensBy}
-use Rattle.tokenizer.specs.Table.{tableWords}
-use Rattle.tokenizer.specs.Refusals.{textRefusal, longSpace, tokensRefusal, tableRefusal, listRefusal}
-use Rattle.tokenizer.proofs.Cases.{by-test, by-lt, clash}
+use Rattle.tokens.specs.Table.{tableWords}
+use Rattle.tokens.specs.Refusals.{textRefusal, longSpace, tokensRefusal, tableRefusal, listRefusal}
+use Rattle.tokens.proofs.Cases.{by-test, by-lt, clash}
 use Rattle.tokenizer.proofs.Moves.{Between, Sound}
 use Rattle.tokenizer.proofs.Tokens.{between, between-le, count-bound}
 use Rattle.tokenizer.proofs.Spaces.{Spaced, spaced}
-use Rattle.tokenizer.proofs.Numbers.{number-small}
+use Rattle.tokens.proofs.Numbers.{number-small}
 
 words-length : (ts : List Lexeme) → length (tableWords ts) ≡ 3 * length ts
 unfolding tableWords

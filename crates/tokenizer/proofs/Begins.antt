@@ -11,7 +11,7 @@ use lib.ListN.{length, getD}
 use borrow.Author.Tests.{lt-ltb, le-ltb, eqb-true, eq-eqb}
 use Rattle.tokenizer.specs.Spellings.{Row}
 use Rattle.tokenizer.specs.Longest.{begins, Numbered, longer, longestOf}
-use Rattle.tokenizer.proofs.Cases.{by-test, by-lt, clash}
+use Rattle.tokens.proofs.Cases.{by-test, by-lt, clash}
 
 pub begins-cons : (k x : ℕ) (ks s : List ℕ) → begins (k ∷ ks) (x ∷ s) ≡ true → (k ≡ x) × (begins ks s ≡ true)
 unfolding begins

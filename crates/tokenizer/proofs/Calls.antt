@@ -3,30 +3,14 @@ use mathlib.Core.Path.{_≡_, sym}
 use mathlib.Core.Bool.{true, false}
 use mathlib.Core.List.{List, [], _∷_, _++_}
 use mathlib.Core.Option.{none, some}
-use Prim.Native.Nat.{ℕ, _+_, _*_, _≤_, _<_}
-use native.Mathlib.Numerals.{add-one}
+use Prim.Native.Nat.{ℕ, _*_, _≤_, _<_}
 use lib.Dec.{leb}
-use lib.ListN.{length, getD, drop, drop-of-length-le}
-use lib.Seq.{drop-cons}
+use lib.ListN.{length, drop}
 use borrow.Author.Tests.{lt-ltb, le-ltb, leb-true, leb-false}
 use Rattle.tokenizer.specs.Rules.{tokens}
-use Rattle.tokenizer.specs.Table.{tableWords}
-use Rattle.tokenizer.specs.Refusals.{Answer, accepted, refused, ascii, textRefusal}
+use Rattle.tokens.specs.Table.{tableWords}
+use Rattle.tokens.specs.Refusals.{Answer, accepted, refused, ascii, textRefusal}
 use Rattle.tokenizer.specs.Call.{tokenized}
-
--- one byte after the other
-module _ (s : List ℕ) (i : ℕ) where
-  pub ascii-more : i < length s → getD s i 0 < 128 → ascii (drop i s) ≡ ascii (drop (i + 1) s)
-  unfolding ascii
-  ascii-more h l = rw (add-one i, drop-cons s i 0 h) (rw (lt-ltb _ 128 l, ascii))
-
-  pub ascii-not : i < length s → 128 ≤ getD s i 0 → ascii (drop i s) ≡ false
-  unfolding ascii
-  ascii-not h l = rw (drop-cons s i 0 h) (rw (le-ltb _ 128 l, ascii))
-
-  pub ascii-end : length s ≤ i → ascii (drop i s) ≡ true
-  unfolding ascii
-  ascii-end h = rw (drop-of-length-le s h)
 
 -- the tests of a text
 module _ (text : List ℕ) where

@@ -16,7 +16,7 @@ use Rattle.tokenizer.specs.declared.prefix_map.Compared.the-variants.{Be
 use Rattle.tokenizer.specs.Longest.{begins}
 use Rattle.tokenizer.specs.Order.{before}
 use Rattle.tokenizer.specs.Lookup.{compared}
-use Rattle.tokenizer.proofs.Cases.{by-test, by-lt, clash}
+use Rattle.tokens.proofs.Cases.{by-test, by-lt, clash}
 use Rattle.tokenizer.proofs.Order.{before-cons}
 
 -- one step at place j of the spelling and place i of the text

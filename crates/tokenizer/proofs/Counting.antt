@@ -8,18 +8,18 @@ use native.Mathlib.Omega.{arith}
 use lib.ListN.{length}
 use borrow.Author.Tests.{eq-eqb, ne-eqb}
 use Rattle.tokenizer.specs.declared.rules.Lexed.{Lexed}
-use Rattle.tokenizer.specs.Kinds.{numberOf}
-use Rattle.tokenizer.specs.Lexeme.{Lexeme}
+use Rattle.tokens.specs.Kinds.{numberOf}
+use Rattle.tokens.specs.Lexeme.{Lexeme}
 use Rattle.tokenizer.specs.Rules.{byteAt, readAt, tokensFrom, tokensBy, tokens}
-use Rattle.tokenizer.specs.Table.{countOthers}
+use Rattle.tokens.specs.Table.{countOthers}
 use Rattle.tokenizer.specs.Coded.{code, othersIn}
-use Rattle.tokenizer.specs.Refusals.{accepted, refused, ascii, textRefusal}
+use Rattle.tokens.specs.Refusals.{accepted, refused, ascii, textRefusal}
 use Rattle.tokenizer.specs.Call.{counted}
-use Rattle.tokenizer.proofs.Cases.{by-eq}
+use Rattle.tokens.proofs.Cases.{by-eq}
 use Rattle.tokenizer.proofs.Moves.{NoSpace, read-moves, byteAt-sound}
 use Rattle.tokenizer.proofs.Tokens.{tokens-step, tokens-end, count-step}
 use Rattle.tokenizer.proofs.Spaces.{waiting-others}
-use Rattle.tokenizer.proofs.TokenList.{count-space, count-other}
+use Rattle.tokens.proofs.TokenList.{count-space, count-other}
 use Rattle.tokenizer.proofs.Calls.{text-long, text-other, text-accepted}
 
 -- tokens other than Space, and more behind them

@@ -10,11 +10,11 @@ use lib.Dec.{ltb}
 use lib.ListN.{length, getD, List·getD-append, length-append}
 use lib.Seq.{getD-append-add}
 use borrow.Author.Tests.{lt-ltb, le-ltb}
-use Rattle.tokenizer.specs.Kinds.{numberOf}
+use Rattle.tokens.specs.Kinds.{numberOf}
 use Rattle.tokenizer.specs.Spellings.{Row, rows}
 use Rattle.tokenizer.specs.Order.{sortedFrom}
 use Rattle.tokenizer.specs.Constants.{flat, starts, numbers, countBelow, counts, flatBytes, rowStarts, rowKinds, firstRows, noRow, rowOf, spellingOf}
-use Rattle.tokenizer.proofs.Cases.{by-test, by-lt}
+use Rattle.tokens.proofs.Cases.{by-test, by-lt}
 use Rattle.tokenizer.proofs.Rows.{rows-length}
 use Rattle.tokenizer.proofs.Order.{sorted, sorted-cons, sorted-above}
 use Rattle.tokenizer.proofs.Sorted.{before-first}

@@ -1,4 +1,3 @@
-pub mod Cases
 pub mod Runs
 pub mod Begins
 pub mod Rows
@@ -6,9 +5,7 @@ pub mod Moves
 pub mod Tokens
 pub mod Order
 pub mod Spaces
-pub mod Numbers
 pub mod Accepted
-pub mod TokenList
 pub mod Sorted
 pub mod Flat
 pub mod Compared

@@ -14,12 +14,12 @@ use Rattle.tokenizer.specs.declared.prefix_map.Compared.the-variants.{Be
 use Rattle.tokenizer.specs.declared.prefix_map.Found.the-variants as FoundAt
 use Rattle.tokenizer.specs.declared.prefix_map.Found.the-variants.{Nothing}
 use Rattle.tokenizer.specs.declared.prefix_map.Longest.the-variants as longest
-use Rattle.tokenizer.specs.declared.token.Token.{Token}
-use Rattle.tokenizer.specs.Kinds.{tokenOf}
+use Rattle.tokens.specs.declared.token.Token.{Token}
+use Rattle.tokens.specs.Kinds.{tokenOf}
 use Rattle.tokenizer.specs.Constants.{counts, countBelow, firstRows, rowKinds, noRow, rowOf, spellingOf}
 use Rattle.tokenizer.specs.Lookup.{pastRow, foundRow, longestAnswer, compared}
-use Rattle.tokenizer.proofs.Cases.{by-test, by-lt, by-eq, by-option, clash}
-use Rattle.tokenizer.proofs.Numbers.{token-of-number}
+use Rattle.tokens.proofs.Cases.{by-test, by-lt, by-eq, by-option, clash}
+use Rattle.tokens.proofs.Numbers.{token-of-number}
 use Rattle.tokenizer.proofs.Begins.{begins-cons, Answered, answered}
 use Rattle.tokenizer.proofs.Rows.{rows-length}
 use Rattle.tokenizer.proofs.Order.{before-longer}

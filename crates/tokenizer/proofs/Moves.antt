@@ -8,14 +8,14 @@ use native.Mathlib.Omega.{arith}
 use lib.Dec.{eqb}
 use lib.ListN.{length, getD, List·getD-eq-default}
 use borrow.Author.Tests.{lt-ltb, le-ltb, eq-eqb, ne-eqb}
-use Rattle.tokenizer.specs.declared.token.Token.{Token}
-use Rattle.tokenizer.specs.declared.token.Token.the-variants.{Space}
-use Rattle.tokenizer.specs.Bytes.{bytes}
-use Rattle.tokenizer.specs.Kinds.{numberOf}
-use Rattle.tokenizer.specs.Lexeme.{Lexeme}
+use Rattle.tokens.specs.declared.token.Token.{Token}
+use Rattle.tokens.specs.declared.token.Token.the-variants.{Space}
+use Rattle.tokens.specs.Bytes.{bytes}
+use Rattle.tokens.specs.Kinds.{numberOf}
+use Rattle.tokens.specs.Lexeme.{Lexeme}
 use Rattle.tokenizer.specs.Longest.{Numbered, begins, longestAt}
 use Rattle.tokenizer.specs.Rules.{Read, alone, runEnd, blank, digit, letter, other, blanksAt, closer, literalAt, commandAt, same, isTextCommand, spellingAt, numberEnd, pastPoint, numberAt, quotationAt, byteAt, readAt}
-use Rattle.tokenizer.proofs.Cases.{by-test, by-lt, by-eq, by-option, clash, Given}
+use Rattle.tokens.proofs.Cases.{by-test, by-lt, by-eq, by-option, clash, Given}
 use Rattle.tokenizer.proofs.Runs.{run-from, run-within}
 use Rattle.tokenizer.proofs.Begins.{begins-length}
 use Rattle.tokenizer.proofs.Rows.{FoundAt, found-at}

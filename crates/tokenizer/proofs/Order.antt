@@ -12,7 +12,7 @@ use borrow.Author.Tests.{ltb-true, eqb-true, lt-ltb, le-ltb, eq-eqb}
 use Rattle.tokenizer.specs.Spellings.{Row, rows}
 use Rattle.tokenizer.specs.Order.{before, sortedFrom}
 use Rattle.tokenizer.specs.Longest.{begins}
-use Rattle.tokenizer.proofs.Cases.{by-test, by-lt, clash}
+use Rattle.tokens.proofs.Cases.{by-test, by-lt, clash}
 use Rattle.tokenizer.proofs.Begins.{begins-cons}
 
 pub before-cons : (x y : ℕ) (a b : List ℕ) → before (x ∷ a) (y ∷ b) ≡ true → (x < y) ⊎ ((x ≡ y) × (before a b ≡ true))

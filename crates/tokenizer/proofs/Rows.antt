@@ -9,10 +9,10 @@ use native.Mathlib.Nat.{not-suc-le-zero}
 use lib.Dec.{eqb, ltb}
 use lib.ListN.{length, getD, drop, length-drop}
 use borrow.Author.Tests.{ltb-true, not-true}
-use Rattle.tokenizer.specs.Kinds.{numberOf}
+use Rattle.tokens.specs.Kinds.{numberOf}
 use Rattle.tokenizer.specs.Spellings.{Row, rows}
 use Rattle.tokenizer.specs.Longest.{Numbered, longestAt, longestOf}
-use Rattle.tokenizer.proofs.Cases.{by-test, clash, Given}
+use Rattle.tokens.proofs.Cases.{by-test, clash, Given}
 use Rattle.tokenizer.proofs.Begins.{Answered, Found, answered, at-each, begins-length}
 
 pub rows-length : length rows ≡ 429

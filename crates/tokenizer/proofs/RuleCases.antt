@@ -9,11 +9,11 @@ use lib.Dec.{leb}
 use lib.ListN.{length, getD, List·getD-eq-default}
 use borrow.Author.Tests.{lt-ltb, le-ltb, lt-leb, le-leb, eq-eqb, ne-eqb, leb-true}
 use Rattle.tokenizer.specs.declared.rules.Lexed.{Lexed}
-use Rattle.tokenizer.specs.declared.token.Token.the-variants.{Number, Text, Unary, Space}
+use Rattle.tokens.specs.declared.token.Token.the-variants.{Number, Text, Unary, Space}
 use Rattle.tokenizer.specs.declared.prefix_map.Found.the-variants.{Row, Nothing}
-use Rattle.tokenizer.specs.Bytes.{bytes}
-use Rattle.tokenizer.specs.Lexeme.{lexeme}
-use Rattle.tokenizer.specs.Kinds.{numberOf}
+use Rattle.tokens.specs.Bytes.{bytes}
+use Rattle.tokens.specs.Lexeme.{lexeme}
+use Rattle.tokens.specs.Kinds.{numberOf}
 use Rattle.tokenizer.specs.Spellings as Rows
 use Rattle.tokenizer.specs.Spellings.{rows}
 use Rattle.tokenizer.specs.Longest.{Numbered, begins, longestAt}
@@ -21,7 +21,7 @@ use Rattle.tokenizer.specs.Constants.{rowOf, spellingOf}
 use Rattle.tokenizer.specs.Lookup.{foundRow}
 use Rattle.tokenizer.specs.Rules.{Read, alone, runEnd, blank, digit, letter, other, blanksAt, closer, literalAt, commandAt, same, isTextCommand, spellingAt, numberEnd, pastPoint, numberAt, quotationAt, byteAt, readAt}
 use Rattle.tokenizer.specs.Coded.{piece, code, single, fromQuotation, fromNumber, fromSpelling}
-use Rattle.tokenizer.proofs.Cases.{by-test, by-lt, by-eq, by-option, clash, Given}
+use Rattle.tokens.proofs.Cases.{by-test, by-lt, by-eq, by-option, clash, Given}
 use Rattle.tokenizer.proofs.Runs.{run-from, run-more, run-stop}
 use Rattle.tokenizer.proofs.Begins.{begins-cons}
 use Rattle.tokenizer.proofs.Order.{before-strict}

@@ -8,7 +8,7 @@ use native.Mathlib.Numerals.{add-one}
 use lib.ListN.{length, getD, drop, length-drop, drop-of-length-le}
 use lib.Seq.{drop-cons, drop-drop}
 use Rattle.tokenizer.specs.Rules.{run, runEnd}
-use Rattle.tokenizer.proofs.Cases.{by-test}
+use Rattle.tokens.proofs.Cases.{by-test}
 
 module _ (p : ℕ → Bool) where
   run-length : (s : List ℕ) → run p s ≤ length s

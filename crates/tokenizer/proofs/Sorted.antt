@@ -9,7 +9,7 @@ use lib.ListN.{length, getD}
 use Rattle.tokenizer.specs.Spellings.{rows}
 use Rattle.tokenizer.specs.Order.{before}
 use Rattle.tokenizer.specs.Constants.{noRow, rowOf, spellingOf}
-use Rattle.tokenizer.proofs.Cases.{clash}
+use Rattle.tokens.proofs.Cases.{clash}
 use Rattle.tokenizer.proofs.Order.{before-cons, sorted-pair, sorted}
 use Rattle.tokenizer.proofs.Rows.{rows-length, well-formed}
 

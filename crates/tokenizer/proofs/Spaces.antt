@@ -8,12 +8,12 @@ use native.Mathlib.Omega.{arith}
 use lib.Dec.{eqb}
 use lib.ListN.{length, getD}
 use borrow.Author.Tests.{lt-ltb, le-ltb, eq-eqb, ne-eqb}
-use Rattle.tokenizer.specs.declared.token.Token.{Token}
-use Rattle.tokenizer.specs.declared.token.Token.the-variants.{Space}
-use Rattle.tokenizer.specs.Kinds.{numberOf}
-use Rattle.tokenizer.specs.Lexeme.{Lexeme}
+use Rattle.tokens.specs.declared.token.Token.{Token}
+use Rattle.tokens.specs.declared.token.Token.the-variants.{Space}
+use Rattle.tokens.specs.Kinds.{numberOf}
+use Rattle.tokens.specs.Lexeme.{Lexeme}
 use Rattle.tokenizer.specs.Rules.{Read, alone, runEnd, blank, other, blanksAt, closer, literalAt, commandAt, spellingAt, numberEnd, pastPoint, numberAt, quotationAt, readAt, tokensFrom, tokensBy}
-use Rattle.tokenizer.proofs.Cases.{by-test, by-lt, by-eq, clash, Given}
+use Rattle.tokens.proofs.Cases.{by-test, by-lt, by-eq, clash, Given}
 use Rattle.tokenizer.proofs.Runs.{run-twice}
 use Rattle.tokenizer.proofs.Moves.{NoSpace, Sound, by-rules, by-spelling}
 use Rattle.tokenizer.proofs.Tokens.{read-on, tokens-end}

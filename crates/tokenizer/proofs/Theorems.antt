@@ -6,24 +6,24 @@ use mathlib.Core.Option.{none, some}
 use Prim.Native.Nat.{ℕ, _+_, _≤_, _<_}
 use native.Mathlib.Omega.{arith}
 use lib.ListN.{length, getD, drop}
-use Rattle.tokenizer.specs.declared.token.Token.{Token}
-use Rattle.tokenizer.specs.declared.token.Token.the-variants.{Space}
-use Rattle.tokenizer.specs.Kinds.{numberOf, tokenOf}
-use Rattle.tokenizer.specs.Lexeme.{Lexeme}
+use Rattle.tokens.specs.declared.token.Token.{Token}
+use Rattle.tokens.specs.declared.token.Token.the-variants.{Space}
+use Rattle.tokens.specs.Kinds.{numberOf, tokenOf}
+use Rattle.tokens.specs.Lexeme.{Lexeme}
 use Rattle.tokenizer.specs.Spellings.{Row, rows}
 use Rattle.tokenizer.specs.Order.{before, sortedFrom}
 use Rattle.tokenizer.specs.Longest.{Numbered, begins, longestAt}
 use Rattle.tokenizer.specs.Rules.{readAt, byteAt, tokensFrom, tokensBy, tokens}
-use Rattle.tokenizer.specs.Table.{tableWords, tokenList}
-use Rattle.tokenizer.specs.Refusals.{textRefusal, listRefusal}
-use Rattle.tokenizer.proofs.Cases.{by-option, clash}
+use Rattle.tokens.specs.Table.{tableWords, tokenList}
+use Rattle.tokens.specs.Refusals.{textRefusal, listRefusal}
+use Rattle.tokens.proofs.Cases.{by-option, clash}
 use Rattle.tokenizer.proofs.Begins.{Found, Answered, answered, begins-self, begins-length}
 use Rattle.tokenizer.proofs.Rows.{rows-length}
 use Rattle.tokenizer.proofs.Order.{sorted, sorted-pair, before-strict, same-place}
 use Rattle.tokenizer.proofs.Moves.{read-moves, byteAt-sound}
 use Rattle.tokenizer.proofs.Tokens.{fuel, count-bound, inside-by, in-order-by}
 use Rattle.tokenizer.proofs.Spaces.{apart-by}
-use Rattle.tokenizer.proofs.Numbers.{number-of-token, token-of-number}
+use Rattle.tokens.proofs.Numbers.{number-of-token, token-of-number}
 use Rattle.tokenizer.proofs.Accepted.{accepted-by}
 
 -- One read moves on and stays in the text.

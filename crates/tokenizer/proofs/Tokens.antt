@@ -5,9 +5,9 @@ use Prim.Native.Nat.{ℕ, zero, suc, _+_, _≤_, _<_}
 use native.Mathlib.Omega.{arith}
 use lib.ListN.{length, length-append}
 use borrow.Author.Tests.{lt-ltb, le-ltb}
-use Rattle.tokenizer.specs.Lexeme.{Lexeme}
+use Rattle.tokens.specs.Lexeme.{Lexeme}
 use Rattle.tokenizer.specs.Rules.{Read, readAt, tokensFrom, tokensBy}
-use Rattle.tokenizer.proofs.Cases.{by-lt}
+use Rattle.tokens.proofs.Cases.{by-lt}
 use Rattle.tokenizer.proofs.Moves.{Between, Sound, read-moves}
 
 module _ (rule5 : List ℕ → ℕ → Read) (text : List ℕ) where

@@ -8,11 +8,11 @@ use native.Mathlib.Numerals.{add-one}
 use lib.ListN.{length, take, drop, set, length-append, length-take, length-drop}
 use lib.Seq.{take-at, drop-at, drop-drop, sets-eq}
 use Rattle.tokenizer.specs.declared.rules.Lexed.{Lexed}
-use Rattle.tokenizer.specs.Lexeme.{Lexeme}
+use Rattle.tokens.specs.Lexeme.{Lexeme}
 use Rattle.tokenizer.specs.Rules.{Read, byteAt, readAt, tokensFrom, tokensBy, tokens}
-use Rattle.tokenizer.specs.Table.{tableWords}
+use Rattle.tokens.specs.Table.{tableWords}
 use Rattle.tokenizer.specs.Coded.{code, lexedWords, pieceWords, withWords, ifWritten}
-use Rattle.tokenizer.proofs.Cases.{by-test}
+use Rattle.tokens.proofs.Cases.{by-test}
 use Rattle.tokenizer.proofs.Moves.{read-moves, byteAt-sound}
 use Rattle.tokenizer.proofs.Tokens.{tokens-step, tokens-end, count-step, count-bound}
 

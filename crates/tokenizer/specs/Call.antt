@@ -10,8 +10,8 @@ use Rattle.tokenizer.specs.declared.Tokenized.the-variants.{Tokens, Refu
 use Rattle.tokenizer.specs.declared.Counted.{Counted}
 use Rattle.tokenizer.specs.declared.Counted.the-variants as count
 use Rattle.tokenizer.specs.Rules.{tokens}
-use Rattle.tokenizer.specs.Table.{tableWords, countOthers}
-use Rattle.tokenizer.specs.Refusals.{Answer, accepted, refused, textRefusal}
+use Rattle.tokens.specs.Table.{tableWords, countOthers}
+use Rattle.tokens.specs.Refusals.{Answer, accepted, refused, textRefusal}
 
 -- the code's answer in the words of document 01
 abbrev pub answerOf : Tokenized → Answer

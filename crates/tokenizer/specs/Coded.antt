@@ -7,9 +7,9 @@ use lib.Dec.{eqb}
 use lib.ListN.{length, getD, take, drop}
 use Rattle.tokenizer.specs.declared.rules.Piece.{Piece}
 use Rattle.tokenizer.specs.declared.rules.Lexed.{Lexed}
-use Rattle.tokenizer.specs.declared.token.Token.the-variants.{Frac}
-use Rattle.tokenizer.specs.Kinds.{numberOf}
-use Rattle.tokenizer.specs.Lexeme.{Lexeme, lexeme}
+use Rattle.tokens.specs.declared.token.Token.the-variants.{Frac}
+use Rattle.tokens.specs.Kinds.{numberOf}
+use Rattle.tokens.specs.Lexeme.{Lexeme, lexeme}
 use Rattle.tokenizer.specs.Rules.{Read, spellingAt, numberAt, quotationAt, byteAt}
 
 abbrev pub piece : ℕ → ℕ → ℕ → Piece

@@ -6,8 +6,8 @@ use mathlib.Core.List.{List, [], _∷_, _++_}
 use Prim.Native.Nat.{ℕ, zero, suc, _+_}
 use lib.Dec.{ltb}
 use lib.ListN.{length, getD}
-use Rattle.tokenizer.specs.declared.token.Token.the-variants.{Frac}
-use Rattle.tokenizer.specs.Kinds.{numberOf}
+use Rattle.tokens.specs.declared.token.Token.the-variants.{Frac}
+use Rattle.tokens.specs.Kinds.{numberOf}
 use Rattle.tokenizer.specs.Spellings.{Row, rows}
 
 unfoldable pub flat : List Row → List ℕ

@@ -1,6 +1,3 @@
-pub mod Kinds
-pub mod Bytes
-pub mod Lexeme
 pub mod Spellings
 pub mod Order
 pub mod Longest
@@ -8,7 +5,5 @@ pub mod Constants
 pub mod Lookup
 pub mod Rules
 pub mod Coded
-pub mod Table
-pub mod Refusals
 pub mod Call
 pub mod Starred

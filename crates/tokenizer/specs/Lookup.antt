@@ -11,7 +11,7 @@ use Rattle.tokenizer.specs.declared.prefix_map.Found.{Found}
 use Rattle.tokenizer.specs.declared.prefix_map.Found.the-variants as found
 use Rattle.tokenizer.specs.declared.prefix_map.Compared.{Compared}
 use Rattle.tokenizer.specs.declared.prefix_map.Compared.the-variants.{Before, Fits, After}
-use Rattle.tokenizer.specs.Kinds.{numberOf}
+use Rattle.tokens.specs.Kinds.{numberOf}
 use Rattle.tokenizer.specs.Longest.{Numbered}
 
 -- the public answer: the spelling's length and its token

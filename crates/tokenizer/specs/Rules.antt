@@ -5,10 +5,10 @@ use mathlib.Core.Option.{Option, none, some}
 use Prim.Native.Nat.{ℕ, zero, suc, _+_, _-_}
 use lib.Dec.{eqb, ltb, leb}
 use lib.ListN.{length, getD, drop}
-use Rattle.tokenizer.specs.declared.token.Token.{Token}
-use Rattle.tokenizer.specs.declared.token.Token.the-variants.{Number, Text, Ident, Operator, OpenBracket, CloseBracket, Space}
-use Rattle.tokenizer.specs.Bytes.{bytes}
-use Rattle.tokenizer.specs.Lexeme.{Lexeme, lexeme}
+use Rattle.tokens.specs.declared.token.Token.{Token}
+use Rattle.tokens.specs.declared.token.Token.the-variants.{Number, Text, Ident, Operator, OpenBracket, CloseBracket, Space}
+use Rattle.tokens.specs.Bytes.{bytes}
+use Rattle.tokens.specs.Lexeme.{Lexeme, lexeme}
 use Rattle.tokenizer.specs.Longest.{begins, longestAt}
 
 -- What is read at a place: a token, those that wait behind it, and the next place.

@@ -4,10 +4,10 @@
 use mathlib.Core.List.{List, [], _∷_}
 use Prim.Native.Nat.{ℕ}
 use Prim.Native.String.{String}
-use Rattle.tokenizer.specs.Bytes.{bytes}
-use Rattle.tokenizer.specs.declared.token.SymbolClass.the-variants.{Glyph, Name, Joining, JoiningName, Leading, LeadingName, Space}
-use Rattle.tokenizer.specs.declared.token.Token.{Token}
-use Rattle.tokenizer.specs.declared.token.Token.the-variants.{Frac, Super, Sub, Sep, Symbol, Sign, Function, Unary, Binary, OpenBracket, CloseBracket, OpenCloseBracket}
+use Rattle.tokens.specs.Bytes.{bytes}
+use Rattle.tokens.specs.declared.token.SymbolClass.the-variants.{Glyph, Name, Joining, JoiningName, Leading, LeadingName, Space}
+use Rattle.tokens.specs.declared.token.Token.{Token}
+use Rattle.tokens.specs.declared.token.Token.the-variants.{Frac, Super, Sub, Sep, Symbol, Sign, Function, Unary, Binary, OpenBracket, CloseBracket, OpenCloseBracket}
 
 -- a row of the table: a spelling's bytes and its token
 pub record Row : Type 0 where

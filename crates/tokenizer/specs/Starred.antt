@@ -2,10 +2,10 @@
 use mathlib.Core.Path.{_≡_, refl}
 use mathlib.Core.List.{List, [], _∷_, map}
 use Prim.Native.String.{String}
-use Rattle.tokenizer.specs.declared.token.SymbolClass.the-variants.{Joining}
-use Rattle.tokenizer.specs.declared.token.Token.the-variants.{Number, Text, Ident, Operator, Symbol, Unary, OpenBracket, CloseBracket}
-use Rattle.tokenizer.specs.Bytes.{bytes}
-use Rattle.tokenizer.specs.Lexeme.{Lexeme, lexeme}
+use Rattle.tokens.specs.declared.token.SymbolClass.the-variants.{Joining}
+use Rattle.tokens.specs.declared.token.Token.the-variants.{Number, Text, Ident, Operator, Symbol, Unary, OpenBracket, CloseBracket}
+use Rattle.tokens.specs.Bytes.{bytes}
+use Rattle.tokens.specs.Lexeme.{Lexeme, lexeme}
 use Rattle.tokenizer.specs.Spellings.{rows}
 use Rattle.tokenizer.specs.Longest.{begins, longestOf, longestAt}
 use Rattle.tokenizer.specs.Rules.{run, runEnd, blank, digit, letter, other, blanksAt, closer, literalAt, commandAt, same, isTextCommand, spellingAt, numberEnd, pastPoint, numberAt, quotationAt, byteAt, readAt, tokensFrom, tokensBy, tokens}

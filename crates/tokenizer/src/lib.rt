@@ -1,9 +1,8 @@
-// The tokenizer of asciimath-parser for ASCII text: tokens, the spelling table, the rules, and the call on a text.
+// The tokenizer of asciimath-parser for ASCII text: the spelling table, the rules, and the calls on a text.
 pub mod prefix_map;
 mod rules;
 mod spellings;
 mod table;
-pub mod token;
 
 use spellings::BYTES;
 use spellings::FIRST;
@@ -12,27 +11,14 @@ use spellings::STARTS;
 use table::count_list;
 use table::has_room;
 use table::list_tokens;
+use tokens::is_ascii;
 ghost use mathlib.Core.Path.{_≡_};
-ghost use Rattle.tokenizer.specs.Refusals.{ascii};
 ghost use Rattle.tokenizer.specs.Call.{answerOf, tokenized, countOf, counted};
 
 // How many tokens the text has, or the number of the refusal.
 pub enum Tokenized {
     Tokens(usize),
     Refused(u8),
-}
-
-fn is_ascii(text: &[u8]) -> bool
-    ensures { λ r. ⌜ r ≡ ascii (now (text .entry)) ⌝ }
-{
-    let mut i = 0;
-    while i < text.len() {
-        if 128 <= text[i] {
-            return false;
-        }
-        i += 1;
-    }
-    true
 }
 
 // Writes the text's token list into the first words of the table, or refuses it by 1, 2 or 7 and changes nothing.

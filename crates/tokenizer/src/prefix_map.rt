@@ -7,7 +7,7 @@ use crate::spellings::first_of;
 use crate::spellings::kind_of;
 use crate::spellings::len_of;
 use crate::spellings::start_of;
-use crate::token::Token;
+use tokens::token::Token;
 ghost use mathlib.Core.Path.{_≡_};
 ghost use Prim.Native.Nat.{ℕ, _≤_, _<_};
 ghost use lib.ListN.{length, getD, drop};

@@ -4,7 +4,7 @@ use crate::prefix_map::longest_in;
 ghost use mathlib.Core.Path.{_≡_};
 ghost use Prim.Native.Nat.{ℕ, _+_, _≤_, _<_};
 ghost use lib.ListN.{length};
-ghost use Rattle.tokenizer.specs.declared.token.Token.the-variants.{Unary};
+ghost use Rattle.tokens.specs.declared.token.Token.the-variants.{Unary};
 ghost use Rattle.tokenizer.specs.Constants.{Lent, spellingOf};
 ghost use Rattle.tokenizer.specs.Rules.{blank, digit, letter, other, closer, runEnd, literalAt, commandAt, isTextCommand, numberEnd, pastPoint, byteAt, readAt};
 ghost use Rattle.tokenizer.specs.Coded.{piece, code, single, fromQuotation, fromNumber, fromSpelling};

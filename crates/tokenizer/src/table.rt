@@ -10,7 +10,7 @@ ghost use lib.Dec.{leb};
 ghost use lib.ListN.{length, drop};
 ghost use Rattle.tokenizer.specs.Constants.{Lent};
 ghost use Rattle.tokenizer.specs.Rules.{tokens};
-ghost use Rattle.tokenizer.specs.Table.{tableWords, countOthers};
+ghost use Rattle.tokens.specs.Table.{tableWords, countOthers};
 ghost use Rattle.tokenizer.specs.Coded.{pieceWords, lexedWords, withWords, ifWritten, othersIn};
 
 // Writes a token as the n-th.

@@ -7,7 +7,7 @@ use native.Mathlib.Omega.{arith}
 use lib.ListN.{length, getD, drop, length-append}
 use lib.Seq.{take-append-seam, drop-append-seam}
 use lib.Dec.{eqb}
-use Rattle.tokenizer.specs.declared.token.SymbolClass.the-variants as class
+use Rattle.tokens.specs.declared.token.SymbolClass.the-variants as class
 use Rattle.tree.specs.Tree.{Script, Head, Atom, Prefix, Node, node, Nodes, end, _▸_, _⧺_, count}
 use Rattle.tree.specs.Words.{headWords, tailWords, ofItems, pick, withHead, encode, encodes, encodeItem, encodeItems}
 use Rattle.tree.specs.WellFormed.{WellFormed}

@@ -5,9 +5,9 @@ use mathlib.Core.Bool.{true, false}
 use mathlib.Core.List.{List, [], _∷_}
 use lib.ListN.{length, getD, take, drop}
 use lib.Dec.{eqb}
-use Rattle.tokenizer.specs.declared.token.SymbolClass.{SymbolClass}
-use Rattle.tokenizer.specs.declared.token.SymbolClass.the-variants as class
-use Rattle.tokenizer.specs.Lexeme.{Span}
+use Rattle.tokens.specs.declared.token.SymbolClass.{SymbolClass}
+use Rattle.tokens.specs.declared.token.SymbolClass.the-variants as class
+use Rattle.tokens.specs.Lexeme.{Span}
 use Rattle.tree.specs.Tree.{Script, Head, Atom, Prefix, Node, node, Nodes, end, _▸_, leaf}
 use Rattle.tree.specs.Words.{ofItems, pick}
 

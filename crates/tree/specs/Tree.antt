@@ -2,8 +2,8 @@
 -- nodes below it. docs/LAYOUT.md says kind by kind which type of tree.rs each is.
 use Prim.Native.Nat.{ℕ, zero, suc}
 use mathlib.Core.List.{List, [], _∷_}
-use Rattle.tokenizer.specs.declared.token.SymbolClass.{SymbolClass}
-use Rattle.tokenizer.specs.Lexeme.{Span}
+use Rattle.tokens.specs.declared.token.SymbolClass.{SymbolClass}
+use Rattle.tokens.specs.Lexeme.{Span}
 
 -- The span of a bracket that stands for no token: "start 0, length 0".
 abbrev pub nowhere : Span

@@ -5,7 +5,7 @@ use Prim.Native.Nat.{ℕ}
 use mathlib.Core.Bool.{Bool, true, false}
 use mathlib.Core.List.{List, [], _∷_, _++_}
 use lib.ListN.{length}
-use Rattle.tokenizer.specs.Kinds.{classNumber}
+use Rattle.tokens.specs.Kinds.{classNumber}
 use Rattle.tree.specs.Tree.{Script, Head, Atom, Prefix, Node, node, Nodes, end, _▸_, count}
 
 -- the number of a node's kind, its first word

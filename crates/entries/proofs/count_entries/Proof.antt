@@ -3,8 +3,8 @@ use Prim.Native.Nat.{_+_, _-_, _≤_}
 use mathlib.Core.Path.{_≡_, ap}
 use mathlib.Core.Logic.{⊎-elim}
 use native.Mathlib.Omega.{arith}
-use Rattle.tokenizer.specs.Table.{tokenList, countOthers}
-use Rattle.tokenizer.proofs.TokenList.{tokensFrom, tokens-all, tokens-none, others-same, others-more}
+use Rattle.tokens.specs.Table.{tokenList, countOthers}
+use Rattle.tokens.proofs.TokenList.{tokensFrom, tokens-all, tokens-none, others-same, others-more}
 use Rattle.entries.proofs.count_entries.Statement.{statement}
 use Rattle.entries.proofs.count_entries.Tie as tie
 

@@ -2,7 +2,7 @@
 use Prim.Native.Nat.{_-_}
 use mathlib.Core.Logic.{⊎-elim}
 use native.Mathlib.Omega.{arith}
-use Rattle.tokenizer.proofs.TokenList.{others-more}
+use Rattle.tokens.proofs.TokenList.{others-more}
 use Rattle.entries.proofs.Matching.{chain-top}
 use Rattle.entries.proofs.Filling.{Filling, filling-none, filling-space, filling-entry, filling-done}
 use Rattle.entries.proofs.fill.Statement.{statement}

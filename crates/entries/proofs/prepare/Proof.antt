@@ -2,7 +2,7 @@
 use mathlib.Core.Path.{_∙_}
 use native.Mathlib.Omega.{arith}
 use borrow.Author.Needs.{needs}
-use Rattle.tokenizer.proofs.TokenList.{others-few}
+use Rattle.tokens.proofs.TokenList.{others-few}
 use Rattle.entries.proofs.Matching.{chain-top}
 use Rattle.entries.proofs.Clearing.{chain-narrow}
 use Rattle.entries.proofs.Answers.{many, short-table, short-work, ready}

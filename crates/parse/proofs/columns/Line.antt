@@ -8,7 +8,7 @@ use lib.ListN.{length, take, drop, getD, length-append, length-drop, drop-of-len
 use lib.Seq.{drop-cons, take-nil}
 use lib.Dec.{eqb, ltb}
 use borrow.Author.Tests.{eq-eqb, ne-eqb, eqb-true, eqb-false, lt-ltb, le-ltb}
-use Rattle.tokenizer.specs.Lexeme.{Span}
+use Rattle.tokens.specs.Lexeme.{Span}
 use Rattle.tree.specs.Tree.{Script, Head, Atom, Prefix, Node, node, Nodes, end, _▸_, count}
 use Rattle.tree.specs.Words.{atomKind, prefixKind, encode, encodes, encodeItem, encodeItems}
 use Rattle.reading.specs.Entries.{Entry}

@@ -1,7 +1,7 @@
 -- The two rows, and no other.
 use mathlib.Core.Path.{sym, _∙_}
 use borrow.Author.Tests.{eq-eqb, ne-eqb}
-use Rattle.tokenizer.proofs.Cases.{by-eq}
+use Rattle.tokens.proofs.Cases.{by-eq}
 use Rattle.tokenizer.proofs.RuleCases.{command-text, command-mbox, command-other}
 use Rattle.tokenizer.proofs.rules.is_text_command.Statement.{statement}
 use Rattle.tokenizer.proofs.rules.is_text_command.Tie as tie

@@ -8,7 +8,7 @@ use lib.ListN.{length}
 use borrow.Author.Tests.{le-leb}
 use borrow.Author.Needs.{needs}
 use Rattle.tokenizer.specs.Rules.{tokens}
-use Rattle.tokenizer.proofs.Cases.{clash}
+use Rattle.tokens.proofs.Cases.{clash}
 use Rattle.tokenizer.proofs.Moves.{byteAt-sound}
 use Rattle.tokenizer.proofs.Tokens.{count-bound}
 use Rattle.tokenizer.proofs.table.has_room.Statement.{statement}

@@ -1,4 +1,0 @@
-mod Ascii
-mod Order
-mod Tokens
-pub mod Accepted

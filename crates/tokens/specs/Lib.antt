@@ -1,0 +1,6 @@
+pub mod Kinds
+pub mod Bytes
+pub mod Lexeme
+pub mod Table
+pub mod Refusals
+pub mod Checks
