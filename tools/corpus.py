@@ -1,36 +1,45 @@
 #!/usr/bin/env python3
 """Texts to compare the readers on, each a line of lower-case hex.
 
-    corpus.py SPELLINGS [--families A,B] [--seed N] [--count N] [--max-length N] [--pieces N]
+    corpus.py SPELLINGS [--families A,B] [--seed N] [--count N] [--max-length N] [--pieces N] [--letters N]
 
 SPELLINGS is tokenizer.rs of the original or the project's list of rows. Each family gives its
-fixed texts and then `count` random ones; the same arguments give the same texts. The family
-`lists` is different: its lines are `HEX start,len,kind start,len,kind ..`, token lists over a
-text, and it is not among the default families.
+fixed texts and then `count` random ones; the same arguments give the same texts. The families
+`lists`, `kinds`, `wild` and `bars` are different: their lines are `HEX start,len,kind
+start,len,kind ..`, token lists over a text, and they are not among the default families.
 """
 
 import argparse
 import itertools
+import os
 import random
 import re
 import string
 import sys
 
 sys.dont_write_bytecode = True
-from spellings import TOKENS, rows_of
+from spellings import TOKENS, read, rows_of
 
 BLANKS = "\t\n\v\f\r "
 PAIRS = ["()", "[]", "{}", "||", ("||", "||"), ("{:", ":}"), ("left[", "right]"), ("(:", ":)"), "(]", "{]", "[}", ("|:", ":|")]
 PIECES = ["(", ")", "[", "]", "{", "}", "|", "||", ",", " ", "x", "1", "-", "/", "_", "^", "sin", "sqrt", "frac", "="]
 REPEATED = PIECES + ["| ", "(|", "|(", "[(", "x^", "x_1^", "-|", "a/", "sin^", "sqrt ", "frac x", "[(a,b),(", "(a,", "{:", "text(", "|x", "[[a,", '"']
+LETTERS = "a-/^_,|()[] "
+LIMITS = [limit + step for limit in (127, 256, 500, 512, 1024, 2048, 4096) for step in range(-2, 3)]
+# bars that fail, so that much is read again
+UNITS = ["|(", "|sin ", "| |(", "|a(", "|[", "|| |(", "|x^", "sin |", "[(|", "-|", "(|,", "|root "]
+TEXTS = os.path.join(os.path.dirname(os.path.abspath(__file__)), "bench", "texts.txt")
+# ways to go deeper
+NESTED = ["(", "|", "[(", "[(a,", "[(a,b),(", "|(a,b),(", "x^", "x_1^", "sqrt ", "frac x", "1/", "sin ", "sin^", "-", "sin_1^"]
 COUNTS = [2, 3, 64, 126, 127, 128, 129, 255, 256, 257, 258, 512, 1024, 2048, 4096]
 
 
 class Maker:
-    def __init__(self, rng, rows, longest, pieces):
-        self.rng, self.longest, self.pieces = rng, longest, pieces
+    def __init__(self, rng, rows, longest, pieces, letters):
+        self.rng, self.longest, self.pieces, self.letters = rng, longest, pieces, letters
         self.rows = [spelling for spelling, _ in rows]
         self.of = {token: [s for s, t in rows if t == token] for token in TOKENS}
+        self.good = read(TEXTS).splitlines()
         self.symbols = [s for s, t in rows if t.startswith("Symbol")]
 
     # small parts
@@ -49,9 +58,9 @@ class Maker:
         """Short lengths as often as long ones."""
         return int((self.longest + 1) ** self.rng.random())
 
-    def filled(self, part):
-        """Parts one after another, cut to a random length."""
-        wanted, text = self.length(), ""
+    def filled(self, part, wanted=None):
+        """Parts one after another, cut to a length."""
+        wanted, text = self.length() if wanted is None else wanted, ""
         while len(text) < wanted:
             text += part()
         return text[:wanted]
@@ -259,6 +268,67 @@ class Maker:
         repeated = lambda: self.rng.choice(REPEATED) * int(300 ** self.rng.random())
         return self.filled(repeated)
 
+    def all_fixed(self):
+        """Every text of so many letters."""
+        for count in range(self.letters + 1):
+            yield from ("".join(text) for text in itertools.product(LETTERS, repeat=count))
+
+    def all(self):
+        return "".join(self.rng.choices(LETTERS, k=self.letters + 1 + self.rng.randrange(6)))
+
+    def limits_fixed(self):
+        return (self.of_length(length) for length in LIMITS for _ in range(4))
+
+    def limits(self):
+        return self.of_length(self.rng.choice(LIMITS))
+
+    def of_length(self, length):
+        part = self.pick(
+            lambda: self.rng.choice(LETTERS),
+            lambda: self.rng.choice(PIECES),
+            lambda: self.expression(3),
+            lambda: self.rng.choice(REPEATED) * self.rng.randint(1, 200),
+            lambda: chr(self.rng.randrange(128)),
+        )
+        return self.filled(part, length)
+
+    def answers_fixed(self):
+        """The answers of the benchmark."""
+        return self.good
+
+    def answers(self):
+        """Answers with something lost, doubled or put in another place."""
+        text = self.rng.choice(self.good)
+        for _ in range(self.rng.randint(0, 2)):
+            other = self.rng.choice(self.good) if self.often(1) else text
+            (start, end), (at, to) = self.span(other), self.span(text)
+            text = text[:at] + other[start:end] + text[to:]
+        return self.damaged(text)
+
+    def span(self, text):
+        return sorted(self.rng.randint(0, len(text)) for _ in range(2))
+
+    def takes_fixed(self):
+        """Texts with many takes."""
+        starts, ends = ("", "-|(", "[(", "|", "{(|,"), ("", "),", ",", "-|", "|)]")
+        for unit, start, end, count in itertools.product(UNITS, starts, ends, (5, 40, 126, 200)):
+            yield start + unit * count + end
+
+    def takes(self):
+        units = "".join(self.rng.choices(UNITS, k=self.rng.randint(1, 3)))
+        start, end = (self.pick("", "-|(", "[(", "-", "|", "((") for _ in range(2))
+        return start + units * int(100 ** self.rng.random()) + self.pick("", "),", ",", "|") + end
+
+    def nested_fixed(self):
+        """As deep as can be, of one or two ways in turns."""
+        for one, other in itertools.product(NESTED, ["", *NESTED]):
+            yield from ((one + other) * 130 + end for end in ("x", "a)]" * 130))
+
+    def nested(self):
+        unit = "".join(self.rng.choices(NESTED, k=self.rng.randint(1, 4)))
+        end = self.pick("", "x", self.some(")],|", 300), self.pick(")]", "b)]", "),") * self.rng.randrange(200))
+        return unit * self.rng.randint(20, 200) + end
+
 
 KINDS = dict(zip(PIECES, (20, 21, 20, 21, 20, 21, 22, 22, 3, 23, 6, 4, 16, 0, 2, 1, 17, 18, 19, 10)))
 
@@ -286,25 +356,63 @@ def token_list(make):
     return " ".join([text.encode().hex(), *tokens])
 
 
-FAMILIES = "spellings blanks numbers quotes commands bytes soup matrices expressions short deep".split()
+def wild_list(make):
+    """Any kinds and spans, empty and overlapping ones too, seldom with two Space tokens in a row."""
+    rng, text = make.rng, make.some("()[]{}|,ab1- ", make.length())
+    usual = [20, 20, 21, 21, 22, 22, 3, 3, 16, 6, 23, 1, 2, 0, 17, 18]
+    kinds = rng.choices(make.pick(range(24), usual, rng.sample(range(24), 4)), k=make.length())
+    tokens, long_space = [], False
+    for kind in kinds:
+        start = rng.randint(0, len(text))
+        length = min(make.pick(0, 1, 1, 1, 2, rng.randint(0, 9)), len(text) - start)
+        if kind == 23 and long_space and not make.often(1, 50):
+            kind = 6
+        long_space = kind == 23 and length > 0
+        tokens.append(f"{start},{length},{kind}")
+    return " ".join([text.encode().hex(), *tokens])
+
+
+def kind_lists():
+    """All lists of up to three tokens, all with one text."""
+    for length in range(4):
+        for kinds in itertools.product(range(24), repeat=length):
+            yield " ".join(["7c", *(f"0,{int(kind != 23)},{kind}" for kind in kinds)])
+
+
+def bar_list(make):
+    """`- | ( F F .. F ) ,` where each F is a bar of its own text: nearly 5 n * n takes."""
+    rng, count = make.rng, int(min(make.longest, 600) ** make.rng.random())
+    text = "-|(),x" + "a" * count
+    bars = [f"6,{rng.randint(1, count) if make.often(1, 40) else bar + 1},22" for bar in range(count)]
+    start = make.pick("0,1,16 1,1,22 2,1,20", "0,1,16 1,1,22 2,1,20 2,1,20", "1,1,22 2,1,20", "2,1,20", "")
+    end = make.pick("3,1,21 4,1,3", "3,1,21 4,1,3", "4,1,3", "3,1,21 3,1,21", "5,1,6", "")
+    return " ".join(part for part in [text.encode().hex(), start, *bars, end] if part)
+
+
+FAMILIES = "spellings blanks numbers quotes commands bytes soup matrices expressions short deep nested all limits answers takes".split()
+LISTS = {"lists": token_list, "wild": wild_list, "bars": bar_list}
 
 
 def main():
     parser = argparse.ArgumentParser(description=__doc__.splitlines()[0])
     parser.add_argument("spellings")
-    parser.add_argument("--families", default=",".join(FAMILIES), help="default: %(default)s; also lists")
+    parser.add_argument("--families", default=",".join(FAMILIES), help=f"default: %(default)s; also kinds, {', '.join(LISTS)}")
     parser.add_argument("--seed", default="1")
     parser.add_argument("--count", type=int, default=1000, help="random texts of each family (%(default)s)")
     parser.add_argument("--max-length", type=int, default=200, help="bytes of a text at most (%(default)s)")
     parser.add_argument("--pieces", type=int, default=3, help="short: all texts of so many pieces (%(default)s)")
+    parser.add_argument("--letters", type=int, default=4, help="all: all texts of so many letters (%(default)s)")
     args = parser.parse_args()
     rows, seen = rows_of(args.spellings), set()
     for family in args.families.split(","):
         rng = random.Random(f"{args.seed} {family}")
-        make = Maker(rng, rows, args.max_length, args.pieces)
-        if family == "lists":
+        make = Maker(rng, rows, args.max_length, args.pieces, args.letters)
+        if family == "kinds":
+            print(*kind_lists(), sep="\n")
+            continue
+        if family in LISTS:
             for _ in range(args.count):
-                print(token_list(make))
+                print(LISTS[family](make))
             continue
         if family not in FAMILIES:
             sys.exit(f"no family {family}")

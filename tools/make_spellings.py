@@ -3,8 +3,10 @@
 
     make_spellings.py TOKENIZER_RS [--code]
 
-The constants: the bytes of all rows one after another; where each row starts, and the end; the
-kind of each row; and for each byte value to 128 how many rows begin with a smaller byte.
+The constants: the bytes of all rows one after another; for each row 32 times its start and the
+kind of its token, and behind the last 32 times the end; and for each byte value to 128, 64 times
+the rows that begin with a smaller byte, 32 more where the byte alone is a spelling, and the kind
+that the byte has by itself.
 """
 
 import sys
@@ -20,6 +22,15 @@ def constant(name, kind, numbers):
     return "\n".join(lines + ["];"])
 
 
+def kind_alone(byte):
+    """The kind of a byte that is no spelling."""
+    if byte in b"\t\n\v\f\r ":
+        return TOKENS.index("Space")
+    if byte in b"0123456789":
+        return TOKENS.index("Number")
+    return TOKENS.index("Ident" if chr(byte).isalpha() else "Operator")
+
+
 def main():
     if len(sys.argv) not in (2, 3) or sys.argv[2:] not in ([], ["--code"]):
         sys.exit("usage: make_spellings.py TOKENIZER_RS [--code]")
@@ -29,13 +40,20 @@ def main():
             print(f"    {antt_row(row)}")
         return
     keys = [spelling.encode() for spelling, _ in rows]
-    starts = [0]
-    for key in keys:
-        starts.append(starts[-1] + len(key))
+    kinds = [TOKENS.index(token) for _, token in rows]
+    words, start = [], 0
+    for key, kind in zip(keys, kinds):
+        words.append(32 * start + kind)
+        start += len(key)
+    words.append(32 * start)
+    alone = {key[0]: 32 + kind for key, kind in zip(keys, kinds) if len(key) == 1}
+    firsts = [
+        64 * sum(key[0] < byte for key in keys) + alone.get(byte, kind_alone(byte))
+        for byte in range(129)
+    ]
     print(constant("BYTES", "u8", list(b"".join(keys))))
-    print(constant("STARTS", "u16", starts))
-    print(constant("KINDS", "u8", [TOKENS.index(token) for _, token in rows]))
-    print(constant("FIRSTS", "u16", [sum(key[0] < byte for key in keys) for byte in range(129)]))
+    print(constant("ROWS", "u16", words))
+    print(constant("FIRST", "u16", firsts))
 
 
 main()

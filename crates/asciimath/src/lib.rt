@@ -4,6 +4,8 @@ use parse::Parsed;
 use parse::ParsedTokens;
 use parse::parse;
 use parse::parse_tokens;
+use print::Printed;
+use print::print;
 use tokenizer::Counted;
 use tokenizer::Tokenized;
 use tokenizer::count_tokens;
@@ -11,6 +13,7 @@ use tokenizer::tokenize;
 ghost use mathlib.Core.Path.{_≡_};
 ghost use Rattle.tokenizer.specs.Call.{tokenized, counted};
 ghost use Rattle.parse.specs.Call.{parsedText, parsedTokens};
+ghost use Rattle.print.specs.Call.{printedText};
 ghost use Rattle.asciimath.specs.Exported.{codeOf, valuesIn};
 ghost use lib.ListN.{set};
 
@@ -124,6 +127,37 @@ pub extern "C" fn asciimath_parse_tokens(
         } => {
             put(answer, 0, takes);
             put(answer, 1, items as u64);
+            put(answer, 2, blank as u64);
+            0
+        }
+    }
+}
+
+// Reads a text and prints its tree. Values: the length of the print, takes, blank.
+#[no_mangle]
+pub extern "C" fn asciimath_print(
+    text: &[u8],
+    table: &mut [u32],
+    work: &mut [u32],
+    tree: &mut [u32],
+    out: &mut [u8],
+    answer: &mut [u64],
+) -> u32
+    ensures { λ r.
+        ⌜
+        (r ≡ codeOf (printedText (now (text .entry)) (now (table .entry)) (now (work .entry)) (now (tree .entry)) (now (out .entry)) .0))
+        × (now (table .exit) ≡ printedText (now (text .entry)) (now (table .entry)) (now (work .entry)) (now (tree .entry)) (now (out .entry)) .1)
+        × (now (work .exit) ≡ printedText (now (text .entry)) (now (table .entry)) (now (work .entry)) (now (tree .entry)) (now (out .entry)) .2)
+        × (now (tree .exit) ≡ printedText (now (text .entry)) (now (table .entry)) (now (work .entry)) (now (tree .entry)) (now (out .entry)) .3)
+        × (now (out .exit) ≡ printedText (now (text .entry)) (now (table .entry)) (now (work .entry)) (now (tree .entry)) (now (out .entry)) .4)
+        × (now (answer .exit) ≡ valuesIn (printedText (now (text .entry)) (now (table .entry)) (now (work .entry)) (now (tree .entry)) (now (out .entry)) .0) (now (answer .entry)))
+        ⌝ }
+{
+    match print(text, table, work, tree, out) {
+        Printed::Refused(k) => k as u32,
+        Printed::Whole { len, takes, blank } => {
+            put(answer, 0, len as u64);
+            put(answer, 1, takes);
             put(answer, 2, blank as u64);
             0
         }

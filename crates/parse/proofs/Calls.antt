@@ -1,5 +1,5 @@
 -- The calls' tests and answers: what each says of the refusals, and what is left when none is met.
-use Prim.Native.Nat.{ℕ, suc, _+_, _-_, _*_, _≤_, _<_}
+use Prim.Native.Nat.{ℕ, suc, _+_, _-_, _*_, _/_, _≤_, _<_}
 use mathlib.Core.Path.{_≡_, refl, sym, ap, _∙_, subst}
 use mathlib.Core.Bool.{Bool}
 use mathlib.Core.List.{List, [], _∷_, _++_}
@@ -7,11 +7,9 @@ use mathlib.Core.Option.{none, some}
 use native.Mathlib.Omega.{arith}
 use lib.Dec.{eqb}
 use lib.ListN.{length, drop, replicate}
-use borrow.Author.Tests.{lt-ltb, le-ltb, ne-eqb}
-use Rattle.tokenizer.specs.declared.Counted.{Counted}
-use Rattle.tokenizer.specs.declared.Counted.the-variants as counts
-use Rattle.tokenizer.specs.declared.Tokenized.{Tokenized}
-use Rattle.tokenizer.specs.declared.Tokenized.the-variants as listed
+use borrow.Author.Tests.{lt-ltb, le-ltb, le-leb, lt-leb, ne-eqb}
+use Rattle.tokenizer.specs.declared.TokenizedUnder.{TokenizedUnder}
+use Rattle.tokenizer.specs.declared.TokenizedUnder.the-variants as under
 use Rattle.tokens.specs.Lexeme.{Lexeme}
 use Rattle.tokenizer.specs.Rules.{tokens}
 use Rattle.tokens.specs.Table.{tableWords, tokenList, countOthers}
@@ -33,12 +31,9 @@ use Rattle.entries.specs.Prepared.{workWords, prepared}
 use Rattle.parse.specs.declared.ParsedTokens.{ParsedTokens}
 use Rattle.parse.specs.declared.ParsedTokens.the-variants as read
 use Rattle.parse.specs.declared.top.Reading.{Reading}
-use Rattle.parse.specs.declared.Room.{Room}
-use Rattle.parse.specs.declared.Room.the-variants.{Enough, Refused}
 use Rattle.parse.specs.Entry.{bit}
 use Rattle.parse.specs.Meet.{Given}
 use Rattle.parse.specs.Top.{TopReady, Reads}
-use Rattle.parse.specs.Checks.{refusalIn, Fits}
 use Rattle.parse.specs.Call.{listAnswerOf, roomRefusal, parseRefusal, parseTokensRefusal, values, workAfter, treeAfter, parsedText, parsedTokens}
 use Rattle.parse.proofs.Records.{inputOf, given, top-ready}
 
@@ -178,29 +173,6 @@ module _ (text table : List ℕ) (count : ℕ) (work tree : List ℕ) where
 pub others-within : (ts : List Lexeme) → countOthers ts ≤ length ts
 others-within ts = subst (λ (us : List Lexeme). countOthers us ≤ length ts) (list-of-words ts []) (others-few (length ts) (tableWords ts ++ []))
 
--- the count of a text's tokens
-module _ (text : List ℕ) (r : Counted) (c : call.countOf r ≡ call.counted text) where
-  count-case : (k : ℕ) → textRefusal text ≡ some k → call.countOf r ≡ refused k
-  unfolding call.counted
-  count-case k e = c ∙ rw (e, call.counted)
-
-  count-accepted : textRefusal text ≡ none → call.countOf r ≡ accepted (length (tokens text) ∷ countOthers (tokens text) ∷ [])
-  unfolding call.counted
-  count-accepted e = c ∙ rw (e, call.counted)
-
-  pub counted-refused : (k : ℕ) → r ≡ counts.Refused k → textRefusal text ≡ some k
-  counted-refused k q =
-      by-option (textRefusal text)
-      (λ e. let p = rw q at (count-accepted e) in apart cc)
-      (λ j e. let p = rw q at (count-case j e) in let n : j ≡ k = cc in e ∙ ap some n)
-
-  pub counted-tokens : (all others : ℕ) → r ≡ counts.Tokens all others
-      → (textRefusal text ≡ none) × (all ≡ length (tokens text)) × (others ≡ countOthers (tokens text))
-  counted-tokens all others q =
-      by-option (textRefusal text)
-      (λ e. let p = rw q at (count-accepted e) in (e, cc, cc))
-      (λ j e. let p = rw q at (count-case j e) in apart cc)
-
 pub text-length : (text : List ℕ) → textRefusal text ≡ none → length text ≤ 4096
 text-length text ok = lists.accepted text _ _ (accepted-list text [] ok) .short
 
@@ -225,17 +197,6 @@ module _ (text : List ℕ) (table work tree : ℕ) where
         (λ l. met p (table-short l))
         (λ l. (l, sym (table-long l) ∙ p))
 
-    pub any-text : 3 * length text ≤ table → 4 * (length text + 1) ≤ work → 32 * (length text + 1) ≤ tree
-        → parseRefusal text table work tree ≡ none
-    any-text a b c =
-        let n = never-outnumber text in
-        let m = others-within (tokens text) in
-        table-long (omega arith) ∙ room-enough (tokens text) work tree (omega arith) (omega arith)
-
-  pub fits-by : (r : Room) → parseRefusal text table work tree ≡ refusalIn r → Fits text table work tree r
-  fits-by Enough p = λ ok. p
-  fits-by (Refused k) p = p
-
 -- the call on a text
 module _ (text table work tree : List ℕ) where
   pub text-turned-back : (k : ℕ) → parseRefusal text (length table) (length work) (length tree) ≡ some k
@@ -249,53 +210,124 @@ module _ (text table work tree : List ℕ) where
   unfolding parsedText
   text-read e = rw (e, parsedText)
 
-  listed-refused : (k : ℕ) → textRefusal text ≡ some k → call.tokenized text table ≡ (refused k, table)
-  unfolding call.tokenized
-  listed-refused k e = rw (e, call.tokenized)
+  -- what the tokenizer answers, case by case; the buffers have room for fewer than `room` tokens other than Space
+  module _ (room : ℕ) where
+    under-refused : (k : ℕ) → textRefusal text ≡ some k → call.tokenizedUnder text table room ≡ (under.Refused k, table)
+    unfolding call.tokenizedUnder
+    under-refused k e = rw (e, call.tokenizedUnder)
 
-  listed-all : textRefusal text ≡ none → 3 * length (tokens text) ≤ length table
-      → call.tokenized text table ≡ (accepted (length (tokens text) ∷ []), tableWords (tokens text) ++ drop (3 * length (tokens text)) table)
-  unfolding call.tokenized
-  listed-all e h = rw (e, call.tokenized) (rw (le-ltb (length table) (3 * length (tokens text)) h))
+    module _ (ok : textRefusal text ≡ none) where
+      under-short : length table < 3 * length (tokens text) → call.tokenizedUnder text table room ≡ (under.Refused 7, table)
+      unfolding call.tokenizedUnder
+      under-short h = rw (ok, call.tokenizedUnder) (rw (lt-ltb (length table) (3 * length (tokens text)) h))
 
-  -- the tokenizer has written the table, or refused the text
-  module _ (enough : textRefusal text ≡ none → parseRefusal text (length table) (length work) (length tree) ≡ none) (r : Tokenized)
-      (next : List ℕ) (c : (call.answerOf r, next) ≡ call.tokenized text table) where
-    short : (ok : textRefusal text ≡ none) → (3 * length (tokens text) ≤ length table) × (roomRefusal (tokens text) (length work) (length tree) ≡ none)
-    short ok = none-short text (length table) (length work) (length tree) ok (enough ok)
+      module _ (h : 3 * length (tokens text) ≤ length table) where
+        under-many : room ≤ countOthers (tokens text) → call.tokenizedUnder text table room ≡ (under.Many (countOthers (tokens text)), table)
+        unfolding call.tokenizedUnder
+        under-many l =
+            rw (ok, call.tokenizedUnder) (rw (le-ltb (length table) (3 * length (tokens text)) h) (rw (le-leb room (countOthers (tokens text)) l)))
 
-    answer-refused : (k : ℕ) → textRefusal text ≡ some k → (call.answerOf r ≡ refused k) × (next ≡ table)
-    answer-refused k e =
-        let p = c ∙ listed-refused k e in
-        (ap (λ (x : Answer × List ℕ). x .0) p, ap (λ (x : Answer × List ℕ). x .1) p)
+        under-listed : countOthers (tokens text) < room
+            → call.tokenizedUnder text table room
+            ≡ (under.Tokens (length (tokens text)) (countOthers (tokens text)), tableWords (tokens text) ++ drop (3 * length (tokens text)) table)
+        unfolding call.tokenizedUnder
+        under-listed l =
+            rw (ok, call.tokenizedUnder) (rw (le-ltb (length table) (3 * length (tokens text)) h) (rw (lt-leb room (countOthers (tokens text)) l)))
 
-    answer-all : textRefusal text ≡ none
-        → (call.answerOf r ≡ accepted (length (tokens text) ∷ [])) × (next ≡ tableWords (tokens text) ++ drop (3 * length (tokens text)) table)
-    answer-all e =
-        let p = c ∙ listed-all e (short e .0) in
-        (ap (λ (x : Answer × List ℕ). x .0) p, ap (λ (x : Answer × List ℕ). x .1) p)
+  -- the tokenizer has written the table, or not
+  module _ (room : ℕ) (r : TokenizedUnder) (next : List ℕ) (c : (r, next) ≡ call.tokenizedUnder text table room) where
+    answers : {a : TokenizedUnder} {t : List ℕ} → call.tokenizedUnder text table room ≡ (a, t) → (r ≡ a) × (next ≡ t)
+    answers e = (ap (λ (x : TokenizedUnder × List ℕ). x .0) (c ∙ e), ap (λ (x : TokenizedUnder × List ℕ). x .1) (c ∙ e))
 
-    pub tokens-refused : (k : ℕ) → r ≡ listed.Refused k
-        → _≡_ {A = Answer × List ℕ × List ℕ × List ℕ} (refused k, next, work, tree) (parsedText text table work tree)
-    tokens-refused k q =
+    -- Which of the four it is.
+    pub data Case : Type 0 where
+      refused-text : (k : ℕ) → textRefusal text ≡ some k → r ≡ under.Refused k → next ≡ table → Case
+      short-table : textRefusal text ≡ none → length table < 3 * length (tokens text) → r ≡ under.Refused 7 → next ≡ table → Case
+      many :
+          textRefusal text ≡ none → 3 * length (tokens text) ≤ length table → room ≤ countOthers (tokens text) →
+          r ≡ under.Many (countOthers (tokens text)) → next ≡ table → Case
+      all :
+          textRefusal text ≡ none → 3 * length (tokens text) ≤ length table → countOthers (tokens text) < room →
+          r ≡ under.Tokens (length (tokens text)) (countOthers (tokens text)) →
+          next ≡ tableWords (tokens text) ++ drop (3 * length (tokens text)) table → Case
+
+    case : Case
+    case =
         by-option (textRefusal text)
-        (λ e. let p = rw q at (answer-all e .0) in apart cc)
-        (λ j e.
-        let p = rw q at (answer-refused j e .0) in
-        let n : j ≡ k = cc in
-        rw (answer-refused j e .1) (text-turned-back k (text-refused text _ _ _ k (e ∙ ap some n))))
+        (λ ok.
+        by-lt (length table) (3 * length (tokens text))
+        (λ h. let a = answers (under-short room ok h) in short-table ok h (a .0) (a .1))
+        (λ h.
+        by-lt (countOthers (tokens text)) room
+        (λ l. let a = answers (under-listed room ok h l) in all ok h l (a .0) (a .1))
+        (λ l. let a = answers (under-many room ok h l) in many ok h l (a .0) (a .1))))
+        (λ k e. let a = answers (under-refused room k e) in refused-text k e (a .0) (a .1))
 
-    module _ (m : ℕ) (q : r ≡ listed.Tokens m) where
+    pub tokens-refused : (k : ℕ) → r ≡ under.Refused k
+        → _≡_ {A = Answer × List ℕ × List ℕ × List ℕ} (refused k, next, work, tree) (parsedText text table work tree)
+    tokens-refused k q = go case
+      where
+        go : Case → _≡_ {A = Answer × List ℕ × List ℕ × List ℕ} (refused k, next, work, tree) (parsedText text table work tree)
+        go (refused-text j e p n) = let j-is : j ≡ k = cc in rw n (text-turned-back k (text-refused text _ _ _ k (e ∙ ap some j-is)))
+        go (short-table ok h p n) = let k-is : 7 ≡ k = cc in rw (n, ← k-is) (text-turned-back 7 (table-short text _ _ _ ok h))
+        go (many ok h l p n) = apart cc
+        go (all ok h l p n) = apart cc
+
+    pub tokens-many : (m k : ℕ) → r ≡ under.Many m
+        → (room ≤ length work / 4) × (room ≤ length tree / 32) × (room < length work / 4 → length tree / 32 ≤ room)
+        → (length work < 4 * (m + 1) → k ≡ 8) × (4 * (m + 1) ≤ length work → k ≡ 9)
+        → _≡_ {A = Answer × List ℕ × List ℕ × List ℕ} (refused k, next, work, tree) (parsedText text table work tree)
+    tokens-many m k q b lacks = go case
+      where
+        go : Case → _≡_ {A = Answer × List ℕ × List ℕ × List ℕ} (refused k, next, work, tree) (parsedText text table work tree)
+        go (refused-text j e p n) = apart cc
+        go (short-table ok h p n) = apart cc
+        go (all ok h l p n) = apart cc
+        go (many ok h l p n) =
+            let m-is : m ≡ countOthers (tokens text) = cc in
+            by-lt (length work) (4 * (m + 1))
+            (λ w.
+            rw (n, lacks .0 w)
+            (text-turned-back 8 (table-long text _ _ _ ok h ∙ work-short (tokens text) (length work) (length tree) (omega (arith, w, m-is)))))
+            (λ w.
+            let tight : length tree / 32 ≤ m = omega (arith, b .2 (omega (arith, w, l, m-is)), l, m-is) in
+            rw (n, lacks .1 w)
+            (text-turned-back 9 (table-long text _ _ _ ok h
+            ∙ tree-short (tokens text) (length work) (length tree) (omega (arith, w, m-is)) (omega (arith, tight, m-is)))))
+
+    module _ (m others : ℕ) (q : r ≡ under.Tokens m others)
+        (b : (room ≤ length work / 4) × (room ≤ length tree / 32) × (room < length work / 4 → length tree / 32 ≤ room)) where
+      -- what an accepted text's table says
+      record Listed : Type 0 where
+        ok : textRefusal text ≡ none
+        long : 3 * length (tokens text) ≤ length table
+        few : countOthers (tokens text) < room
+        all-is : m ≡ length (tokens text)
+        next-is : next ≡ tableWords (tokens text) ++ drop (3 * length (tokens text)) table
+
+      facts : Listed
+      facts = go case
+        where
+          go : Case → Listed
+          go (refused-text j e p n) = apart cc
+          go (short-table ok h p n) = apart cc
+          go (many ok h l p n) = apart cc
+          go (all ok h l p n) = record { ok = ok; long = h; few = l; all-is = cc; next-is = n }
+
       ok : textRefusal text ≡ none
-      ok =
-          by-option (textRefusal text) (λ e. e)
-          (λ j e. let p = rw q at (answer-refused j e .0) in apart cc)
+      ok = facts .ok
 
       m-is : m ≡ length (tokens text)
-      m-is = let p = rw q at (answer-all ok .0) in cc
+      m-is = facts .all-is
 
       next-is : next ≡ tableWords (tokens text) ++ drop (3 * length (tokens text)) table
-      next-is = answer-all ok .1
+      next-is = facts .next-is
+
+      fits : roomRefusal (tokens text) (length work) (length tree) ≡ none
+      fits = room-enough (tokens text) (length work) (length tree) (omega (arith, b, facts .few)) (omega (arith, b, facts .few))
+
+      enough : parseRefusal text (length table) (length work) (length tree) ≡ none
+      enough = table-long text (length table) (length work) (length tree) ok (facts .long) ∙ fits
 
       list-is : tokenList m next ≡ tokens text
       list-is = rw (m-is, next-is) (list-of-words (tokens text) (drop (3 * length (tokens text)) table))
@@ -304,7 +336,7 @@ module _ (text table work tree : List ℕ) where
       list-accepted = rw (m-is, next-is) (accepted-list text (drop (3 * length (tokens text)) table) ok)
 
       pub list-fits : roomRefusal (tokenList m next) (length work) (length tree) ≡ none
-      list-fits = rw list-is (short ok .1)
+      list-fits = rw list-is fits
 
       module _ (a : ParsedTokens) (L y : List ℕ) (d : (listAnswerOf a, L, y) ≡ parsedTokens text next m work tree) where
         read-is : _≡_ {A = Answer × List ℕ × List ℕ} (listAnswerOf a, L, y) (accepted (values text (tokens text)), workAfter (length work), treeAfter text (tokens text) (length tree))
@@ -323,4 +355,4 @@ module _ (text table work tree : List ℕ) where
             let v : takes ∷ items ∷ bit b ∷ [] ≡ values text (tokens text) = cc in
             let l : L ≡ workAfter (length work) = ap (λ (x : Answer × List ℕ × List ℕ). x .1) read-is in
             let t : y ≡ treeAfter text (tokens text) (length tree) = ap (λ (x : Answer × List ℕ × List ℕ). x .2) read-is in
-            rw (text-read (enough ok), m-is, v, next-is, l, t)
+            rw (text-read enough, m-is, v, next-is, l, t)

@@ -9,21 +9,19 @@ mod write;
 
 use entries::Prepared;
 use entries::prepare;
-use tokenizer::Counted;
-use tokenizer::Tokenized;
-use tokenizer::count_tokens;
-use tokenizer::tokenize;
+use tokenizer::TokenizedUnder;
+use tokenizer::tokenize_under;
 use tokens::Checked;
 use tokens::check_list;
 use top::parse_entries;
 ghost use mathlib.Core.Path.{_≡_};
 ghost use mathlib.Core.Option.{none};
-ghost use Prim.Native.Nat.{_+_, _*_, _≤_};
+ghost use Prim.Native.Nat.{_+_, _*_, _≤_, _<_};
 ghost use lib.ListN.{length};
 ghost use Rattle.tokens.specs.Refusals.{listRefusal};
 ghost use Rattle.tokens.specs.Table.{tokenList};
 ghost use Rattle.parse.specs.Call.{answerOf, listAnswerOf, roomRefusal, parsedText, parsedTokens};
-ghost use Rattle.parse.specs.Checks.{Lacks, Fits};
+ghost use Rattle.parse.specs.Checks.{Lacks};
 
 // What the reading of a text answers.
 pub enum Parsed {
@@ -64,23 +62,18 @@ fn check_room(n: usize, work: usize, tree: usize) -> Room
     Room::Enough
 }
 
-// Refusals 1, 2, 7, 8 and 9. Buffers that are long enough for any text of this length need no count; there 1 and 2 are left open.
-fn check_buffers(text: &[u8], table: usize, work: usize, tree: usize) -> Room
-    ensures { λ r. ⌜ Fits (now (text .entry)) table work tree r ⌝ }
+// The smaller of two numbers.
+fn least(a: usize, b: usize) -> usize
+    ensures { λ r. ⌜ (r ≤ a) × (r ≤ b) × (r < a → b ≤ r) ⌝ }
 {
-    let len = text.len();
-    if len <= table / 3 && len < work / 4 && len < tree / 32 {
-        return Room::Enough;
-    }
-    match count_tokens(text) {
-        Counted::Refused(k) => Room::Refused(k),
-        Counted::Tokens { all, others } => {
-            if table < 3 * all {
-                return Room::Refused(7);
-            }
-            check_room(others, work, tree)
-        }
-    }
+    if a <= b { a } else { b }
+}
+
+// Refusal 8 or 9, for n tokens other than Space where one of the buffers is too short for them.
+fn lacking(n: usize, work: usize) -> u8
+    ensures { λ r. ⌜ (work < 4 * (n + 1) → r ≡ 8) × (4 * (n + 1) ≤ work → r ≡ 9) ⌝ }
+{
+    if work / 4 <= n { 8 } else { 9 }
 }
 
 // The reading of an accepted list for which the buffers are long enough.
@@ -143,22 +136,21 @@ pub fn parse(text: &[u8], table: &mut [u32], work: &mut [u32], tree: &mut [u32])
         ≡ parsedText (now (text .entry)) (now (table .entry)) (now (work .entry)) (now (tree .entry))
         ⌝ }
 {
-    match check_buffers(text, table.len(), work.len(), tree.len()) {
-        Room::Refused(k) => Parsed::Refused(k),
-        Room::Enough => match tokenize(text, table) {
-            Tokenized::Refused(k) => Parsed::Refused(k),
-            Tokenized::Tokens(tokens) => match read_list(text, table, tokens, work, tree) {
-                ParsedTokens::Refused(k) => Parsed::Refused(k),
-                ParsedTokens::Read {
-                    takes,
-                    items,
-                    blank,
-                } => Parsed::Read {
-                    tokens,
-                    takes,
-                    items,
-                    blank,
-                },
+    let room = least(work.len() / 4, tree.len() / 32);
+    match tokenize_under(text, table, room) {
+        TokenizedUnder::Refused(k) => Parsed::Refused(k),
+        TokenizedUnder::Many { others } => Parsed::Refused(lacking(others, work.len())),
+        TokenizedUnder::Tokens { all, others: _ } => match read_list(text, table, all, work, tree) {
+            ParsedTokens::Refused(k) => Parsed::Refused(k),
+            ParsedTokens::Read {
+                takes,
+                items,
+                blank,
+            } => Parsed::Read {
+                tokens: all,
+                takes,
+                items,
+                blank,
             },
         },
     }

@@ -40,7 +40,7 @@ ghost use Rattle.tree.specs.Words.{prefixKind};
 ghost use Rattle.parse.specs.Matrix.{RowCells, MatrixRow, MoreRows, MatrixRows};
 
 // A simple expression, or Missing.
-fn next_script_arg(
+fn arg(
     text: &[u8],
     tok: &[u32],
     n: usize,
@@ -118,7 +118,7 @@ fn next_script(
     let pos = c.pos;
     if marks_at(tok, work, n, pos) {
         if is_at(tok, work, n, pos, 1) {
-            let a = next_script_arg(text, tok, n, work, tree, c.next(), e, false);
+            let a = arg(text, tok, n, work, tree, c.next(), e, false);
             let ac = a.cur;
             Scripted {
                 cur: ac,
@@ -126,11 +126,11 @@ fn next_script(
                 script: 2,
             }
         } else {
-            let a = next_script_arg(text, tok, n, work, tree, c.next(), e, false);
+            let a = arg(text, tok, n, work, tree, c.next(), e, false);
             let ac = a.cur;
             let at = ac.pos;
             if is_at(tok, work, n, at, 1) {
-                let b = next_script_arg(text, tok, n, work, tree, ac.next(), a.end, false);
+                let b = arg(text, tok, n, work, tree, ac.next(), a.end, false);
                 let bc = b.cur;
                 Scripted {
                     cur: bc,
@@ -273,7 +273,7 @@ fn next_intermediate(
 }
 
 // The items from the cursor on, up to a bar like that at `until`, if an entry is there. `first0`: none stands before them.
-pub(crate) fn extend_intermediates(
+pub(crate) fn extend(
     text: &[u8],
     tok: &[u32],
     n: usize,
@@ -349,7 +349,7 @@ fn row_cells(
     let mut count: usize = 0;
     let close = 'cells: loop {
         let at = end;
-        let run = extend_intermediates(text, tok, n, work, tree, cur, at + 6, n, true, true, true);
+        let run = extend(text, tok, n, work, tree, cur, at + 6, n, true, true, true);
         let rc = run.cur;
         let p = rc.pos;
         end = run.end;
@@ -371,7 +371,7 @@ fn row_cells(
 }
 
 // A matrix row; a token that opens none is taken too.
-fn next_matrix_row(
+fn next_row(
     text: &[u8],
     tok: &[u32],
     n: usize,
@@ -421,7 +421,7 @@ fn more_rows(
     let why = 'rows: loop {
         let p = cur.pos;
         if is_at(tok, work, n, p, 3) {
-            let row = next_matrix_row(text, tok, n, work, tree, cur.next(), end);
+            let row = next_row(text, tok, n, work, tree, cur.next(), end);
             cur = row.cur;
             end = row.end;
             let count = row.count;
@@ -455,7 +455,7 @@ fn more_rows(
 }
 
 // The rows of a matrix, up to its closing bracket.
-fn next_matrix_rows(
+fn next_rows(
     text: &[u8],
     tok: &[u32],
     n: usize,
@@ -468,7 +468,7 @@ fn next_matrix_rows(
     ensures { λ r. ⌜ MatrixRows (now (text .entry)) (now (tok .entry)) n (now (work .entry)) (now (work .exit)) c e (now (tree .entry)) (now (tree .exit)) r ⌝ }
 {
     let left = c.pos;
-    let row = next_matrix_row(text, tok, n, work, tree, c, e);
+    let row = next_row(text, tok, n, work, tree, c, e);
     let cur = row.cur;
     let end = row.end;
     let cols = row.count;
@@ -519,7 +519,7 @@ fn try_matrix(
             return Step::Nothing(c);
         }
         let from = c.pos;
-        let rows = next_matrix_rows(text, tok, n, work, tree, c, e + 8);
+        let rows = next_rows(text, tok, n, work, tree, c, e + 8);
         let cur = rows.cur;
         let p = cur.pos;
         let why = rows.why;
@@ -559,7 +559,7 @@ fn try_matrix(
 }
 
 // The group that the bracket at i opens.
-fn next_open_group(
+fn open_group(
     text: &[u8],
     tok: &[u32],
     n: usize,
@@ -573,7 +573,7 @@ fn next_open_group(
     requires { ⌜ i < n ⌝ }
     ensures { λ r. ⌜ OpenGroup (now (text .entry)) (now (tok .entry)) n (now (work .entry)) (now (work .exit)) i c e (now (tree .entry)) (now (tree .exit)) r ⌝ }
 {
-    let run = extend_intermediates(text, tok, n, work, tree, c, e + 6, n, false, true, true);
+    let run = extend(text, tok, n, work, tree, c, e + 6, n, false, true, true);
     let cur = run.cur;
     let at = cur.pos;
     if is_at(tok, work, n, at, 21) {
@@ -614,12 +614,12 @@ fn bracket(
             end: e1,
             ends: f,
         },
-        Step::Nothing(d) => next_open_group(text, tok, n, work, tree, d, e, i),
+        Step::Nothing(d) => open_group(text, tok, n, work, tree, d, e, i),
     }
 }
 
 // The matrix or the group that the bar at i opens, or the bar alone.
-fn next_open_close_group(
+fn bar_group(
     text: &[u8],
     tok: &[u32],
     n: usize,
@@ -668,7 +668,7 @@ fn bars(
     match next_intermediate(text, tok, n, work, tree, c, e + 6, stop, true) {
         Step::Nothing(d) => leaf(tok, work, tree, d, e, i, 22),
         Step::Found(d, e1, f) => {
-            let run = extend_intermediates(text, tok, n, work, tree, d, e1, i, stop, false, !f);
+            let run = extend(text, tok, n, work, tree, d, e1, i, stop, false, !f);
             let cur = run.cur;
             let at = cur.pos;
             if bar_at(text, tok, work, n, i, at) {
@@ -704,7 +704,7 @@ fn unary(
     requires { ⌜ prefixKind (prefixOf kind) ≡ kind ⌝ }
     ensures { λ r. ⌜ Unary (now (text .entry)) (now (tok .entry)) n (now (work .entry)) (now (work .exit)) i kind stop c e (now (tree .entry)) (now (tree .exit)) r ⌝ }
 {
-    let g = next_script_arg(text, tok, n, work, tree, c, e + 6, stop);
+    let g = arg(text, tok, n, work, tree, c, e + 6, stop);
     let gc = g.cur;
     put_node(tok, work, tree, e, kind, i, 0);
     Part {
@@ -729,9 +729,9 @@ fn binary(
     requires { ⌜ i < n ⌝ }
     ensures { λ r. ⌜ Binary (now (text .entry)) (now (tok .entry)) n (now (work .entry)) (now (work .exit)) i c e (now (tree .entry)) (now (tree .exit)) r ⌝ }
 {
-    let g = next_script_arg(text, tok, n, work, tree, c, e + 6, false);
+    let g = arg(text, tok, n, work, tree, c, e + 6, false);
     let gc = g.cur;
-    let h = next_script_arg(text, tok, n, work, tree, gc, g.end, false);
+    let h = arg(text, tok, n, work, tree, gc, g.end, false);
     let hc = h.cur;
     put_node(tok, work, tree, e, 12, i, 0);
     Part {
@@ -763,7 +763,7 @@ fn begun(
     if k == 20 {
         bracket(text, tok, n, work, tree, c, e, i)
     } else if k == 22 {
-        next_open_close_group(text, tok, n, work, tree, c, e, stop, i)
+        bar_group(text, tok, n, work, tree, c, e, stop, i)
     } else if k == 18 {
         unary(text, tok, n, work, tree, c, e, false, i, 10)
     } else if k == 17 {

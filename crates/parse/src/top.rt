@@ -5,7 +5,7 @@ use crate::entry::is_at;
 use crate::entry::len_at;
 use crate::entry::sep_word;
 use crate::entry::start_at;
-use crate::readers::extend_intermediates;
+use crate::readers::extend;
 use crate::write::put1;
 use crate::write::put6;
 ghost use mathlib.Core.Path.{_≡_};
@@ -84,7 +84,7 @@ fn read_items(text: &[u8], tok: &[u32], n: usize, work: &mut [u32], tree: &mut [
     let mut wraps: usize = 0;
     let mut last: usize = 0;
     'all: loop {
-        let run = extend_intermediates(text, tok, n, work, tree, cur, end, n, false, first, sign);
+        let run = extend(text, tok, n, work, tree, cur, end, n, false, first, sign);
         let rc = run.cur;
         let at = rc.pos;
         end = run.end;

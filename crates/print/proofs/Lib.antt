@@ -3,3 +3,5 @@ pub mod Puts
 pub mod Fields
 pub mod Printing
 pub mod Decimals
+pub mod Calls
+pub mod Theorems

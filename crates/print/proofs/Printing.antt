@@ -24,7 +24,7 @@ use Rattle.print.specs.Decimal.{decimal}
 use Rattle.print.specs.Print.{nameOf, field, newline, left, right, scriptName, script, class, fields, name, line, lines, first, printed}
 use Rattle.print.specs.Lines.{startOf, leftOf, scriptOf, rightOf, groupOf, matrixOf, linesOf, wordOf, addedBy, addedOf, lineOf}
 use Rattle.print.specs.Put.{Put, most}
-use Rattle.print.specs.declared.row.Printed.the-variants.{Whole, Short}
+use Rattle.print.specs.declared.row.Fitted.the-variants.{Whole, Short}
 use Rattle.print.specs.Rows.{Past, RowPut, TreePut, TreePrinted}
 use Rattle.print.proofs.Puts.{none, then, put-as}
 

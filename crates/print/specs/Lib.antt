@@ -3,3 +3,4 @@ pub mod Put
 pub mod Print
 pub mod Lines
 pub mod Rows
+pub mod Call

@@ -11,8 +11,8 @@ use Rattle.tree.specs.Walk.{rowWords}
 use Rattle.tree.specs.Laid.{Laids}
 use Rattle.tree.specs.Visits.{visits}
 use Rattle.print.specs.declared.row.Reached.{Reached}
-use Rattle.print.specs.declared.row.Printed.{Printed}
-use Rattle.print.specs.declared.row.Printed.the-variants.{Whole, Short}
+use Rattle.print.specs.declared.row.Fitted.{Fitted}
+use Rattle.print.specs.declared.row.Fitted.the-variants.{Whole, Short}
 use Rattle.print.specs.Print.{lines, printed}
 use Rattle.print.specs.Put.{Put, most}
 
@@ -45,11 +45,11 @@ pub record TreePut (words before : List ℕ) (text tokens takes items : ℕ) (af
 
 -- "10 print buffer shorter than the whole print, first line included", which leaves it unchanged; else the print, its length answered
 -- and the bytes past it unchanged.
-pub record Prints (print before after : List ℕ) (r : Printed) : Type 0 where
+pub record Prints (print before after : List ℕ) (r : Fitted) : Type 0 where
   pub whole : length print ≤ length before → (r ≡ Whole (length print)) × (after ≡ print ++ drop (length print) before)
   pub short : length before < length print → (r ≡ Short) × (after ≡ before)
 
-abbrev pub TreePrinted : (words before : List ℕ) (text tokens takes items : ℕ) (after : List ℕ) (r : Printed) → Type 0
+abbrev pub TreePrinted : (words before : List ℕ) (text tokens takes items : ℕ) (after : List ℕ) (r : Fitted) → Type 0
 TreePrinted words before text tokens takes items after r =
     (tree : Nodes) (rest : List ℕ) → WellFormed tree → items ≡ count tree → words ≡ encodeItems tree ++ rest →
     Prints (printed text tokens takes tree) before after r

@@ -110,8 +110,8 @@ fn put_tree(
     r.end
 }
 
-// The printed tree.
-pub(crate) enum Printed {
+// Whether the print fits its buffer.
+pub(crate) enum Fitted {
     // how many bytes it has
     Whole(usize),
     // the buffer is too short: refusal 10
@@ -127,15 +127,15 @@ pub(crate) fn print_tree(
     tokens: usize,
     takes: u64,
     items: usize,
-) -> Printed
+) -> Fitted
     ensures { λ r. ⌜ TreePrinted (now (words .entry)) (now (out .entry)) text tokens takes items (now (out .exit)) r ⌝ }
 {
     let mut probe = [0u8; 1];
     let need = put_tree(words, &mut probe, text, tokens, takes, items);
     if need <= out.len() {
         put_tree(words, out, text, tokens, takes, items);
-        Printed::Whole(need)
+        Fitted::Whole(need)
     } else {
-        Printed::Short
+        Fitted::Short
     }
 }

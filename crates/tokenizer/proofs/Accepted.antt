@@ -44,7 +44,7 @@ tokens-accepted size from long after (t ∷ ts) rest h b s =
     apart false after c h s = refl
     apart true after c h s = rw (h refl) at s
 
-text-short : (text : List ℕ) → textRefusal text ≡ none → length text ≤ 4096
+pub text-short : (text : List ℕ) → textRefusal text ≡ none → length text ≤ 4096
 unfolding textRefusal
 text-short text p =
     by-lt 4096 (length text)

@@ -1,14 +1,16 @@
 -- When a key begins a text, and what the longest of some rows is.
-use mathlib.Core.Path.{_≡_, refl}
+use mathlib.Core.Path.{_≡_, refl, _∙_}
 use mathlib.Core.Bool.{true, false}
 use mathlib.Core.List.{List, [], _∷_}
 use mathlib.Core.Option.{Option, none, some}
 use Prim.Native.Nat.{ℕ, zero, suc, _+_, _≤_, _<_}
 use native.Mathlib.Omega.{arith}
-use native.Mathlib.Nat.{not-suc-le-zero, le-of-suc-le-suc}
+use native.Mathlib.Numerals.{add-one}
+use native.Mathlib.Nat.{add-suc, not-suc-le-zero, le-of-suc-le-suc}
 use lib.Dec.{eqb}
-use lib.ListN.{length, getD}
-use borrow.Author.Tests.{lt-ltb, le-ltb, eqb-true, eq-eqb}
+use lib.ListN.{length, getD, drop, drop-of-length-le}
+use lib.Seq.{drop-cons}
+use borrow.Author.Tests.{lt-ltb, le-ltb, eqb-true, eq-eqb, ne-eqb}
 use Rattle.tokenizer.specs.Spellings.{Row}
 use Rattle.tokenizer.specs.Longest.{begins, Numbered, longer, longestOf}
 use Rattle.tokens.proofs.Cases.{by-test, by-lt, clash}
@@ -28,6 +30,35 @@ pub begins-self : (ks : List ℕ) → begins ks ks ≡ true
 unfolding begins
 begins-self [] = refl
 begins-self (k ∷ ks) = rw (eq-eqb k k refl, begins) (begins-self ks)
+
+-- a longer key does not
+pub begins-past : (ks s : List ℕ) → length s < length ks → begins ks s ≡ false
+begins-past ks s h = by-test (begins ks s) (λ e. absurd (omega (arith, begins-length ks s e))) (λ e. e)
+
+-- one step at place j of the key and place i of the text
+module _ (ks s : List ℕ) (j i : ℕ) where
+  pub begins-end : length ks ≤ j → begins (drop j ks) (drop i s) ≡ true
+  unfolding begins
+  begins-end h = rw (drop-of-length-le ks h)
+
+  module _ (h : j < length ks) (l : i < length s) where
+    begins-equal : getD ks j 0 ≡ getD s i 0 → begins (drop j ks) (drop i s) ≡ begins (drop (suc j) ks) (drop (suc i) s)
+    unfolding begins
+    begins-equal e = rw (drop-cons ks j 0 h, drop-cons s i 0 l) (rw (eq-eqb _ _ e, begins))
+
+    pub begins-other : (getD ks j 0 ≡ getD s i 0 → ⊥) → begins (drop j ks) (drop i s) ≡ false
+    unfolding begins
+    begins-other e = rw (drop-cons ks j 0 h, drop-cons s i 0 l) (rw (ne-eqb _ _ e, begins))
+
+module _ (ks s : List ℕ) (at : ℕ) where
+  pub begins-next : (j : ℕ) → j < length ks → at + j < length s → getD ks j 0 ≡ getD s (at + j) 0
+      → begins (drop j ks) (drop (at + j) s) ≡ begins (drop (j + 1) ks) (drop (at + (j + 1)) s)
+  begins-next j h l e = rw (add-one j, add-suc at j) (begins-equal ks s j (at + j) h l e)
+
+  -- past two equal bytes
+  pub begins-two : 2 ≤ length ks → at + 1 < length s → getD ks 0 0 ≡ getD s at 0 → getD ks 1 0 ≡ getD s (at + 1) 0
+      → begins ks (drop at s) ≡ begins (drop 2 ks) (drop (at + 2) s)
+  begins-two h l e f = begins-equal ks s 0 at (omega arith) (omega arith) e ∙ rw (← add-one at) (begins-next 1 h l f)
 
 -- a row that begins s has at most n bytes
 abbrev pub NoLonger : List ℕ → ℕ → Row → Type 0

@@ -8,10 +8,13 @@ pub mod Spaces
 pub mod Accepted
 pub mod Sorted
 pub mod Flat
-pub mod Compared
 pub mod Lookup
 pub mod RuleCases
-pub mod Writing
+pub mod ByteKinds
+pub mod Adding
+pub mod Stops
+pub mod Listing
+pub mod Single
 pub mod Calls
-pub mod Counting
+pub mod Lexing
 pub mod Theorems

@@ -1,6 +1,7 @@
--- What one computed test of the whole table says of each row: it has a byte, and its token is not Space.
+-- What one computed test of the whole table says of each row: it has a byte, no blank first, and its token is none of Space,
+-- Number and Operator.
 use mathlib.Core.Path.{_≡_, refl, subst}
-use mathlib.Core.Bool.{Bool, true, false, not}
+use mathlib.Core.Bool.{Bool, true, false, not, _&&_}
 use mathlib.Core.List.{List, [], _∷_}
 use mathlib.Core.Option.{Option, none, some}
 use Prim.Native.Nat.{ℕ, _+_, _≤_, _<_}
@@ -12,6 +13,7 @@ use borrow.Author.Tests.{ltb-true, not-true}
 use Rattle.tokens.specs.Kinds.{numberOf}
 use Rattle.tokenizer.specs.Spellings.{Row, rows}
 use Rattle.tokenizer.specs.Longest.{Numbered, longestAt, longestOf}
+use Rattle.tokenizer.specs.Rules.{blank}
 use Rattle.tokens.proofs.Cases.{by-test, clash, Given}
 use Rattle.tokenizer.proofs.Begins.{Answered, Found, answered, at-each, begins-length}
 
@@ -31,23 +33,42 @@ module _ (test : Row → Bool) where
       by-test (test r) (λ e. λ d. at-each (λ q. test q ≡ true) r rs d e (every-at rs (rw (e, every) at t) d))
       (λ e. clash false (rw (e, every) at t) refl)
 
-wellFormed : Row → Bool
-wellFormed r = elim (ltb 0 (length (r .spelling))) [ true ↦ not (eqb (numberOf (r .token)) 23) | false ↦ false ]
+abbrev wellFormed : Row → Bool
+wellFormed r =
+    ltb 0 (length (r .spelling)) &&
+    (not (eqb (numberOf (r .token)) 23) &&
+    (not (eqb (numberOf (r .token)) 4) && (not (eqb (numberOf (r .token)) 7) && not (blank (getD (r .spelling) 0 0)))))
 
 rows-test : every wellFormed rows ≡ true
-unfolding wellFormed rows
+unfolding rows blank
 rows-test = refl
 
 pub record WellFormed (r : Row) : Type 0 where
   pub filled : 0 < length (r .spelling)
   pub no-space : eqb (numberOf (r .token)) 23 ≡ false
+  pub no-number : eqb (numberOf (r .token)) 4 ≡ false
+  pub no-operator : eqb (numberOf (r .token)) 7 ≡ false
+  pub no-blank : blank (getD (r .spelling) 0 0) ≡ false
+
+both : (a b : Bool) → (a && b) ≡ true → (a ≡ true) × (b ≡ true)
+both true b e = (refl, e)
+both false b e = clash false e refl
 
 passed : (r : Row) → wellFormed r ≡ true → WellFormed r
-unfolding wellFormed
 passed r t =
-    by-test (ltb 0 (length (r .spelling)))
-    (λ a. record { filled = ltb-true _ _ a; no-space = not-true _ (rw (a, wellFormed) at t) })
-    (λ a. clash false (rw (a, wellFormed) at t) refl)
+    let n = numberOf (r .token) in
+    let f = not (blank (getD (r .spelling) 0 0)) in
+    let a = both (ltb 0 (length (r .spelling))) (not (eqb n 23) && (not (eqb n 4) && (not (eqb n 7) && f))) t in
+    let b = both (not (eqb n 23)) (not (eqb n 4) && (not (eqb n 7) && f)) (a .1) in
+    let c = both (not (eqb n 4)) (not (eqb n 7) && f) (b .1) in
+    let d = both (not (eqb n 7)) f (c .1) in
+    record {
+      filled = ltb-true _ _ (a .0);
+      no-space = not-true _ (b .0);
+      no-number = not-true _ (c .0);
+      no-operator = not-true _ (d .0);
+      no-blank = not-true _ (d .1);
+    }
 
 pub well-formed : (d : Row) (k : ℕ) → k < 429 → WellFormed (getD rows k d)
 well-formed d k h = passed (getD rows k d) (every-at wellFormed rows rows-test d k (omega (arith, rows-length)))

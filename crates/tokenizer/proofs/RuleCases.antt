@@ -1,34 +1,32 @@
 -- The rules as the code takes them: one law for each case of each rule.
-use mathlib.Core.Path.{_≡_, refl, sym, ap, _∙_, subst}
+use mathlib.Core.Path.{_≡_, refl, sym, ap, _∙_}
 use mathlib.Core.Bool.{true, false}
 use mathlib.Core.List.{List, [], _∷_}
 use mathlib.Core.Option.{none, some}
 use Prim.Native.Nat.{ℕ, _+_, _-_, _≤_, _<_}
 use native.Mathlib.Omega.{arith}
-use lib.Dec.{leb}
+use lib.Dec.{eqb, leb}
 use lib.ListN.{length, getD, List·getD-eq-default}
 use borrow.Author.Tests.{lt-ltb, le-ltb, lt-leb, le-leb, eq-eqb, ne-eqb, leb-true}
-use Rattle.tokenizer.specs.declared.rules.Lexed.{Lexed}
-use Rattle.tokens.specs.declared.token.Token.the-variants.{Number, Text, Unary, Space}
-use Rattle.tokenizer.specs.declared.prefix_map.Found.the-variants.{Row, Nothing}
+use Rattle.tokens.specs.declared.token.Token.{Token}
+use Rattle.tokens.specs.declared.token.Token.the-variants.{Number, Text, Ident, Operator, Unary, OpenBracket, CloseBracket, Space}
 use Rattle.tokens.specs.Bytes.{bytes}
 use Rattle.tokens.specs.Lexeme.{lexeme}
-use Rattle.tokens.specs.Kinds.{numberOf}
-use Rattle.tokenizer.specs.Spellings as Rows
 use Rattle.tokenizer.specs.Spellings.{rows}
-use Rattle.tokenizer.specs.Longest.{Numbered, begins, longestAt}
+use Rattle.tokenizer.specs.Longest.{begins, longestAt}
 use Rattle.tokenizer.specs.Constants.{rowOf, spellingOf}
-use Rattle.tokenizer.specs.Lookup.{foundRow}
 use Rattle.tokenizer.specs.Rules.{Read, alone, runEnd, blank, digit, letter, other, blanksAt, closer, literalAt, commandAt, same, isTextCommand, spellingAt, numberEnd, pastPoint, numberAt, quotationAt, byteAt, readAt}
-use Rattle.tokenizer.specs.Coded.{piece, code, single, fromQuotation, fromNumber, fromSpelling}
-use Rattle.tokens.proofs.Cases.{by-test, by-lt, by-eq, by-option, clash, Given}
+use Rattle.tokenizer.specs.Coded.{fromQuotation, fromNumber, fromRow}
+use Rattle.tokens.proofs.Cases.{by-test, by-lt, by-eq, clash}
 use Rattle.tokenizer.proofs.Runs.{run-from, run-more, run-stop}
 use Rattle.tokenizer.proofs.Begins.{begins-cons}
 use Rattle.tokenizer.proofs.Order.{before-strict}
 use Rattle.tokenizer.proofs.Sorted.{in-order}
-use Rattle.tokenizer.proofs.Rows.{FoundAt, found-at}
 use Rattle.tokenizer.proofs.Moves.{past-on, command-length}
-use Rattle.tokenizer.proofs.Lookup.{found-row}
+
+-- one token, which starts at a place and ends before the next
+abbrev pub one : ℕ → ℕ → Token → ℕ → Read
+one start len t next = record { first = lexeme start len t; waiting = []; next = next }
 
 letter-high : (c : ℕ) → letter c ≡ true → 65 ≤ c
 unfolding letter
@@ -41,13 +39,18 @@ digit-low : (c : ℕ) → 65 ≤ c → digit c ≡ false
 unfolding digit
 digit-low c h = rw (le-leb 48 c (omega arith), digit) (lt-leb c 57 (omega arith))
 
+digit-high : (c : ℕ) → digit c ≡ true → 48 ≤ c
+unfolding digit
+digit-high c e =
+    by-test (leb 48 c) (λ h. leb-true 48 c h) (λ h. clash false (rw (h, digit) at e) refl)
+
 module _ (text : List ℕ) (at : ℕ) where
   -- rule 5
-  pub byte-letter : letter (getD text at 0) ≡ true → single at 1 6 (at + 1) ≡ code (byteAt text at)
+  byte-letter : letter (getD text at 0) ≡ true → alone at 1 Ident ≡ byteAt text at
   unfolding byteAt
   byte-letter e = sym (rw (e, byteAt))
 
-  pub byte-other : letter (getD text at 0) ≡ false → single at 1 7 (at + 1) ≡ code (byteAt text at)
+  byte-other : letter (getD text at 0) ≡ false → alone at 1 Operator ≡ byteAt text at
   unfolding byteAt
   byte-other e = sym (rw (e, byteAt))
 
@@ -64,20 +67,20 @@ module _ (text : List ℕ) (at : ℕ) where
   unfolding quotationAt
   no-quote h = rw (ne-eqb _ _ h, quotationAt)
 
-  pub quote-none : (getD text at 0 ≡ 34 → ⊥) → byteAt text at ≡ fromQuotation text at
-  quote-none h = unquoted (no-quote h)
+  pub quote-none : letter (getD text at 0) ≡ false → (getD text at 0 ≡ 34 → ⊥) → alone at 1 Operator ≡ fromQuotation text at
+  quote-none o h = byte-other o ∙ unquoted (no-quote h)
 
   module _ (h : getD text at 0 ≡ 34) (e : ℕ) (r : e ≡ runEnd (other 34) text (at + 1)) where
-    pub quote-open : length text ≤ e → byteAt text at ≡ fromQuotation text at
+    pub quote-open : letter (getD text at 0) ≡ false → length text ≤ e → alone at 1 Operator ≡ fromQuotation text at
     unfolding quotationAt
-    quote-open l = unquoted (rw (eq-eqb _ _ h, quotationAt) (rw (le-ltb _ _ (rw r at l))))
+    quote-open o l = byte-other o ∙ unquoted (rw (eq-eqb _ _ h, quotationAt) (rw (le-ltb _ _ (rw r at l))))
 
-    pub quote-closed : e < length text → single (at + 1) (e - (at + 1)) 5 (e + 1) ≡ code (fromQuotation text at)
+    pub quote-closed : e < length text → one (at + 1) (e - (at + 1)) Text (e + 1) ≡ fromQuotation text at
     unfolding quotationAt
     quote-closed l =
         let f = runEnd (other 34) text (at + 1) in
-        let q : quotationAt text at ≡ some (record { first = lexeme (at + 1) (f - (at + 1)) Text; waiting = []; next = f + 1 }) = rw (eq-eqb _ _ h, quotationAt) (rw (lt-ltb _ _ (rw r at l))) in
-        rw r (ap code (quoted _ q))
+        let q : quotationAt text at ≡ some (one (at + 1) (f - (at + 1)) Text (f + 1)) = rw (eq-eqb _ _ h, quotationAt) (rw (lt-ltb _ _ (rw r at l))) in
+        rw r (quoted _ q)
 
   -- rule 3
   module _ (p : ℕ) (h : p ≡ runEnd digit text at) where
@@ -108,52 +111,75 @@ module _ (text : List ℕ) (at : ℕ) where
   unfolding fromNumber
   uncounted q = sym (rw (q, fromNumber))
 
-  pub number-is : (e : ℕ) → e ≡ numberEnd text at → pastPoint text at < e → single at (e - at) 4 e ≡ code (fromNumber text at)
+  pub number-is : (e : ℕ) → e ≡ numberEnd text at → pastPoint text at < e → one at (e - at) Number e ≡ fromNumber text at
   unfolding numberAt
   number-is e h l =
       let n : e ≡ at + (e - at) = omega (arith, past-on text at) in
       let q : numberAt text at ≡ some (alone at (numberEnd text at - at) Number) = rw (lt-ltb _ _ (rw h at l), numberAt) in
-      ap (single at (e - at) 4) n ∙ rw h (ap code (counted _ q))
+      ap (one at (e - at) Number) n ∙ rw h (counted _ q)
 
   pub number-not : numberEnd text at ≤ pastPoint text at → fromQuotation text at ≡ fromNumber text at
   unfolding numberAt
   number-not l = uncounted (rw (le-ltb _ _ l, numberAt))
 
+  pub number-from : at ≤ numberEnd text at
+  unfolding numberEnd
+  number-from =
+      let p = runEnd digit text at in
+      by-eq (getD text p 0) 46
+      (λ e. rw (eq-eqb _ _ e, numberEnd) (omega (arith, run-from digit text at, run-from digit text (p + 1))))
+      (λ e. rw (ne-eqb _ _ e, numberEnd) (run-from digit text at))
+
   -- a letter begins no number and no quotation
-  pub letter-alone : at < length text → letter (getD text at 0) ≡ true → single at 1 6 (at + 1) ≡ code (fromNumber text at)
+  pub letter-alone : at < length text → letter (getD text at 0) ≡ true → alone at 1 Ident ≡ fromNumber text at
   letter-alone h e =
       let c = letter-high (getD text at 0) e in
       let end : at ≡ numberEnd text at = number-plain at (sym (run-stop digit text at h (digit-low (getD text at 0) c))) (λ q. omega arith) in
       let past : at ≡ pastPoint text at = point-none (λ q. omega arith) in
-      byte-letter e ∙ ap code (quote-none (λ q. omega arith) ∙ number-not (omega arith))
+      byte-letter e ∙ unquoted (no-quote (λ q. omega arith)) ∙ number-not (omega arith)
+
+-- a digit begins a number, whose end it does not change
+module _ (text : List ℕ) (at : ℕ) (h : at < length text) (d : digit (getD text at 0) ≡ true) where
+  digit-end : numberEnd text (at + 1) ≡ numberEnd text at
+  unfolding numberEnd
+  digit-end =
+      ap (λ (p : ℕ). elim (eqb (getD text p 0) 46) [ true ↦ runEnd digit text (p + 1) | false ↦ p ])
+      (sym (run-more digit text at h d))
+
+  pub digit-number : (e : ℕ) → e ≡ numberEnd text (at + 1) → one at (e - at) Number e ≡ fromNumber text at
+  digit-number e q =
+      let c = digit-high (getD text at 0) d in
+      let p : at ≡ pastPoint text at = point-none text at (λ z. omega arith) in
+      number-is text at e (q ∙ digit-end) (omega (arith, number-from text (at + 1)))
 
 -- rule 2: a text command
-module _ (text : List ℕ) (at b c : ℕ) (e : ℕ) (h : e ≡ runEnd (other c) text (b + 1)) where
-  pub literal-closed : e < length text
-      → _≡_ {A = Lexed}
-      (record { first = piece at 4 18; count = 3; one = piece b 1 20; two = piece (b + 1) (e - (b + 1)) 5; three = piece e 1 21; next = e + 1 })
-      (code (literalAt text at 4 Unary b c))
-  unfolding literalAt
-  literal-closed l = rw h (sym (rw (lt-ltb _ _ (rw h at l), literalAt)))
-
-  pub literal-open : length text ≤ e
-      → _≡_ {A = Lexed}
-      (record { first = piece at 4 18; count = 2; one = piece b 1 20; two = piece (b + 1) (e - (b + 1)) 5; three = piece 0 0 0; next = e })
-      (code (literalAt text at 4 Unary b c))
-  unfolding literalAt
-  literal-open l = rw h (sym (rw (le-ltb _ _ (rw h at l), literalAt)))
-
 module _ (text : List ℕ) (at b : ℕ) (h : b ≡ runEnd blank text (at + 4)) where
   module _ (c : ℕ) (e : c ≡ closer (getD text b 0)) where
-    pub command-none : c ≡ 0 → single at 4 18 (at + 4) ≡ code (commandAt text at 4 Unary)
+    pub command-none : c ≡ 0 → alone at 4 Unary ≡ commandAt text at 4 Unary
     unfolding commandAt
     command-none z = sym (rw (eq-eqb (closer (getD text (runEnd blank text (at + 4)) 0)) 0 (rw h at (sym e ∙ z)), commandAt))
 
-    pub command-some : (c ≡ 0 → ⊥) → literalAt text at 4 Unary b c ≡ commandAt text at 4 Unary
-    unfolding commandAt
-    command-some f = rw e (rw h (sym (rw (ne-eqb (closer (getD text (runEnd blank text (at + 4)) 0)) 0 (λ z. f (e ∙ rw h z)), commandAt))))
+    module _ (f : c ≡ 0 → ⊥) where
+      command-some : literalAt text at 4 Unary b c ≡ commandAt text at 4 Unary
+      unfolding commandAt
+      command-some = rw e (rw h (sym (rw (ne-eqb (closer (getD text (runEnd blank text (at + 4)) 0)) 0 (λ z. f (e ∙ rw h z)), commandAt))))
 
-  pub command-past : length text ≤ b → single at 4 18 (at + 4) ≡ code (commandAt text at 4 Unary)
+      module _ (end : ℕ) (q : end ≡ runEnd (other c) text (b + 1)) where
+        pub command-closed : end < length text
+            → _≡_ {A = Read}
+            (record { first = lexeme at 4 Unary; waiting = lexeme b 1 OpenBracket ∷ lexeme (b + 1) (end - (b + 1)) Text ∷ lexeme end 1 CloseBracket ∷ []; next = end + 1 })
+            (commandAt text at 4 Unary)
+        unfolding literalAt
+        command-closed l = rw q (sym (rw (lt-ltb _ _ (rw q at l), literalAt))) ∙ command-some
+
+        pub command-open : length text ≤ end
+            → _≡_ {A = Read}
+            (record { first = lexeme at 4 Unary; waiting = lexeme b 1 OpenBracket ∷ lexeme (b + 1) (end - (b + 1)) Text ∷ []; next = end })
+            (commandAt text at 4 Unary)
+        unfolding literalAt
+        command-open l = rw q (sym (rw (le-ltb _ _ (rw q at l), literalAt))) ∙ command-some
+
+  pub command-past : length text ≤ b → alone at 4 Unary ≡ commandAt text at 4 Unary
   unfolding closer
   command-past l = command-none 0 (sym (ap closer (List·getD-eq-default text 0 {n = b} l))) refl
 
@@ -210,101 +236,51 @@ module _ (k : ℕ) where
         by-eq k 373 (λ q. rw q (text-row .1))
         (λ f. by-eq k 272 (λ q. rw q (mbox-row .1)) (λ g. clash (isTextCommand (spellingOf k)) e (command-other f g)))
 
--- rule 2: what is found at a place
+-- rule 2: the row that is found
+module _ (k : ℕ) (text : List ℕ) (at : ℕ) where
+  pub row-plain : isTextCommand (spellingOf k) ≡ false → alone at (length (spellingOf k)) (rowOf k .token) ≡ fromRow k text at
+  unfolding fromRow
+  row-plain t = sym (rw (t, fromRow))
+
+  pub row-command : isTextCommand (spellingOf k) ≡ true → commandAt text at 4 Unary ≡ fromRow k text at
+  unfolding fromRow
+  row-command t = sym (rw (t, fromRow))
+
+  pub command-four : isTextCommand (spellingOf k) ≡ true → length (spellingOf k) ≡ 4
+  command-four t = command-length (spellingOf k) t
+
+-- rule 1
 module _ (text : List ℕ) (at : ℕ) where
-  unspelled : spellingAt text at ≡ none → fromNumber text at ≡ fromSpelling text at
-  unfolding fromSpelling
-  unspelled q = sym (rw (q, fromSpelling))
-
-  spelled : (r : Read) → spellingAt text at ≡ some r → r ≡ fromSpelling text at
-  unfolding fromSpelling
-  spelled r q = sym (rw (q, fromSpelling))
-
-  pub spelled-none : foundRow (longestAt text at) ≡ Nothing → fromNumber text at ≡ fromSpelling text at
-  unfolding spellingAt
-  spelled-none e =
-      by-option (longestAt text at) (λ o. unspelled (rw (o, spellingAt)))
-      (λ f o. let z : _≡_ {A = ℕ} 0 1 = cc (ap foundRow o) in absurd (omega arith))
-
-  module _ (r n k : ℕ) (e : foundRow (longestAt text at) ≡ Row r n k) where
-    -- the row that is found
-    record Spelled (f : Numbered) : Type 0 where
-      is : longestAt text at ≡ some f
-      row-is : rowOf r ≡ f .row
-      below : r < 429
-      len-is : length (f .row .spelling) ≡ n
-      kind-is : numberOf (f .row .token) ≡ k
-      inside : at + n ≤ length text
-
-    by-spelled : {A : Type 0} → ((f : Numbered) → Spelled f → A) → A
-    by-spelled g =
-        by-option (longestAt text at) (λ o. let z : _≡_ {A = ℕ} 0 1 = cc (ap foundRow o) in absurd (omega arith))
-        (λ f o.
-        let q : Row (f .number) (length (f .row .spelling)) (numberOf (f .row .token)) ≡ Row r n k = sym (ap foundRow o) ∙ e in
-        let num : f .number ≡ r = cc in
-        let len : length (f .row .spelling) ≡ n = cc in
-        let w = found-row text at f o in
-        g f (record {
-          is = o;
-          row-is = ap rowOf (sym num) ∙ w .1;
-          below = omega (arith, w .0);
-          len-is = len;
-          kind-is = cc;
-          inside = omega (arith, subst (Given (FoundAt text at)) o (found-at text at) .inside);
-        }))
-
-    pub spelled-below : r < 429
-    spelled-below = by-spelled (λ f q. q .below)
-
-    pub spelled-inside : at + n ≤ length text
-    spelled-inside = by-spelled (λ f q. q .inside)
-
-    command-is : (f : Numbered) → Spelled f → isTextCommand (f .row .spelling) ≡ isTextCommand (spellingOf r)
-    unfolding spellingOf
-    command-is f q = ap (λ (u : Rows.Row). isTextCommand (u .spelling)) (sym (q .row-is))
-
-    pub spelled-plain : isTextCommand (spellingOf r) ≡ false → single at n k (at + n) ≡ code (fromSpelling text at)
-    unfolding spellingAt
-    spelled-plain t =
-        by-spelled
-        (λ f q.
-        let p : spellingAt text at ≡ some (alone at (length (f .row .spelling)) (f .row .token)) = rw (q .is, spellingAt) (rw (command-is f q ∙ t)) in
-        rw (← q .len-is, ← q .kind-is) (ap code (spelled _ p)))
-
-    module _ (t : isTextCommand (spellingOf r) ≡ true) where
-      four : (f : Numbered) → Spelled f → length (f .row .spelling) ≡ 4
-      four f q = command-length (f .row .spelling) (command-is f q ∙ t)
-
-      pub spelled-four : at + 4 ≤ length text
-      spelled-four = by-spelled (λ f q. omega (arith, q .inside, q .len-is, four f q))
-
-      pub spelled-command : commandAt text at 4 Unary ≡ fromSpelling text at
-      unfolding spellingAt
-      spelled-command =
-          by-spelled
-          (λ f q.
-          let u : f .row .token ≡ Unary = ap (λ (u : Rows.Row). u .token) (sym (q .row-is)) ∙ command-unary r (q .below) t in
-          rw (← four f q, ← u) (spelled _ (rw (q .is, spellingAt) (rw (command-is f q ∙ t)))))
-
-  -- rule 1
-  no-blanks : runEnd blank text at ≡ at → blanksAt text at ≡ none
-  unfolding blanksAt
-  no-blanks e = rw (le-ltb at (runEnd blank text at) (omega arith), blanksAt)
-
   blanks : at < runEnd blank text at → blanksAt text at ≡ some (alone at (runEnd blank text at - at) Space)
   unfolding blanksAt
   blanks m = rw (lt-ltb at (runEnd blank text at) m, blanksAt)
 
-  pub read-rest : at < length text → blank (getD text at 0) ≡ false → fromSpelling text at ≡ readAt byteAt text at
-  unfolding readAt fromSpelling fromNumber fromQuotation
-  read-rest l e = sym (rw (no-blanks (run-stop blank text at l e), readAt))
-
   pub read-blank : at < length text → blank (getD text at 0) ≡ true → (e : ℕ) → e ≡ runEnd blank text (at + 1)
-      → single at (e - at) 23 e ≡ code (readAt byteAt text at)
+      → one at (e - at) Space e ≡ readAt byteAt text at
   unfolding readAt
   read-blank l t e h =
       let f = run-from blank text (at + 1) in
       let r : e ≡ runEnd blank text at = h ∙ sym (run-more blank text at l t) in
       let n : e ≡ at + (e - at) = omega arith in
       let q : readAt byteAt text at ≡ alone at (runEnd blank text at - at) Space = rw (blanks (omega arith), readAt) in
-      ap (single at (e - at) 23) n ∙ rw r (ap code (sym q))
+      ap (one at (e - at) Space) n ∙ rw r (sym q)
+
+  -- no blank: what is found, or rules 3 to 5
+  module _ (l : at < length text) (b : blank (getD text at 0) ≡ false) where
+    no-blanks : blanksAt text at ≡ none
+    unfolding blanksAt
+    no-blanks = rw (le-ltb at (runEnd blank text at) (omega (arith, run-stop blank text at l b)), blanksAt)
+
+    pub read-none : longestAt text at ≡ none → fromNumber text at ≡ readAt byteAt text at
+    unfolding readAt fromNumber fromQuotation spellingAt
+    read-none e = sym (rw (no-blanks, readAt) (rw (e, spellingAt)))
+
+    pub read-row : (k : ℕ) → k < 429 → longestAt text at ≡ some (record { number = k; row = rowOf k }) → fromRow k text at ≡ readAt byteAt text at
+    unfolding readAt fromRow spellingAt spellingOf
+    read-row k h e =
+        by-test (isTextCommand (spellingOf k))
+        (λ t.
+        let u = command-unary k h t in
+        let n = command-four k text at t in
+        sym (row-command k text at t) ∙ rw (← u, ← n) (sym (rw (no-blanks, readAt) (rw (e, spellingAt) (rw t)))))
+        (λ t. sym (row-plain k text at t) ∙ sym (rw (no-blanks, readAt) (rw (e, spellingAt) (rw t))))

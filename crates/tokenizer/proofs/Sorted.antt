@@ -29,3 +29,18 @@ in-order i j l m = sorted-pair noRow [] rows sorted i j l (omega (arith, rows-le
 pub filled : (k : ℕ) → k < 429 → 0 < length (spellingOf k)
 unfolding rowOf spellingOf
 filled k h = well-formed noRow k h .filled
+
+-- of two spellings with one first byte and a second, that of the later is not smaller
+pub before-second : (a b : List ℕ) → before a b ≡ true → getD a 0 0 ≡ getD b 0 0 → 2 ≤ length a → getD a 1 0 ≤ getD b 1 0
+unfolding before
+before-second a [] h e l = clash false h refl
+before-second [] (y ∷ b) h e l = omega arith
+before-second (x ∷ a) (y ∷ b) h e l =
+    ⊎-elim (λ m. absurd (omega arith)) (λ m. before-first a b (m .1)) (before-cons x y a b h)
+
+-- nothing comes before a byte alone that begins with it
+pub before-byte : (c : ℕ) (a : List ℕ) → 0 < length a → getD a 0 0 ≡ c → before a (c ∷ []) ≡ true → ⊥
+unfolding before
+before-byte c [] l e h = omega arith
+before-byte c (x ∷ a) l e h =
+    ⊎-elim (λ m. omega arith) (λ m. clash false (m .1) refl) (before-cons x c a [] h)

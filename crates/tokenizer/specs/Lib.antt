@@ -1,9 +1,10 @@
 pub mod Spellings
 pub mod Order
 pub mod Longest
+pub mod Rules
 pub mod Constants
 pub mod Lookup
-pub mod Rules
 pub mod Coded
 pub mod Call
+pub mod Lex
 pub mod Starred

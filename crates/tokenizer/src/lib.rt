@@ -1,19 +1,78 @@
 // The tokenizer of asciimath-parser for ASCII text: the spelling table, the rules, and the calls on a text.
+pub mod lex;
+mod list;
 pub mod prefix_map;
 mod rules;
 mod spellings;
 mod table;
 
-use spellings::BYTES;
-use spellings::FIRST;
-use spellings::KINDS;
-use spellings::STARTS;
-use table::count_list;
-use table::has_room;
-use table::list_tokens;
+use list::list_tokens;
 use tokens::is_ascii;
 ghost use mathlib.Core.Path.{_≡_};
-ghost use Rattle.tokenizer.specs.Call.{answerOf, tokenized, countOf, counted};
+ghost use Prim.Native.Nat.{_≤_};
+ghost use lib.ListN.{length};
+ghost use lib.Seq.{paste};
+ghost use Rattle.tokenizer.specs.Call.{answerOf, tokenized, tokenizedUnder, countOf, counted};
+
+// How many tokens the text has, and how many of them are other than Space; the number of the refusal; or that there are too many
+// others, and how many.
+pub enum TokenizedUnder {
+    Tokens { all: usize, others: usize },
+    Refused(u8),
+    Many { others: usize },
+}
+
+// The first n words of the table become those of the list.
+fn copy_words(list: &[u32], table: &mut [u32], n: usize)
+    requires { ⌜ (n ≤ length (now list)) × (n ≤ length (now table)) ⌝ }
+    ensures { λ r. ⌜ now (table .exit) ≡ paste (now (table .entry)) 0 (now (list .entry)) n ⌝ }
+{
+    let mut i = 0;
+    while i < n {
+        table[i] = list[i];
+        i += 1;
+    }
+}
+
+// Like tokenize, but only counts a text that has `room` or more tokens other than Space. Nothing is written before all refusals
+// are decided: where the table has three words for each byte there are none, else up to 160 tokens wait in a list.
+pub fn tokenize_under(text: &[u8], table: &mut [u32], room: usize) -> TokenizedUnder
+    ensures { λ r. ⌜ (r, now (table .exit)) ≡ tokenizedUnder (now (text .entry)) (now (table .entry)) room ⌝ }
+{
+    let len = text.len();
+    if 4096 < len {
+        return TokenizedUnder::Refused(1);
+    }
+    if !is_ascii(text) {
+        return TokenizedUnder::Refused(2);
+    }
+    if len <= table.len() / 3 && len < room {
+        let r = list_tokens(text, 0, len, table);
+        return TokenizedUnder::Tokens {
+            all: r.all,
+            others: r.others,
+        };
+    }
+    let mut list = [0u32; 480];
+    let r = list_tokens(text, 0, len, &mut list);
+    let all = r.all;
+    let others = r.others;
+    if table.len() < 3 * all {
+        return TokenizedUnder::Refused(7);
+    }
+    if room <= others {
+        return TokenizedUnder::Many { others };
+    }
+    if all <= 160 {
+        copy_words(&list, table, 3 * all);
+        return TokenizedUnder::Tokens { all, others };
+    }
+    let again = list_tokens(text, 0, len, table);
+    TokenizedUnder::Tokens {
+        all: again.all,
+        others: again.others,
+    }
+}
 
 // How many tokens the text has, or the number of the refusal.
 pub enum Tokenized {
@@ -25,20 +84,12 @@ pub enum Tokenized {
 pub fn tokenize(text: &[u8], table: &mut [u32]) -> Tokenized
     ensures { λ r. ⌜ (answerOf r, now (table .exit)) ≡ tokenized (now (text .entry)) (now (table .entry)) ⌝ }
 {
-    if 4096 < text.len() {
-        return Tokenized::Refused(1);
+    match tokenize_under(text, table, 4097) {
+        TokenizedUnder::Tokens { all, others: _ } => Tokenized::Tokens(all),
+        TokenizedUnder::Refused(k) => Tokenized::Refused(k),
+        // never: there are at most 4,096 tokens
+        TokenizedUnder::Many { others: _ } => Tokenized::Refused(7),
     }
-    if !is_ascii(text) {
-        return Tokenized::Refused(2);
-    }
-    let bytes = BYTES;
-    let starts = STARTS;
-    let kinds = KINDS;
-    let first = FIRST;
-    if !has_room(&bytes, &starts, &kinds, &first, text, table) {
-        return Tokenized::Refused(7);
-    }
-    Tokenized::Tokens(list_tokens(&bytes, &starts, &kinds, &first, text, table, true))
 }
 
 // How many tokens the text has, and how many of them are other than Space; or the number of the refusal.
@@ -57,13 +108,10 @@ pub fn count_tokens(text: &[u8]) -> Counted
     if !is_ascii(text) {
         return Counted::Refused(2);
     }
-    let bytes = BYTES;
-    let starts = STARTS;
-    let kinds = KINDS;
-    let first = FIRST;
-    let counts = count_list(&bytes, &starts, &kinds, &first, text);
+    let mut none = [0u32; 1];
+    let r = list_tokens(text, 0, text.len(), &mut none);
     Counted::Tokens {
-        all: counts.all,
-        others: counts.others,
+        all: r.all,
+        others: r.others,
     }
 }

@@ -1,56 +1,34 @@
 // What is read at a place of a text: rules 1 to 5, each falling through to the next. Names as in the Rust's tokenizer.rs.
-use crate::prefix_map::Found;
-use crate::prefix_map::longest_in;
+use crate::prefix_map::past_longer;
+use crate::spellings::byte_kind;
+use crate::spellings::kind_of;
+use crate::spellings::len_of;
+use crate::table::Listed;
+use crate::table::put;
+use crate::table::put_other;
 ghost use mathlib.Core.Path.{_≡_};
-ghost use Prim.Native.Nat.{ℕ, _+_, _≤_, _<_};
-ghost use lib.ListN.{length};
+ghost use mathlib.Core.Bool.{true, false};
+ghost use Prim.Native.Nat.{_+_, _≤_, _<_};
+ghost use lib.ListN.{length, getD};
 ghost use Rattle.tokens.specs.declared.token.Token.the-variants.{Unary};
-ghost use Rattle.tokenizer.specs.Constants.{Lent, spellingOf};
-ghost use Rattle.tokenizer.specs.Rules.{blank, digit, letter, other, closer, runEnd, literalAt, commandAt, isTextCommand, numberEnd, pastPoint, byteAt, readAt};
-ghost use Rattle.tokenizer.specs.Coded.{piece, code, single, fromQuotation, fromNumber, fromSpelling};
-
-// A token as its three words: start, length and the number of its kind.
-pub(crate) struct Piece {
-    pub start: u32,
-    pub len: u32,
-    pub kind: u32,
-}
-
-// A token, how many wait behind it, those, and the next place.
-pub(crate) struct Lexed {
-    pub first: Piece,
-    pub count: usize,
-    pub one: Piece,
-    pub two: Piece,
-    pub three: Piece,
-    pub next: usize,
-}
+ghost use Rattle.tokens.specs.Refusals.{ascii};
+ghost use Rattle.tokenizer.specs.Constants.{Lent, rowWords, spellingOf};
+ghost use Rattle.tokenizer.specs.Rules.{blank, digit, letter, other, closer, runEnd, commandAt, isTextCommand, numberEnd, pastPoint, byteAt, readAt};
+ghost use Rattle.tokenizer.specs.Coded.{Placed, AddedRead, fromQuotation, fromNumber, fromRow};
 
 fn is_blank(c: u8) -> bool
     ensures { λ r. ⌜ r ≡ blank c ⌝ }
 {
-    if c < 9 {
-        return false;
-    }
-    if c <= 13 {
+    if c == 32 {
         return true;
     }
-    c == 32
+    9 <= c && c <= 13
 }
 
 fn is_digit(c: u8) -> bool
     ensures { λ r. ⌜ r ≡ digit c ⌝ }
 {
     48 <= c && c <= 57
-}
-
-fn is_letter(c: u8) -> bool
-    ensures { λ r. ⌜ r ≡ letter c ⌝ }
-{
-    if 97 <= c {
-        return c <= 122;
-    }
-    65 <= c && c <= 90
 }
 
 // Where the blanks from the place on end.
@@ -98,68 +76,21 @@ fn find_end(text: &[u8], at: usize, b: u8) -> usize
     i
 }
 
-fn no_piece() -> Piece
-    ensures { λ r. ⌜ r ≡ piece 0 0 0 ⌝ }
+// Rules 4 and 5 for a byte that is no letter: a quotation, or an Operator.
+fn strip_text(text: &[u8], table: &mut [u32], p: Listed) -> Listed
+    requires { ⌜ Placed (now text) p × (letter (getD (now text) (p .next) 0) ≡ false) ⌝ }
+    ensures { λ r. ⌜ AddedRead (fromQuotation (now (text .entry)) (p .next)) p (now (table .entry)) r (now (table .exit)) ⌝ }
 {
-    Piece {
-        start: 0,
-        len: 0,
-        kind: 0,
-    }
-}
-
-fn piece_of(start: usize, len: usize, kind: u32) -> Piece
-    requires { ⌜ (start ≤ 4096) × (len ≤ 4096) ⌝ }
-    ensures { λ r. ⌜ r ≡ piece start len kind ⌝ }
-{
-    Piece {
-        start: start as u32,
-        len: len as u32,
-        kind,
-    }
-}
-
-// One token with nothing behind it, which starts at a place and ends before the next.
-fn alone(start: usize, len: usize, kind: u32, next: usize) -> Lexed
-    requires { ⌜ (start ≤ 4096) × (len ≤ 4096) ⌝ }
-    ensures { λ r. ⌜ r ≡ single start len kind next ⌝ }
-{
-    Lexed {
-        first: piece_of(start, len, kind),
-        count: 0,
-        one: no_piece(),
-        two: no_piece(),
-        three: no_piece(),
-        next,
-    }
-}
-
-// Rule 5.
-fn unmatched_token(text: &[u8], at: usize) -> Lexed
-    requires { ⌜ (at < length (now text)) × (length (now text) ≤ 4096) ⌝ }
-    ensures { λ r. ⌜ r ≡ code (byteAt (now (text .entry)) at) ⌝ }
-{
-    if is_letter(text[at]) {
-        alone(at, 1, 6, at + 1)
-    } else {
-        alone(at, 1, 7, at + 1)
-    }
-}
-
-// Rule 4: a quotation.
-fn strip_text(text: &[u8], at: usize) -> Lexed
-    requires { ⌜ (at < length (now text)) × (length (now text) ≤ 4096) ⌝ }
-    ensures { λ r. ⌜ r ≡ code (fromQuotation (now (text .entry)) at) ⌝ }
-{
+    let at = p.next;
     if text[at] != 34 {
-        return unmatched_token(text, at);
+        return put_other(table, p, at, 1, 7, at + 1);
     }
     let from = at + 1;
     let e = find_end(text, from, 34);
     if e < text.len() {
-        return alone(from, e - from, 5, e + 1);
+        return put_other(table, p, from, e - from, 5, e + 1);
     }
-    unmatched_token(text, at)
+    put_other(table, p, at, 1, 7, at + 1)
 }
 
 // Where digits with at most one point end.
@@ -188,19 +119,17 @@ fn past_point(text: &[u8], at: usize) -> usize
     at
 }
 
-// Rule 3. No number starts with a letter, so the most common byte of rule 5 is passed on at once.
-fn strip_number(text: &[u8], at: usize) -> Lexed
-    requires { ⌜ (at < length (now text)) × (length (now text) ≤ 4096) ⌝ }
-    ensures { λ r. ⌜ r ≡ code (fromNumber (now (text .entry)) at) ⌝ }
+// Rule 3 for a byte that is no letter.
+fn strip_number(text: &[u8], table: &mut [u32], p: Listed) -> Listed
+    requires { ⌜ Placed (now text) p × (letter (getD (now text) (p .next) 0) ≡ false) ⌝ }
+    ensures { λ r. ⌜ AddedRead (fromNumber (now (text .entry)) (p .next)) p (now (table .entry)) r (now (table .exit)) ⌝ }
 {
-    if is_letter(text[at]) {
-        return alone(at, 1, 6, at + 1);
-    }
+    let at = p.next;
     let e = number_end(text, at);
     if past_point(text, at) < e {
-        return alone(at, e - at, 4, e);
+        return put_other(table, p, at, e - at, 4, e);
     }
-    strip_text(text, at)
+    strip_text(text, table, p)
 }
 
 // The closer of a bracket that a text command takes, 0 for any other byte.
@@ -219,47 +148,30 @@ fn closer_of(c: u8) -> u8
     0
 }
 
-// Rule 2: a text command at the place, of n bytes, whose bracket stands at b and is closed by c.
-fn queue_literal_text(text: &[u8], at: usize, b: usize, c: u8) -> Lexed
-    requires { ⌜ (at ≤ b) × (b < length (now text)) × (length (now text) ≤ 4096) ⌝ }
-    ensures { λ r. ⌜ r ≡ code (literalAt (now (text .entry)) at 4 Unary b c) ⌝ }
-{
-    let from = b + 1;
-    let e = find_end(text, from, c);
-    if e < text.len() {
-        return Lexed {
-            first: piece_of(at, 4, 18),
-            count: 3,
-            one: piece_of(b, 1, 20),
-            two: piece_of(from, e - from, 5),
-            three: piece_of(e, 1, 21),
-            next: e + 1,
-        };
-    }
-    Lexed {
-        first: piece_of(at, 4, 18),
-        count: 2,
-        one: piece_of(b, 1, 20),
-        two: piece_of(from, e - from, 5),
-        three: no_piece(),
-        next: e,
-    }
-}
-
 // Rule 2: a text command, `text` or `mbox`, at the place.
-fn text_command(text: &[u8], at: usize) -> Lexed
-    requires { ⌜ (at + 4 ≤ length (now text)) × (length (now text) ≤ 4096) ⌝ }
-    ensures { λ r. ⌜ r ≡ code (commandAt (now (text .entry)) at 4 Unary) ⌝ }
+fn text_command(text: &[u8], table: &mut [u32], p: Listed) -> Listed
+    requires { ⌜ Placed (now text) p × (p .next + 4 ≤ length (now text)) ⌝ }
+    ensures { λ r.
+        ⌜ AddedRead (commandAt (now (text .entry)) (p .next) 4 Unary) p (now (table .entry)) r (now (table .exit)) ⌝ }
 {
+    let at = p.next;
+    let command = put_other(table, p, at, 4, 18, at + 4);
     let b = blanks_end(text, at + 4);
     if text.len() <= b {
-        return alone(at, 4, 18, at + 4);
+        return command;
     }
     let c = closer_of(text[b]);
     if c == 0 {
-        return alone(at, 4, 18, at + 4);
+        return command;
     }
-    queue_literal_text(text, at, b, c)
+    let from = b + 1;
+    let e = find_end(text, from, c);
+    let open = put_other(table, command, b, 1, 20, from);
+    let literal = put_other(table, open, from, e - from, 5, e);
+    if e < text.len() {
+        return put_other(table, literal, e, 1, 21, e + 1);
+    }
+    literal
 }
 
 // Whether the row is that of `text` or `mbox`.
@@ -273,51 +185,80 @@ fn is_text_command(row: usize) -> bool
     row == 272
 }
 
-// Rule 2.
+// Rule 2 for the row that is found.
 fn strip_spelling(
-    bytes: &[u8; 1809],
-    starts: &[u16; 430],
-    kinds: &[u8; 429],
-    first: &[u16; 129],
+    rows: &[u16; 430],
+    row: usize,
     text: &[u8],
-    at: usize,
-) -> Lexed
+    table: &mut [u32],
+    p: Listed,
+) -> Listed
     requires { ⌜
-        Lent (now bytes) (now starts) (now kinds) (now first) × (at < length (now text))
-        × (length (now text) ≤ 4096)
+        (now rows ≡ rowWords) × (row < 429) × Placed (now text) p
+        × (p .next + length (spellingOf row) ≤ length (now text))
         ⌝ }
-    ensures { λ r. ⌜ r ≡ code (fromSpelling (now (text .entry)) at) ⌝ }
+    ensures { λ r. ⌜ AddedRead (fromRow row (now (text .entry)) (p .next)) p (now (table .entry)) r (now (table .exit)) ⌝ }
 {
-    match longest_in(bytes, starts, kinds, first, text, at) {
-        Found::Row { number, len, kind } => {
-            if is_text_command(number) {
-                text_command(text, at)
-            } else {
-                alone(at, len, kind, at + len)
-            }
-        }
-        Found::Nothing => strip_number(text, at),
+    if is_text_command(row) {
+        return text_command(text, table, p);
+    }
+    let at = p.next;
+    let len = len_of(rows, row);
+    put_other(table, p, at, len, kind_of(rows, row), at + len)
+}
+
+// Rule 1.
+fn strip_blanks(text: &[u8], table: &mut [u32], p: Listed) -> Listed
+    requires { ⌜ Placed (now text) p × (blank (getD (now text) (p .next) 0) ≡ true) ⌝ }
+    ensures { λ r. ⌜ AddedRead (readAt byteAt (now (text .entry)) (p .next)) p (now (table .entry)) r (now (table .exit)) ⌝ }
+{
+    let at = p.next;
+    let e = blanks_end(text, at + 1);
+    put(table, p.all, at, e - at, 23);
+    Listed {
+        all: p.all + 1,
+        others: p.others,
+        next: e,
     }
 }
 
-// What is read at a place: rule 1, then the others.
-pub(crate) fn read_at(
+// Rule 3 for a digit.
+fn strip_digits(text: &[u8], table: &mut [u32], p: Listed) -> Listed
+    requires { ⌜ Placed (now text) p × (digit (getD (now text) (p .next) 0) ≡ true) ⌝ }
+    ensures { λ r. ⌜ AddedRead (fromNumber (now (text .entry)) (p .next)) p (now (table .entry)) r (now (table .exit)) ⌝ }
+{
+    let at = p.next;
+    let e = number_end(text, at + 1);
+    put_other(table, p, at, e - at, 4, e)
+}
+
+// Lists what is read at the place. The kind of the byte by itself says which rules can apply but for a longer spelling: Space
+// the first, Number the third, Operator the last three; any other kind is the token's.
+pub(crate) fn read_token(
     bytes: &[u8; 1809],
-    starts: &[u16; 430],
-    kinds: &[u8; 429],
+    rows: &[u16; 430],
     first: &[u16; 129],
     text: &[u8],
-    at: usize,
-) -> Lexed
-    requires { ⌜
-        Lent (now bytes) (now starts) (now kinds) (now first) × (at < length (now text))
-        × (length (now text) ≤ 4096)
-        ⌝ }
-    ensures { λ r. ⌜ r ≡ code (readAt byteAt (now (text .entry)) at) ⌝ }
+    table: &mut [u32],
+    p: Listed,
+) -> Listed
+    requires { ⌜ Lent (now bytes) (now rows) (now first) × Placed (now text) p × (ascii (now text) ≡ true) ⌝ }
+    ensures { λ r. ⌜ AddedRead (readAt byteAt (now (text .entry)) (p .next)) p (now (table .entry)) r (now (table .exit)) ⌝ }
 {
-    if is_blank(text[at]) {
-        let e = blanks_end(text, at + 1);
-        return alone(at, e - at, 23, e);
+    let at = p.next;
+    let kind = byte_kind(first, text[at] as usize);
+    if kind == 23 {
+        return strip_blanks(text, table, p);
     }
-    strip_spelling(bytes, starts, kinds, first, text, at)
+    let past = past_longer(bytes, rows, first, text, at);
+    if 0 < past {
+        return strip_spelling(rows, past - 1, text, table, p);
+    }
+    if kind == 4 {
+        return strip_digits(text, table, p);
+    }
+    if kind == 7 {
+        return strip_number(text, table, p);
+    }
+    put_other(table, p, at, 1, kind, at + 1)
 }

@@ -17,18 +17,19 @@ pub enum Checked {
     Refused(u8),
 }
 
-// Whether every byte is below 128.
+// Whether every byte is below 128. It looks at all of them, so that the compiler takes many at a time.
 pub fn is_ascii(text: &[u8]) -> bool
     ensures { λ r. ⌜ r ≡ ascii (now (text .entry)) ⌝ }
 {
+    let mut ok = true;
     let mut i = 0;
     while i < text.len() {
         if 127 < text[i] {
-            return false;
+            ok = false;
         }
         i += 1;
     }
-    true
+    ok
 }
 
 // Where a span ends; in 64 bits the sum does not wrap.

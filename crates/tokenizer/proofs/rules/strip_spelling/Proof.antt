@@ -1,57 +1,59 @@
--- A text command, another spelling, or none.
-use mathlib.Core.Path.{sym, ap, _∙_}
+-- A text command, or another spelling.
+use mathlib.Core.Path.{sym, _∙_, ap}
+use Prim.Native.Nat.{_-_, ℕ}
 use native.Mathlib.Omega.{arith}
 use borrow.Author.Needs.{needs}
-use Rattle.tokenizer.specs.Coded.{code}
-use Rattle.tokenizer.proofs.RuleCases.{spelled-none, spelled-below, spelled-inside, spelled-plain, spelled-four, spelled-command}
+use Rattle.tokens.specs.Lexeme.{lexeme}
+use Rattle.tokenizer.specs.Constants.{rowOf, kindOf, noRow}
+use Rattle.tokenizer.specs.Rules.{alone}
+use Rattle.tokenizer.proofs.Rows.{well-formed}
+use Rattle.tokenizer.proofs.RuleCases.{row-plain, row-command, command-four}
+use Rattle.tokenizer.proofs.Adding.{added-read, added-as}
 use Rattle.tokenizer.proofs.rules.strip_spelling.Statement.{statement}
 use Rattle.tokenizer.proofs.rules.strip_spelling.Tie as tie
 
-longest-in-requires : tie.Need-longest-in-requires
-longest-in-requires c κs = search needs
-
-enum-known-number : tie.Need-enum-known-number
-enum-known-number c = search needs
-
 is-text-command-requires : tie.Need-is-text-command-requires
-is-text-command-requires c κs = spelled-below _ _ _ _ _ (sym (c .before .before .before .longest-in .ensures) ∙ c .before .number .given .1)
+is-text-command-requires c κs = search needs
 
 text-command-requires : tie.Need-text-command-requires
-text-command-requires c κs = (spelled-four _ _ _ _ _ (sym (c .before .before .before .before .before .longest-in .ensures) ∙ c .before .before .before .number .given .1) (sym (c .before .is-text-command .ensures) ∙ c .if1 .taken), c .before .before .before .before .before .before .before .pre .2)
+text-command-requires c κs = (c .before .before .before .before .before .pre .2, omega (arith, command-four (c .before .before .before .before .before .args .row) (c .before .before .before .before .before .args .text .now) 0 (sym (c .before .before .is-text-command .ensures) ∙ c .before .if1 .taken)))
 
-add-alone : tie.Need-add-alone
-add-alone c = omega (arith, spelled-inside (c .before .before .before .before .before .before .before .args .text .now) (c .before .before .before .before .before .before .before .args .at) _ _ _ (sym (c .before .before .before .before .before .longest-in .ensures) ∙ c .before .before .before .number .given .1))
-
-alone-requires : tie.Need-alone-requires
-alone-requires c κs = omega (arith, spelled-inside (c .before .before .before .before .before .before .before .args .text .now) (c .before .before .before .before .before .before .before .args .at) _ _ _ (sym (c .before .before .before .before .before .longest-in .ensures) ∙ c .before .before .before .number .given .1))
-
-enum-told : tie.Need-enum-told
-enum-told c = search needs
-
-strip-number-requires : tie.Need-strip-number-requires
-strip-number-requires c κs = search needs
+same-length : tie.Need-same-length
+same-length c = search needs
 
 returns : tie.Need-returns
-returns c = c .text-command .ensures ∙ ap code (spelled-command _ _ _ _ _ (sym (c .before .before .before .before .before .before .longest-in .ensures) ∙ c .before .before .before .before .number .given .1) (sym (c .before .before .is-text-command .ensures) ∙ c .before .if1 .taken))
+returns c = added-as (row-command (c .before .before .before .before .before .before .before .before .args .row) (c .before .before .before .before .before .before .before .before .args .text .now) (c .before .before .before .before .before .before .before .before .args .p .next) (sym (c .before .before .before .before .before .is-text-command .ensures) ∙ c .before .before .before .before .if1 .taken)) (c .before .before .text-command .ensures)
+
+len-of-requires : tie.Need-len-of-requires
+len-of-requires c κs = search needs
+
+kind-of-requires : tie.Need-kind-of-requires
+kind-of-requires c κs = search needs
+
+add-put-other : tie.Need-add-put-other
+add-put-other c = omega arith
+
+put-other-requires : tie.Need-put-other-requires
+put-other-requires c κs = omega arith
+
+same-length-2 : tie.Need-same-length-2
+same-length-2 c = search needs
 
 returns-2 : tie.Need-returns-2
-returns-2 c = c .alone .ensures ∙ spelled-plain _ _ _ _ _ (sym (c .before .before .before .before .before .before .longest-in .ensures) ∙ c .before .before .before .before .number .given .1) (sym (c .before .before .is-text-command .ensures) ∙ c .before .if1 .left)
-
-returns-3 : tie.Need-returns-3
-returns-3 c = c .strip-number .ensures ∙ ap code (spelled-none (c .before .before .before .before .before .args .text .now) (c .before .before .before .before .before .args .at) (sym (c .before .before .before .longest-in .ensures) ∙ c .before .enum-told .given .1))
+unfolding rowOf kindOf
+returns-2 c = added-read (lexeme (c .before .before .before .before .before .before .before .before .before .before .args .p .next) (c .before .before .before .before .before .len-of .result) (rowOf (c .before .before .before .before .before .before .before .before .before .before .args .row) .token)) (well-formed noRow (c .before .before .before .before .before .before .before .before .before .before .args .row) (c .before .before .before .before .before .before .before .before .before .before .pre .1) .no-space) (ap (λ (n : ℕ). alone (c .before .before .before .before .before .before .before .before .before .before .args .p .next) n (rowOf (c .before .before .before .before .before .before .before .before .before .before .args .row) .token)) (c .before .before .before .before .before .len-of .ensures) ∙ row-plain (c .before .before .before .before .before .before .before .before .before .before .args .row) (c .before .before .before .before .before .before .before .before .before .before .args .text .now) (c .before .before .before .before .before .before .before .before .before .before .args .p .next) (sym (c .before .before .before .before .before .before .before .is-text-command .ensures) ∙ c .before .before .before .before .before .before .if1 .left)) (c .before .before .put-other .ensures .0) (rw (c .before .before .before .kind-of .ensures) at (c .before .before .put-other .ensures .1))
 
 pub strip-spelling-spec : {M : Type 1} → statement M
 strip-spelling-spec =
     tie.close
     (tie.spec
-    longest-in-requires
-    enum-known-number
     is-text-command-requires
     text-command-requires
-    add-alone
-    alone-requires
-    enum-told
-    strip-number-requires
+    same-length
     returns
-    returns-2
-    returns-3)
+    len-of-requires
+    kind-of-requires
+    add-put-other
+    put-other-requires
+    same-length-2
+    returns-2)

@@ -1,0 +1,131 @@
+-- The call that prints: from what the reading of the text answers and leaves, and from whether the print fits, to its own answer.
+use Prim.Native.Nat.{ℕ, _*_, _-_, _≤_, _<_}
+use mathlib.Core.Path.{_≡_, sym, ap, _∙_}
+use mathlib.Core.List.{List, [], _∷_, _++_}
+use mathlib.Core.Option.{none, some}
+use native.Mathlib.Omega.{arith}
+use lib.ListN.{length, drop, replicate}
+use borrow.Author.Tests.{lt-ltb, le-ltb}
+use Rattle.tokenizer.specs.Rules.{tokens}
+use Rattle.tokens.specs.Table.{tableWords}
+use Rattle.tokens.specs.Refusals.{Answer, accepted, refused}
+use Rattle.tokens.proofs.Cases.{by-lt, by-option}
+use Rattle.tree.specs.Tree.{count}
+use Rattle.tree.specs.Words.{encodeItems}
+use Rattle.reading.specs.Reading.{readText, blank}
+use Rattle.reading.proofs.Theorems.{bounds}
+use Rattle.parse.specs.Entry.{bit}
+use Rattle.parse.specs.Call as read
+use Rattle.parse.specs.Call.{parseRefusal, parsedText, workAfter, treeAfter}
+use Rattle.print.specs.declared.row.Fitted.{Fitted}
+use Rattle.print.specs.declared.row.Fitted.the-variants.{Whole, Short}
+use Rattle.print.specs.Rows.{Prints, TreePrinted}
+use Rattle.print.specs.Call.{printOf, values, printedText}
+
+-- the answer and the buffers of the reading, and with them the print buffer
+abbrev Left : Type 0
+Left = Answer × List ℕ × List ℕ × List ℕ
+
+abbrev pub LeftAll : Type 0
+LeftAll = Answer × List ℕ × List ℕ × List ℕ × List ℕ
+
+-- two answers that are not one
+pub apart : {A : Type 0} → _≡_ {A = ℕ} 0 1 → A
+apart z = absurd (omega arith)
+
+module _ (text table work tree out : List ℕ) where
+  -- What the reading leaves where it accepts.
+  pub text-read : parseRefusal text (length table) (length work) (length tree) ≡ none
+      → parsedText text table work tree
+      ≡ (accepted (length (tokens text) ∷ read.values text (tokens text)), tableWords (tokens text) ++ drop (3 * length (tokens text)) table, workAfter (length work), treeAfter text (tokens text) (length tree))
+  unfolding parsedText
+  text-read e = rw (e, parsedText)
+
+  text-refused : (k : ℕ) → parseRefusal text (length table) (length work) (length tree) ≡ some k
+      → parsedText text table work tree ≡ (refused k, table, work, tree)
+  unfolding parsedText
+  text-refused k e = rw (e, parsedText)
+
+  -- The call's answers, by its cases.
+  pub refused-so : (k : ℕ) → parseRefusal text (length table) (length work) (length tree) ≡ some k
+      → printedText text table work tree out ≡ (refused k, table, work, tree, out)
+  unfolding printedText
+  refused-so k e = rw (text-refused k e, printedText) (rw (text-refused k e))
+
+  module _ (e : parseRefusal text (length table) (length work) (length tree) ≡ none) where
+    pub short-so : length out < length (printOf text) → (printedText text table work tree out) .0 ≡ refused 10
+    unfolding printedText
+    short-so l = rw (text-read e, printedText) (rw (lt-ltb (length out) (length (printOf text)) l))
+
+    pub whole-so : length (printOf text) ≤ length out
+        → printedText text table work tree out
+        ≡ (accepted (values text), tableWords (tokens text) ++ drop (3 * length (tokens text)) table, workAfter (length work), treeAfter text (tokens text) (length tree), printOf text ++ drop (length (printOf text)) out)
+    unfolding printedText
+    whole-so l =
+        rw (text-read e, printedText) (rw (le-ltb (length out) (length (printOf text)) l, text-read e))
+
+  module _ (a : Answer) (t w y : List ℕ) (e : (a, t, w, y) ≡ parsedText text table work tree) where
+    pub turned-back : (k : ℕ) → a ≡ refused k → _≡_ {A = LeftAll} (refused k, t, w, y, out) (printedText text table work tree out)
+    unfolding printedText
+    turned-back k q =
+        let p : parsedText text table work tree ≡ (refused k, t, w, y) = rw q at (sym e) in
+        sym (rw (p, printedText) (rw p))
+
+    module _ (n takes items b : ℕ) (q : a ≡ accepted (n ∷ takes ∷ items ∷ b ∷ [])) where
+      is : parsedText text table work tree ≡ (accepted (n ∷ takes ∷ items ∷ b ∷ []), t, w, y)
+      is = rw q at (sym e)
+
+      accepts : parseRefusal text (length table) (length work) (length tree) ≡ none
+      accepts =
+          by-option (parseRefusal text (length table) (length work) (length tree)) (λ h. h)
+          (λ k h.
+          let d : refused k ≡ accepted (n ∷ takes ∷ items ∷ b ∷ []) = ap (λ (x : Left). x .0) (sym (text-refused k h) ∙ is) in
+          apart cc)
+
+      answers : accepted (n ∷ takes ∷ items ∷ b ∷ []) ≡ accepted (length (tokens text) ∷ read.values text (tokens text))
+      answers = ap (λ (x : Left). x .0) (sym is ∙ text-read accepts)
+
+      n-is : n ≡ length (tokens text)
+      n-is = let d = answers in cc
+
+      values-are : takes ∷ items ∷ b ∷ [] ≡ read.values text (tokens text)
+      values-are = let d = answers in cc
+
+      takes-are : takes ≡ readText text .takes
+      unfolding read.values
+      takes-are = let d = values-are in cc
+
+      items-are : items ≡ count (readText text .tree)
+      unfolding read.values
+      items-are = let d = values-are in cc
+
+      blank-is : b ≡ bit (blank text (readText text .tree))
+      unfolding read.values
+      blank-is = let d = values-are in cc
+
+      words-are : y ≡ encodeItems (readText text .tree) ++ replicate (length tree - length (encodeItems (readText text .tree))) 0
+      unfolding treeAfter
+      words-are = ap (λ (x : Left). x .3) (sym is ∙ text-read accepts)
+
+      module _ (after : List ℕ) (r : Fitted) (put : TreePrinted y out (length text) n takes items after r) where
+        prints : Prints (printOf text) out after r
+        unfolding printOf
+        prints = rw (n-is, takes-are) at (put (readText text .tree) _ (bounds text (tokens text) .well-formed) items-are words-are)
+
+        pub too-short : r ≡ Short → _≡_ {A = LeftAll} (refused 10, t, w, y, after) (printedText text table work tree out)
+        unfolding printedText
+        too-short s =
+            by-lt (length out) (length (printOf text))
+            (λ l. let d = prints .short l in sym (rw (is, printedText) (rw (lt-ltb (length out) (length (printOf text)) l, is, d .1))))
+            (λ l. let d = prints .whole l .0 in apart cc)
+
+        pub printed-whole : (len : ℕ) → r ≡ Whole len
+            → _≡_ {A = LeftAll} (accepted (len ∷ takes ∷ b ∷ []), t, w, y, after) (printedText text table work tree out)
+        unfolding printedText values
+        printed-whole len s =
+            by-lt (length out) (length (printOf text))
+            (λ l. let d = prints .short l .0 in apart cc)
+            (λ l.
+            let d = prints .whole l in
+            let n : len ≡ length (printOf text) = cc in
+            sym (rw (is, printedText) (rw (le-ltb (length out) (length (printOf text)) l, is, d .1, n, takes-are, blank-is))))

@@ -1,0 +1,44 @@
+-- The call that prints a text's tree: what it answers, and what it leaves in the lent buffers.
+use mathlib.Core.Bool.{true, false}
+use mathlib.Core.List.{List, [], _∷_, _++_}
+use Prim.Native.Nat.{ℕ}
+use lib.Dec.{ltb}
+use lib.ListN.{length, drop}
+use Rattle.tokenizer.specs.Rules.{tokens}
+use Rattle.tokens.specs.Refusals.{Answer, accepted, refused}
+use Rattle.reading.specs.Reading.{readText, blank}
+use Rattle.parse.specs.Entry.{bit}
+use Rattle.parse.specs.Call.{parsedText}
+use Rattle.print.specs.declared.Printed.{Printed}
+use Rattle.print.specs.declared.Printed.the-variants.{Whole, Refused}
+use Rattle.print.specs.Print.{printed}
+
+-- The code's answer in the words of document 01. Blank is 1 or 0.
+abbrev pub answerOf : Printed → Answer
+answerOf (Whole len takes blank) = accepted (len ∷ takes ∷ bit blank ∷ [])
+answerOf (Refused k) = refused k
+
+-- "the whole print, first line included", of a text that is read
+unfoldable pub printOf : List ℕ → List ℕ
+printOf text = let r = readText text in printed (length text) (length (tokens text)) (r .takes) (r .tree)
+
+-- What is answered with it: its length, takes, and "blank".
+unfoldable pub values : List ℕ → List ℕ
+values text =
+    let r = readText text in length (printOf text) ∷ r .takes ∷ bit (blank text (r .tree)) ∷ []
+
+-- "For text: 1, 2, 7, 8, 9, 10": the first five are those of the call that reads a text (crates/parse/specs/Call.antt), and its
+-- buffers are left as it leaves them. "10 print buffer shorter than the whole print, first line included" is tested after them; it
+-- "leaves the print buffer unchanged and the others as after acceptance". "print bytes past the print unchanged"
+unfoldable pub printedText : List ℕ → List ℕ → List ℕ → List ℕ → List ℕ → Answer × List ℕ × List ℕ × List ℕ × List ℕ
+printedText text table work tree out =
+    let p = parsedText text table work tree in
+    let print = printOf text in
+    elim (p .0) [
+      | refused k ↦ (refused k, p .1, p .2, p .3, out)
+      | accepted read ↦
+          elim (ltb (length out) (length print)) [
+            | true ↦ (refused 10, p .1, p .2, p .3, out)
+            | false ↦ (accepted (values text), p .1, p .2, p .3, print ++ drop (length print) out)
+          ]
+    ]

@@ -1,0 +1,154 @@
+-- What the call's answer says of the program's reply, where the buffers are long enough for any text of 500 bytes.
+use Prim.Native.Nat.{ℕ, suc, _+_, _*_, _/_, _%_, _≤_, _<_}
+use mathlib.Core.Path.{_≡_, refl, sym, ap, _∙_}
+use mathlib.Core.Bool.{Bool, true, false}
+use mathlib.Core.List.{List, [], _∷_, _++_}
+use mathlib.Core.Option.{none, some}
+use native.Mathlib.Omega.{arith}
+use lib.Dec.{ltb}
+use lib.ListN.{length, take, drop, set, length-append, length-drop, length-set}
+use lib.Seq.{take-at, take-suc-set}
+use borrow.Author.Tests.{lt-ltb, le-ltb}
+use Rattle.tokens.specs.Bytes.{bytes}
+use Rattle.tokens.specs.Refusals.{Answer, accepted, refused, ascii, textRefusal}
+use Rattle.tokenizer.specs.Rules.{tokens}
+use Rattle.tokenizer.proofs.Theorems.{never-outnumber}
+use Rattle.tokens.proofs.Cases.{by-lt, by-option, by-test}
+use Rattle.parse.specs.Call.{parseRefusal}
+use Rattle.parse.proofs.Calls.{text-refused, table-long, room-enough, others-within}
+use Rattle.print.specs.declared.Printed.{Printed}
+use Rattle.print.specs.declared.Printed.the-variants.{Whole, Refused}
+use Rattle.print.specs.Decimal.{decimal}
+use Rattle.print.specs.Call.{answerOf, printOf, values, printedText}
+use Rattle.print.proofs.Decimals.{small, large}
+use Rattle.print.proofs.Calls.{LeftAll, apart, refused-so, short-so, whole-so}
+use Rattle.read.specs.Reply.{refusal, replyTo, Written}
+
+-- buffers for any text of this length
+any-text : (text : List ℕ) (table work tree : ℕ) → textRefusal text ≡ none → 3 * length text ≤ table → 4 * (length text + 1) ≤ work
+    → 32 * (length text + 1) ≤ tree → parseRefusal text table work tree ≡ none
+any-text text table work tree ok a b c =
+    let n = never-outnumber text in
+    let m = others-within (tokens text) in
+    table-long text table work tree ok (omega arith) ∙ room-enough (tokens text) work tree (omega arith) (omega arith)
+
+-- The line of a refusal, byte by byte behind `refused=`.
+module _ (x out : List ℕ) (e : x ≡ bytes "refused=" ++ drop 8 out) (room : 11 ≤ length out) where
+  size : length x ≡ length out
+  size = ap length e ∙ simp (length-append, length-drop) (omega arith)
+
+  front : take 8 x ≡ bytes "refused="
+  front = rw e (take-at (bytes "refused=") (drop 8 out) 8 refl)
+
+  pub one-digit : (k : ℕ) → k < 10 → Written (refusal k) (set (set x 8 (48 + k)) 9 10) 10
+  unfolding refusal
+  one-digit k h = record {
+    count = rw (small k h);
+    fits = simp length-set (omega (arith, size));
+    first = rw (small k h)
+        (take-suc-set (set x 8 (48 + k)) 9 10 (simp length-set (omega (arith, size))) ∙
+        ap (λ (l : List ℕ). l ++ (10 ∷ [])) (take-suc-set x 8 (48 + k) (omega (arith, size)) ∙ ap (λ (l : List ℕ). l ++ ((48 + k) ∷ [])) front));
+  }
+
+  pub two-digits : (k : ℕ) → 10 ≤ k → k < 100
+      → Written (refusal k) (set (set (set x 8 (48 + k / 10)) 9 (48 + k % 10)) 10 10) 11
+  unfolding refusal
+  two-digits k l h =
+      let a = 48 + k / 10 in
+      let b = 48 + k % 10 in
+      let d : decimal k ≡ a ∷ b ∷ [] = large k l ∙ rw (small (k / 10) (omega arith)) in
+      record {
+        count = rw d;
+        fits = simp length-set (omega (arith, size));
+        first = rw d
+            (take-suc-set (set (set x 8 a) 9 b) 10 10 (simp length-set (omega (arith, size))) ∙
+            ap (λ (l : List ℕ). l ++ (10 ∷ []))
+            (take-suc-set (set x 8 a) 9 b (simp length-set (omega (arith, size))) ∙
+            ap (λ (l : List ℕ). l ++ (b ∷ [])) (take-suc-set x 8 a (omega (arith, size)) ∙ ap (λ (l : List ℕ). l ++ (a ∷ [])) front)));
+      }
+
+-- a text's own refusals are 1 and 2
+few-numbers : (text : List ℕ) (k : ℕ) → textRefusal text ≡ some k → k ≤ 2
+unfolding textRefusal
+few-numbers text k e =
+    by-test (ltb 4096 (length text))
+    (λ h. let d : some 1 ≡ some k = sym (rw (h, textRefusal)) ∙ e in let n : k ≡ 1 = cc in omega arith)
+    (λ h.
+    by-test (ascii text)
+    (λ g. let d : none ≡ some k = sym (rw (h, textRefusal) (rw g)) ∙ e in apart cc)
+    (λ g. let d : some 2 ≡ some k = sym (rw (h, textRefusal) (rw g)) ∙ e in let n : k ≡ 2 = cc in omega arith))
+
+-- "over 500 bytes it prints `refused=1`"
+pub too-long : (text : List ℕ) → 500 < length text → replyTo text ≡ refusal 1
+unfolding replyTo
+too-long text h = rw (lt-ltb 500 (length text) h, replyTo)
+
+module _ (text table work tree out : List ℕ) (few : length text ≤ 500) (ta : length table ≡ 1500) (wo : length work ≡ 2004)
+    (tr : length tree ≡ 16032) (ou : length out ≡ 65536) where
+  reply-refused : (k : ℕ) → textRefusal text ≡ some k → replyTo text ≡ refusal k
+  unfolding replyTo
+  reply-refused k e = rw (le-ltb 500 (length text) few, replyTo) (rw e)
+
+  reply-short : textRefusal text ≡ none → 65536 < length (printOf text) → replyTo text ≡ refusal 10
+  unfolding replyTo
+  reply-short e h = rw (le-ltb 500 (length text) few, replyTo) (rw e (rw (lt-ltb 65536 (length (printOf text)) h)))
+
+  reply-whole : textRefusal text ≡ none → length (printOf text) ≤ 65536 → replyTo text ≡ printOf text
+  unfolding replyTo
+  reply-whole e h = rw (le-ltb 500 (length text) few, replyTo) (rw e (rw (le-ltb 65536 (length (printOf text)) h)))
+
+  enough : textRefusal text ≡ none → parseRefusal text (length table) (length work) (length tree) ≡ none
+  enough e = any-text text (length table) (length work) (length tree) e (omega arith) (omega arith) (omega arith)
+
+  module _ (r : Printed) (t w y z : List ℕ) (e : (answerOf r, t, w, y, z) ≡ printedText text table work tree out) where
+    answer : answerOf r ≡ (printedText text table work tree out) .0
+    answer = ap (λ (x : LeftAll). x .0) e
+
+    left : z ≡ (printedText text table work tree out) .4
+    left = ap (λ (x : LeftAll). x .4) e
+
+    by-refusal : (k : ℕ) → textRefusal text ≡ some k → answerOf r ≡ refused k
+    by-refusal k h =
+        answer ∙
+        ap (λ (x : LeftAll). x .0)
+        (refused-so text table work tree out k (text-refused text (length table) (length work) (length tree) k h))
+
+    pub turned-back : (k : ℕ) → r ≡ Refused k → (k < 100) × (replyTo text ≡ refusal k)
+    turned-back k q =
+        by-option (textRefusal text)
+        (λ h.
+        by-lt (length out) (length (printOf text))
+        (λ l.
+        let d : refused k ≡ refused 10 = ap answerOf (sym q) ∙ answer ∙ short-so text table work tree out (enough h) l in
+        let n : k ≡ 10 = cc in
+        (omega arith, rw n (reply-short h (omega arith))))
+        (λ l.
+        let d : refused k ≡ accepted (values text) = ap answerOf (sym q) ∙ answer ∙ ap (λ (x : LeftAll). x .0) (whole-so text table work tree out (enough h) l) in
+        apart cc))
+        (λ j h.
+        let d : refused k ≡ refused j = ap answerOf (sym q) ∙ by-refusal j h in
+        let n : k ≡ j = cc in
+        (omega (arith, few-numbers text j h), rw n (reply-refused j h)))
+
+    pub printed-whole : (len takes : ℕ) (b : Bool) → r ≡ Whole len takes b → Written (replyTo text) z len
+    unfolding values
+    printed-whole len takes b q =
+        by-option (textRefusal text)
+        (λ h.
+        by-lt (length out) (length (printOf text))
+        (λ l.
+        let d : answerOf (Whole len takes b) ≡ refused 10 = ap answerOf (sym q) ∙ answer ∙ short-so text table work tree out (enough h) l in
+        apart cc)
+        (λ l.
+        let d : answerOf (Whole len takes b) ≡ accepted (values text) = ap answerOf (sym q) ∙ answer ∙ ap (λ (x : LeftAll). x .0) (whole-so text table work tree out (enough h) l) in
+        let n : len ≡ length (printOf text) = cc in
+        let s : z ≡ printOf text ++ drop (length (printOf text)) out = left ∙ ap (λ (x : LeftAll). x .4) (whole-so text table work tree out (enough h) l) in
+        let p = reply-whole h (omega arith) in
+        record {
+          count = n ∙ ap length (sym p);
+          fits = rw s (omega (arith, length-append (printOf text) (drop (length (printOf text)) out)));
+          first = rw (s, p) (take-at (printOf text) (drop (length (printOf text)) out) len (sym n));
+        }))
+        (λ j h.
+        let d : answerOf (Whole len takes b) ≡ refused j = ap answerOf (sym q) ∙ by-refusal j h in
+        apart cc)

@@ -1,0 +1,66 @@
+-- The call's print, or the line of its refusal.
+use Rattle.read.proofs.Replies.{too-long, turned-back, printed-whole}
+use borrow.Author.Needs.{needs}
+use Rattle.read.proofs.reply.Statement.{statement}
+use Rattle.read.proofs.reply.Tie as tie
+
+refuse-requires : tie.Need-refuse-requires
+refuse-requires c κs = search needs
+
+same-length : tie.Need-same-length
+same-length c = search needs
+
+returns : tie.Need-returns
+returns c = rw (too-long (c .before .before .before .before .before .before .before .args .text .now) (c .before .before .before .before .if1 .taken)) (c .before .before .refuse .ensures)
+
+slice-aggregate-print : tie.Need-slice-aggregate-print
+slice-aggregate-print c = search needs
+
+slice-aggregate-print-2 : tie.Need-slice-aggregate-print-2
+slice-aggregate-print-2 c = search needs
+
+slice-aggregate-print-3 : tie.Need-slice-aggregate-print-3
+slice-aggregate-print-3 c = search needs
+
+print-requires : tie.Need-print-requires
+print-requires c κs = search needs
+
+enum-known-len : tie.Need-enum-known-len
+enum-known-len c = search needs
+
+enum-known-number : tie.Need-enum-known-number
+enum-known-number c = search needs
+
+refuse-requires-2 : tie.Need-refuse-requires-2
+refuse-requires-2 c κs = (search needs, turned-back (c .before .before .before .before .before .before .before .before .before .before .before .before .before .before .before .before .before .args .text .now) _ _ _ (c .before .before .before .before .before .before .before .before .before .before .before .before .before .before .before .before .before .args .out .now) (search needs) (search needs) (search needs) (search needs) (search needs) _ _ _ _ _ (c .before .before .before .before .before .before .before .before .before .print .ensures) _ (c .before .before .number .given .1) .0)
+
+same-length-2 : tie.Need-same-length-2
+same-length-2 c = search needs
+
+returns-2 : tie.Need-returns-2
+returns-2 c = printed-whole (c .before .before .before .before .before .before .before .before .before .before .before .before .before .before .before .before .args .text .now) _ _ _ (c .before .before .before .before .before .before .before .before .before .before .before .before .before .before .before .before .args .out .now) (search needs) (search needs) (search needs) (search needs) (search needs) _ _ _ _ _ (c .before .before .before .before .before .before .before .before .print .ensures) _ _ _ (c .before .len .given .1)
+
+same-length-3 : tie.Need-same-length-3
+same-length-3 c = search needs
+
+returns-3 : tie.Need-returns-3
+returns-3 c = rw (turned-back (c .before .before .before .before .before .before .before .before .before .before .before .before .before .before .before .before .before .before .before .before .args .text .now) _ _ _ (c .before .before .before .before .before .before .before .before .before .before .before .before .before .before .before .before .before .before .before .before .args .out .now) (search needs) (search needs) (search needs) (search needs) (search needs) _ _ _ _ _ (c .before .before .before .before .before .before .before .before .before .before .before .before .print .ensures) _ (c .before .before .before .before .before .number .given .1) .1) (c .before .before .refuse2 .ensures)
+
+pub reply-spec : {M : Type 1} → statement M
+reply-spec =
+    tie.close
+    (tie.spec
+    refuse-requires
+    same-length
+    returns
+    slice-aggregate-print
+    slice-aggregate-print-2
+    slice-aggregate-print-3
+    print-requires
+    enum-known-len
+    enum-known-number
+    refuse-requires-2
+    same-length-2
+    returns-2
+    same-length-3
+    returns-3)

@@ -1,0 +1,37 @@
+-- What the program writes for the bytes of its input: document 01, 'The printed tree'.
+use Prim.Native.Nat.{ℕ, _≤_}
+use mathlib.Core.Path.{_≡_}
+use mathlib.Core.Bool.{true, false}
+use mathlib.Core.List.{List, _++_}
+use mathlib.Core.Option.{none, some}
+use lib.Dec.{ltb}
+use lib.ListN.{length, take}
+use Rattle.tokens.specs.Bytes.{bytes}
+use Rattle.tokens.specs.Refusals.{textRefusal}
+use Rattle.print.specs.Decimal.{decimal}
+use Rattle.print.specs.Print.{newline}
+use Rattle.print.specs.Call.{printOf}
+
+-- "any other refusal as `refused=` with its number"; "Every line ends in a newline byte."
+unfoldable pub refusal : ℕ → List ℕ
+refusal k = bytes "refused=" ++ (decimal k ++ newline)
+
+-- "A program, its print buffer 65,536 bytes long, reads standard input and prints; over 500 bytes it prints `refused=1`", before the
+-- bytes are looked at. Its other buffers are never too short: what is left of a call's refusals is 2, and 10.
+unfoldable pub replyTo : List ℕ → List ℕ
+replyTo text =
+    elim (ltb 500 (length text)) [
+      | true ↦ refusal 1
+      | false ↦
+          elim (textRefusal text) [
+            | some k ↦ refusal k
+            | none ↦
+                elim (ltb 65536 (length (printOf text))) [ true ↦ refusal 10 | false ↦ printOf text ]
+          ]
+    ]
+
+-- the bytes stand first in the buffer, and are counted
+pub record Written (line out : List ℕ) (n : ℕ) : Type 0 where
+  pub count : n ≡ length line
+  pub fits : n ≤ length out
+  pub first : take n out ≡ line

@@ -1,0 +1,198 @@
+// The tokenizer as a state that is lent and stepped, one token a step: the Rust's Tokenizer, with the text as an argument.
+use tokenizer::lex::Checked;
+use tokenizer::lex::Lexing;
+use tokenizer::lex::Queue;
+use tokenizer::lex::Spanned;
+use tokenizer::lex::check_text;
+use tokenizer::lex::lex_at;
+use tokens::token::Token;
+ghost use mathlib.Core.Path.{_≡_};
+ghost use mathlib.Core.List.{[]};
+ghost use Prim.Native.Nat.{_+_, _≤_, _<_};
+ghost use lib.Dec.{leb};
+ghost use lib.ListN.{drop};
+ghost use Rattle.tokenizer.specs.Lex.{spannedOf, noLexeme, queueOf};
+ghost use Rattle.stepper.specs.Step.{waiting, fits, fresh, answerOf, stepped};
+
+// The place of the next read, and the tokens that wait before it.
+pub struct Tokenizer {
+    pub place: usize,
+    pub queued: Queue,
+}
+
+pub enum Stepped {
+    Token(Spanned),
+    End,
+    Refused(u8),
+}
+
+// An answer, and the state after it.
+struct Advance {
+    answer: Stepped,
+    state: Tokenizer,
+}
+
+// What stands in a place where no token waits.
+fn no_token() -> Spanned
+    ensures { λ r. ⌜ r ≡ spannedOf noLexeme ⌝ }
+{
+    Spanned {
+        token: Token::Frac,
+        start: 0,
+        len: 0,
+    }
+}
+
+fn no_tokens() -> Queue
+    ensures { λ r. ⌜ r ≡ queueOf [] ⌝ }
+{
+    Queue {
+        count: 0,
+        first: no_token(),
+        second: no_token(),
+        third: no_token(),
+    }
+}
+
+// Whether a span lies in a text of `size` bytes. Its end is not computed, since the sum could wrap.
+fn is_inside(size: usize, t: Spanned) -> bool
+    ensures { λ r. ⌜ r ≡ leb (t .start + t .len) size ⌝ }
+{
+    let start = t.start;
+    if size < start {
+        return false;
+    }
+    t.len <= size - start
+}
+
+// Whether the place and the tokens that are said to wait, at most three, lie in a text of `size` bytes.
+fn state_fits(size: usize, s: Tokenizer) -> bool
+    ensures { λ r. ⌜ r ≡ fits size s ⌝ }
+{
+    if size < s.place {
+        return false;
+    }
+    let queued = s.queued;
+    let count = queued.count;
+    if 3 < count {
+        return false;
+    }
+    if count == 0 {
+        return true;
+    }
+    let first = queued.first;
+    if !is_inside(size, first) {
+        return false;
+    }
+    if count == 1 {
+        return true;
+    }
+    let second = queued.second;
+    if !is_inside(size, second) {
+        return false;
+    }
+    if count == 2 {
+        return true;
+    }
+    let third = queued.third;
+    is_inside(size, third)
+}
+
+// The tokens behind the first one.
+fn behind_first(q: Queue) -> Queue
+    requires { ⌜ (0 < q .count) × (q .count ≤ 3) ⌝ }
+    ensures { λ r. ⌜ r ≡ queueOf (drop 1 (waiting q)) ⌝ }
+{
+    let count = q.count;
+    let second = q.second;
+    let third = q.third;
+    if count == 1 {
+        return no_tokens();
+    }
+    if count == 2 {
+        return Queue {
+            count: 1,
+            first: second,
+            second: no_token(),
+            third: no_token(),
+        };
+    }
+    Queue {
+        count: 2,
+        first: second,
+        second: third,
+        third: no_token(),
+    }
+}
+
+// One step from a state, by value.
+fn advanced(text: &[u8], s: Tokenizer) -> Advance
+    ensures { λ r. ⌜ (answerOf (r .answer), r .state) ≡ stepped (now (text .entry)) s ⌝ }
+{
+    let place = s.place;
+    let queued = s.queued;
+    match check_text(text) {
+        Checked::Refused(k) => {
+            return Advance {
+                answer: Stepped::Refused(k),
+                state: s,
+            };
+        }
+        Checked::Accepted => {}
+    }
+    if !state_fits(text.len(), s) {
+        return Advance {
+            answer: Stepped::Refused(5),
+            state: s,
+        };
+    }
+    let count = queued.count;
+    if 0 < count {
+        let first = queued.first;
+        return Advance {
+            answer: Stepped::Token(first),
+            state: Tokenizer {
+                place,
+                queued: behind_first(queued),
+            },
+        };
+    }
+    match lex_at(text, place) {
+        Lexing::Tokens {
+            first,
+            queued: behind,
+            next,
+        } => Advance {
+            answer: Stepped::Token(first),
+            state: Tokenizer {
+                place: next,
+                queued: behind,
+            },
+        },
+        Lexing::Nothing => Advance {
+            answer: Stepped::End,
+            state: s,
+        },
+    }
+}
+
+impl Tokenizer {
+    // The state at the start of a text.
+    pub fn new() -> Tokenizer
+        ensures { λ r. ⌜ r ≡ fresh ⌝ }
+    {
+        Tokenizer {
+            place: 0,
+            queued: no_tokens(),
+        }
+    }
+
+    // One step over the text: the next token, or End, or a refusal. A refusal and End leave the state as it is.
+    pub fn next(&mut self, text: &[u8]) -> Stepped
+        ensures { λ r. ⌜ (answerOf r, now (self .exit)) ≡ stepped (now (text .entry)) (now (self .entry)) ⌝ }
+    {
+        let a = advanced(text, *self);
+        *self = a.state;
+        a.answer
+    }
+}

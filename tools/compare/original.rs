@@ -1,0 +1,65 @@
+//! The answers of the Rust original, and its tree in print.
+
+use crate::kinds;
+use asciimath_parser::tree;
+#[path = "../oracle/print.rs"]
+mod print;
+
+use asciimath_parser::{Token, Tokenizer, parse_tokens, takes};
+use kinds::{TOKENS, kind, start};
+use std::panic::catch_unwind;
+
+/// What the original gives for a text or a token list.
+pub struct Answer {
+    /// Start, length and kind of each token.
+    pub table: Vec<u32>,
+    /// The tokens other than Space.
+    pub others: usize,
+    pub takes: u64,
+    pub items: usize,
+    /// The printed tree of document 01.
+    pub printed: String,
+}
+
+/// The answer for an ASCII text.
+pub fn text(text: &str) -> Answer {
+    answer(text, &Tokenizer::new(text).collect::<Vec<_>>())
+}
+
+/// The answer for a token list whose kinds and spans are in order; none if two Space tokens follow
+/// one another, where the original panics.
+pub fn list(text: &str, table: &[u32]) -> Option<Answer> {
+    let tokens: Vec<_> = table
+        .chunks_exact(3)
+        .map(|word| {
+            let [start, len, kind] = [word[0], word[1], word[2]].map(|word| word as usize);
+            (&text[start..start + len], TOKENS[kind])
+        })
+        .collect();
+    let panic = match catch_unwind(|| answer(text, &tokens)) {
+        Ok(answer) => return Some(answer),
+        Err(panic) => panic,
+    };
+    match panic.downcast_ref::<&str>() {
+        Some(&"two space tokens in a row") => None,
+        _ => std::panic::resume_unwind(panic),
+    }
+}
+
+fn answer(text: &str, tokens: &[(&str, Token)]) -> Answer {
+    takes::since_last();
+    let root = parse_tokens(tokens.iter().copied());
+    let takes = takes::since_last();
+    let spaces = tokens.iter().filter(|(_, token)| *token == Token::Space);
+    Answer {
+        table: tokens
+            .iter()
+            .flat_map(|&(part, token)| [start(text, part), part.len(), kind(token)])
+            .map(|word| word as u32)
+            .collect(),
+        others: tokens.len() - spaces.count(),
+        takes,
+        items: root.len(),
+        printed: print::printed(text, tokens.len(), takes, &root),
+    }
+}

@@ -1,0 +1,61 @@
+#!/usr/bin/env bash
+# Make the texts and token lists, with the Rust's answers, that the program tree_trials replays.
+#
+#   make_tree_trials.sh SRC
+#
+# SRC holds the four files of the original (tools/oracle/build.sh). Writes crates/tree_trials/stdin and crates/tree_trials/stdout.
+# The last lines are refused by document 01, and have no answer of the Rust's: 4,097 bytes, and a byte of 128.
+set -euo pipefail
+[ $# -eq 1 ] || { echo "usage: make_tree_trials.sh SRC" >&2; exit 2; }
+root=$(cd "$(dirname "$0")/.." && pwd)
+out=$root/crates/tree_trials
+work=$(mktemp -d)
+trap 'rm -rf "$work"' EXIT
+"$root/tools/oracle/build.sh" "$1" "$work"
+
+corpus() { python3 "$root/tools/corpus.py" "$root/crates/tokenizer/specs/Spellings.antt" --seed 2 "$@"; }
+# each STEP: of the lines each STEP-th
+each() { awk -v step="$1" 'NR % step == 1 % step'; }
+hex() { python3 -c 'import sys; print(eval(sys.argv[1]).encode().hex())' "$1"; }
+
+# texts, by the section of document 01 that they try
+{
+    # tokenizer.rs: spellings, blanks, numbers, quotes, `text`, single bytes
+    corpus --families spellings --count 60 --max-length 40 | each 60
+    corpus --families blanks,numbers --count 40 --max-length 40 | each 8
+    corpus --families quotes --count 40 --max-length 40 | each 12
+    corpus --families commands --count 60 --max-length 40 | each 40
+    corpus --families bytes --count 60 --max-length 40 | each 120
+    # parse.rs: every text of one or two pieces, and of three some; then mixtures
+    corpus --families short --count 0 --pieces 2
+    corpus --families short --count 200 --pieces 3 | each 25
+    corpus --families soup --count 150 --max-length 40
+    # matrices, sets, column lines; scripts, functions, signs, fractions
+    corpus --families matrices --count 300 --max-length 60 | each 5
+    corpus --families expressions --count 300 --max-length 60 | each 4
+    # depth 256, unmatched closers, the memory of failed attempts
+    corpus --families deep --count 40 --max-length 140 | each 24
+    corpus --families deep --count 0 --max-length 600 | each 200
+    # the strings to try, and the deepest tree
+    for text in "''" "'1...'" "'\\\\'" "'text (a b)c'" "'text('" "'\"ab'" "'[[1,2],[3,4]]'" "'{(a,b),(c,d)}'" "'[(a,|,b),(c,|,d)]'" \
+        "'[(a)]'" "'[(a,b)]'" "'|x|'" "'x^'" "'(a'" "'('*127+'x'" "'('*128+'x'" "')'*256" "')'*257" "'a-b'" "'-b'" "'x^2/3'" \
+        "'[(a,'*127+'x'+')]'*127+')'*256" "'| '*127+'-|'"; do
+        hex "$text"
+    done
+} | awk '!seen[$0]++' > "$work/texts"
+corpus --families lists --count 2700 | awk '!seen[$0]++' > "$work/lists"
+
+{
+    cat "$work/texts"
+    # `HEX a,b,c d,e,f` as `HEX:a,b,c,d,e,f,`
+    sed -e '/ /!s/$/:/' -e '/:$/!s/$/,/' -e 's/ /:/' -e 's/ /,/g' "$work/lists"
+    printf '%08194d\n' 0 | sed 's/00/41/g'
+    printf '4180\n'
+} > "$out/stdin"
+{
+    "$work/oracle" tree < "$work/texts"
+    "$work/oracle" list < "$work/lists" | python3 "$root/tools/tree_words.py"
+    printf 'refused=1\n--\nrefused=2\n--\n'
+} > "$out/stdout"
+wc -l "$work/texts" "$work/lists"
+wc -c "$out/stdin" "$out/stdout"
