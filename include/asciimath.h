@@ -1,6 +1,6 @@
 /* The proved AsciiMath reader, for C.
  *
- * `rt staticlib asciimath` writes target/staticlib/libasciimath.a; it needs nothing but memset.
+ * `rt staticlib asciimath` writes target/staticlib/libasciimath.a; it needs nothing but memset and memcpy.
  *
  *     cc -I include program.c target/staticlib/libasciimath.a
  *

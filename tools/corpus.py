@@ -322,11 +322,12 @@ class Maker:
     def nested_fixed(self):
         """As deep as can be, of one or two ways in turns."""
         for one, other in itertools.product(NESTED, ["", *NESTED]):
-            yield from ((one + other) * 130 + end for end in ("x", "a)]" * 130))
+            for end in ("x", "a)]" * 130, "x" + ")" * 260, "b)]" * 127 + ")" * 260):
+                yield (one + other) * 127 + end
 
     def nested(self):
         unit = "".join(self.rng.choices(NESTED, k=self.rng.randint(1, 4)))
-        end = self.pick("", "x", self.some(")],|", 300), self.pick(")]", "b)]", "),") * self.rng.randrange(200))
+        end = self.pick("", "x", self.some(")],|", 300), self.pick(")]", "b)]", "),", ")") * self.rng.randrange(300))
         return unit * self.rng.randint(20, 200) + end
 
 

@@ -9,15 +9,7 @@ out=$3
 [ -d "$out/counting" ] || "$here/../oracle/build.sh" "$1" "$out"
 cp "$2" "$out/libasciimath.a"
 
-# as long as the archive may be without asciimath_print
-features=(--check-cfg 'cfg(feature, values("print"))')
-if nm "$2" | grep -q ' T asciimath_print$'; then
-    features+=(--cfg 'feature="print"')
-else
-    echo "the archive has no asciimath_print: it is not compared" >&2
-fi
-
-compile() { rustc --edition 2024 -C opt-level=3 "${features[@]}" -L native="$out" "$@"; }
+compile() { rustc --edition 2024 -C opt-level=3 -L native="$out" "$@"; }
 compile --crate-type rlib --crate-name asciimath -l static=asciimath \
     "$here/../../bindings/rust/src/lib.rs" --out-dir "$out"
 compile --crate-name compare -L "$out" --extern asciimath="$out/libasciimath.rlib" \

@@ -179,7 +179,6 @@ impl<'a> Check<'a> {
         self.count().map_err(|say| say + " (count)")?;
         self.tokens().map_err(|say| say + " (tokens)")?;
         self.parse().map_err(|say| say + " (parse)")?;
-        #[cfg(feature = "print")]
         self.print().map_err(|say| say + " (print)")?;
         Ok(())
     }
@@ -285,7 +284,6 @@ impl<'a> Check<'a> {
         room.has_tree(self.text(), answer)
     }
 
-    #[cfg(feature = "print")]
     fn print(&mut self) -> Checked {
         let mut room = self.room(self.needed());
         let code = calls::print(

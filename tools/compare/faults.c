@@ -37,6 +37,9 @@ uint32_t asciimath_parse(const uint8_t *text, size_t text_len, uint32_t *table, 
     case 8: // another refusal
         if (code == 8) return 9;
         break;
+    case 9: // a word that its node has no use for
+        if (accepted && tree[0] == 0 && tree[1] == 13) tree[5] = 1;
+        break;
     }
     return code;
 }

@@ -58,7 +58,7 @@ impl Run {
                 return None;
             }
         };
-        for situation in vary::situations(&mut self.random) {
+        for situation in vary::situations(case, answer.as_ref(), &mut self.random) {
             let checked = Check {
                 case,
                 answer: answer.as_ref(),

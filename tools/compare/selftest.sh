@@ -9,7 +9,7 @@ src=$(cd "$1" && pwd)
 out=$(mktemp -d)
 trap 'rm -rf "$out"' EXIT
 python3 "$here/../corpus.py" "$src/tokenizer.rs" --families answers --count 100 > "$out/texts"
-for fault in 1 2 3 4 5 6 7 8; do
+for fault in {1..9}; do
     objcopy --redefine-sym asciimath_parse=right_parse "$2" "$out/faulty.a"
     gcc -O1 -DFAULT=$fault -c "$here/faults.c" -o "$out/faults.o"
     ar rs "$out/faulty.a" "$out/faults.o"

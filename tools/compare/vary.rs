@@ -16,8 +16,9 @@ pub fn plain(seed: u64) -> Situation {
     }
 }
 
-/// The situations that a case is read in: just enough, one buffer one short, anything.
-pub fn situations(random: &mut Random) -> [Situation; 3] {
+/// The situations that a case is read in: just enough, one buffer one short, and either enough for
+/// any text of that length or anything.
+pub fn situations(case: &Case, answer: Option<&Answer>, random: &mut Random) -> [Situation; 3] {
     let mut one_short = plain(random.next());
     match random.below(4) {
         0 => one_short.table = -1,
@@ -38,7 +39,22 @@ pub fn situations(random: &mut Random) -> [Situation; 3] {
         answer: random.below(6),
         seed: random.next(),
     };
-    [plain(random.next()), one_short, any]
+    let other = match answer {
+        Some(answer) if random.one_in(2) => any_text(case.text.len(), answer, random.next()),
+        _ => any,
+    };
+    [plain(random.next()), one_short, other]
+}
+
+/// Buffers that are enough for any text of that length.
+fn any_text(length: usize, answer: &Answer, seed: u64) -> Situation {
+    let more = |words: usize, tokens: usize| words as isize * (length as isize - tokens as isize);
+    Situation {
+        table: more(3, answer.table.len() / 3),
+        work: more(4, answer.others),
+        tree: more(32, answer.others),
+        ..plain(seed)
+    }
 }
 
 /// Cases made from one: its tokens as a list, and damage that is mostly refused.

@@ -17,9 +17,6 @@
 #include <sys/mman.h>
 #include <unistd.h>
 
-/* an archive without it is measured all the same */
-#pragma weak asciimath_print
-
 enum { COUNT, TOKENS, PARSE, PARSE_TOKENS, PRINT, CALLS };
 static const char *const NAMES[CALLS] = {"count", "tokens", "parse", "parse_tokens", "print"};
 enum { PAGE = 4096, MOST = ASCIIMATH_MAX + 200 };
@@ -81,8 +78,6 @@ static uint32_t call(int which, const struct room *r) {
     }
 }
 
-static int has(int which) { return which != PRINT || asciimath_print != NULL; }
-
 /* Lengths that are enough, or for one buffer a little less. */
 static void lengths(struct room *r, int which, int one_short) {
     const size_t n[BUFFERS] = {text_len, table_len, ASCIIMATH_WORK_WORDS(others),
@@ -114,7 +109,7 @@ static void guard_setup(void) {
 
 static void guard_calls(int one_short) {
     for (int which = 0; which < CALLS; which++) {
-        for (int at_end = 0; has(which) && at_end < 2; at_end++) {
+        for (int at_end = 0; at_end < 2; at_end++) {
             struct room r;
             lengths(&r, which, one_short);
             for (int b = 0; b < BUFFERS; b++)
@@ -134,7 +129,6 @@ static void guard_calls(int one_short) {
 static void plain_calls(int one_short) {
     for (int which = 0; which < CALLS; which++) {
         struct room r;
-        if (!has(which)) continue;
         lengths(&r, which, one_short);
         for (int b = 0; b < BUFFERS; b++)
             if (!(r.at[b] = malloc(r.length[b] ? r.length[b] * SIZES[b] : 1))) fail("no memory");
@@ -181,7 +175,6 @@ static void stack_calls(void) {
     struct task task = {CALLS, {{0}, {0}}};
     size_t nothing = stack_used(&task);
     for (int which = 0; which < CALLS; which++) {
-        if (!has(which)) continue;
         task.which = which;
         lengths(&task.room, which, 0);
         for (int b = 0; b < BUFFERS; b++) {
@@ -275,6 +268,6 @@ int main(int argc, char **argv) {
     for (int k = 1; k <= 10; k++) printf(" %d: %" PRIu64, k, made[k]);
     printf("\n");
     for (int which = 0; measure && which < CALLS; which++)
-        if (has(which)) printf("stack of %s: %zu bytes (%s)\n", NAMES[which], need[which], needs_line[which]);
+        printf("stack of %s: %zu bytes (%s)\n", NAMES[which], need[which], needs_line[which]);
     return 0;
 }

@@ -56,6 +56,7 @@ run() {
 }
 run "no bytes" < /dev/null
 printf 'x^2/3' | run "x^2/3"
+{ printf 'x^'; sleep 0.2; printf '2/3'; } | run "x^2/3 in two pieces"
 printf '%0500d' 0 | run "500 bytes"
 printf '%0501d' 0 | run "501 bytes"
 head -c 400 "$program" | run "binary"

@@ -45,7 +45,6 @@ mod extern_c {
             answer: *mut u64,
             answer_len: usize,
         ) -> u32;
-        #[cfg(feature = "print")]
         pub fn asciimath_print(
             text: *const u8,
             text_len: usize,
@@ -142,7 +141,6 @@ pub fn parse_tokens(
 }
 
 /// Reads a text and prints its tree. Values: length of the print, takes, blank.
-#[cfg(feature = "print")]
 #[inline]
 pub fn print(
     text: &[u8],

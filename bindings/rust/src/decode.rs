@@ -22,6 +22,8 @@ enum Ahead {
     Items(u32),
     Nodes(u32, Sort),
     Lines(u32),
+    /// The end of a cell, which is to be here.
+    End(usize),
 }
 
 /// What was found in the words, by the place of its first word.
@@ -61,7 +63,10 @@ fn find(words: &[u32], items: u32) -> Option<(Vec<Found>, usize)> {
             Ahead::Items(count) => {
                 ahead.push(Ahead::Items(count - 1));
                 match words.get(at..at + 7)? {
-                    [0, 6, ..] => {
+                    [0, 6, _, _, rest @ ..] => {
+                        if rest != [0; 3] {
+                            return None;
+                        }
                         found.push(Found::Space(at + 1));
                         at += 7;
                     }
@@ -81,16 +86,25 @@ fn find(words: &[u32], items: u32) -> Option<(Vec<Found>, usize)> {
             Ahead::Nodes(count, sort) => {
                 ahead.push(Ahead::Nodes(count - 1, sort));
                 let node = words.get(at..at + 6)?;
-                if sort_of(node[0])? != sort {
+                if sort_of(node[0])? != sort || !unused_are_zero(node) {
                     return None;
                 }
                 found.push(Found::Node(at));
                 at += 6;
-                if node[0] == 16 {
-                    ahead.push(Ahead::Lines(*words.get(at + 1)?));
-                    at += 2;
+                match node[0] {
+                    16 => {
+                        ahead.push(Ahead::Lines(*words.get(at + 1)?));
+                        at += 2;
+                    }
+                    17 => ahead.push(Ahead::End(at.checked_add(node[4] as usize)?)),
+                    _ => {}
                 }
                 push_below(&mut ahead, node[0], node[3]);
+            }
+            Ahead::End(end) => {
+                if at != end {
+                    return None;
+                }
             }
             Ahead::Lines(count) => {
                 let lines = words.get(at..)?.get(..count as usize)?;
@@ -100,6 +114,20 @@ fn find(words: &[u32], items: u32) -> Option<(Vec<Found>, usize)> {
         }
     }
     Some((found, at))
+}
+
+/// Whether the words that a node of this kind has no use for are zero.
+fn unused_are_zero(node: &[u32]) -> bool {
+    let kind = node[0];
+    let used = match kind {
+        0 => 0..0,
+        1..=5 | 8..=12 => 1..3,
+        7 | 14 => 1..4,
+        13 => 3..4,
+        15 | 16 => 1..6,
+        _ => 3..5,
+    };
+    (1..6).all(|at| used.contains(&at) || node[at] == 0)
 }
 
 fn sort_of(kind: u32) -> Option<Sort> {

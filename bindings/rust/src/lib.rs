@@ -68,9 +68,7 @@ pub fn read(text: &str) -> Result<Reading, Refusal> {
     let bytes = text.as_bytes();
     let mut room = Room::new(bytes);
     let mut answer = [0; 4];
-    let Room {
-        table, work, tree, ..
-    } = &mut room;
+    let Room { table, work, tree } = &mut room;
     Refusal::of_code(calls::parse(bytes, table, work, tree, &mut answer))?;
     let [tokens, takes, items, blank] = answer;
     Ok(Reading {
@@ -120,15 +118,12 @@ pub fn read_tokens<'a>(
 ///
 /// # Errors
 /// As [`parse`].
-#[cfg(feature = "print")]
 pub fn print(text: &str) -> Result<String, Refusal> {
     let bytes = text.as_bytes();
     let mut room = Room::new(bytes);
     let mut out = vec![0; print_bytes(bytes.len().min(4096))];
     let mut answer = [0; 3];
-    let Room {
-        table, work, tree, ..
-    } = &mut room;
+    let Room { table, work, tree } = &mut room;
     let code = calls::print(bytes, table, work, tree, &mut out, &mut answer);
     Refusal::of_code(code)?;
     out.truncate(answer[0] as usize);
@@ -165,7 +160,6 @@ const fn tree_words(others: usize) -> usize {
 }
 
 /// Bytes that are enough for any print: a line has at most 12 for each word of its node.
-#[cfg(feature = "print")]
 const fn print_bytes(others: usize) -> usize {
     12 * tree_words(others) + 64
 }

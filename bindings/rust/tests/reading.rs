@@ -216,7 +216,6 @@ fn numbers_of_tokens() {
 }
 
 #[test]
-#[cfg(feature = "print")]
 fn printed() {
     let lines = "text=5 tokens=5 takes=7 items=1\n\
         depth=0 node=frac\n\
