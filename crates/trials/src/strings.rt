@@ -202,7 +202,7 @@ pub(crate) fn opened_127() -> bool {
     let a = piece(&out, 0, b"text=128 tokens=128 takes=256 items=1\n");
     let b = opened(&out, a, 127);
     let c = ident(&out, b, 127);
-    c == len && tokens_are(&table, 127, 20)
+    c == len && tokens_are(&table, 127, 20) && is_token(&table, 127, 6)
 }
 
 pub(crate) fn opened_128() -> bool {
@@ -216,7 +216,7 @@ pub(crate) fn opened_128() -> bool {
     let c = open(&out, b, 126, 2);
     let d = open(&out, c, 127, 0);
     let e = ident(&out, d, 128);
-    e == len && tokens_are(&table, 128, 20)
+    e == len && tokens_are(&table, 128, 20) && is_token(&table, 128, 6)
 }
 
 pub(crate) fn closed_256() -> bool {
