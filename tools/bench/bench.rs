@@ -291,7 +291,7 @@ fn measure(call: &Call, group: &Group, room: &mut Room) {
     let others: usize = group.inputs.iter().map(|input| input.others).sum();
     let [low, median, high] = [0.05, 0.5, 0.95].map(|part| at(&mut ratios, part));
     println!(
-        "{}\t{}\t{bytes}\t{others}\t{:.2}\t{:.2}\t{median:.2}\t{low:.2}\t{high:.2}",
+        "{}\t{}\t{bytes}\t{others}\t{:.2}\t{:.2}\t{median:.3}\t{low:.3}\t{high:.3}",
         call.name,
         group.name,
         original / bytes as f64,

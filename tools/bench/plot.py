@@ -14,8 +14,8 @@ from xml.sax.saxutils import escape
 
 COLOURS = ["#1b6ca8", "#c8553d", "#e0a030", "#4f8a4f", "#7a5aa6"]
 LEFT, WIDTH, TOP, STEP, GAP = 200, 560, 96, 9, 12
-LOW, HIGH = 0.05, 20
-TICKS = [0.05, 0.1, 0.2, 0.5, 1, 2, 5, 10, 20]
+LOW, HIGH = 0.01, 20
+TICKS = [0.01, 0.02, 0.05, 0.1, 0.2, 0.5, 1, 2, 5, 10, 20]
 
 
 def x(ratio):

@@ -1,10 +1,12 @@
 /* Calls the exported library on each line of standard input, a text in hex or a text and a token
- * list (tools/corpus.py), and on random bytes and words.
+ * list (tools/corpus.py), and then on N cases of random bytes and words.
  *
- *     robust guard   buffers end, then begin, at a page that must not be touched; what a call only
- *                    reads is write-protected
- *     robust plain   buffers of just the size from malloc, with nothing in them (for valgrind)
- *     robust stack   how much stack each call needs, measured on a painted one
+ *     robust MODE [N]
+ *
+ *     guard   buffers begin, then end, at a page that must not be touched; what a call only reads is
+ *             write-protected
+ *     plain   buffers of just the size from malloc, with nothing in them (for valgrind)
+ *     stack   how much stack each call needs, measured on a painted one
  */
 #define _GNU_SOURCE
 #include "../../include/asciimath.h"

@@ -46,6 +46,7 @@ pub fn decode<'a, T: From<&'a str>>(
 ) -> Option<(Expression<T>, usize)> {
     let (found, end) = find(words, u32::try_from(items).ok()?)?;
     let mut made = Made::default();
+    made.items.reserve(items);
     for one in found.iter().rev() {
         made.make(text, words, one)?;
     }

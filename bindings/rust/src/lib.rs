@@ -66,9 +66,9 @@ pub fn parse_tokens<'a>(
 /// As [`parse`].
 pub fn read(text: &str) -> Result<Reading, Refusal> {
     let bytes = text.as_bytes();
-    let mut room = Room::new(bytes);
+    let mut room = Room::new(bytes)?;
     let mut answer = [0; 4];
-    let Room { table, work, tree } = &mut room;
+    let (table, work, tree) = (&mut room.table, &mut room.work, &mut room.tree);
     Refusal::of_code(calls::parse(bytes, table, work, tree, &mut answer))?;
     let [tokens, takes, items, blank] = answer;
     Ok(Reading {
@@ -120,10 +120,10 @@ pub fn read_tokens<'a>(
 /// As [`parse`].
 pub fn print(text: &str) -> Result<String, Refusal> {
     let bytes = text.as_bytes();
-    let mut room = Room::new(bytes);
-    let mut out = vec![0; print_bytes(bytes.len().min(4096))];
+    let mut room = Room::new(bytes)?;
+    let mut out = vec![0; print_bytes(room.others)];
     let mut answer = [0; 3];
-    let Room { table, work, tree } = &mut room;
+    let (table, work, tree) = (&mut room.table, &mut room.work, &mut room.tree);
     let code = calls::print(bytes, table, work, tree, &mut out, &mut answer);
     Refusal::of_code(code)?;
     out.truncate(answer[0] as usize);
@@ -132,20 +132,25 @@ pub fn print(text: &str) -> Result<String, Refusal> {
 
 /// What a reading writes to.
 struct Room {
+    /// The tokens other than Space.
+    others: usize,
     table: Vec<u32>,
     work: Vec<u32>,
     tree: Vec<u32>,
 }
 
 impl Room {
-    /// As large as any text of that length needs: tokens never outnumber bytes.
-    fn new(text: &[u8]) -> Self {
-        let most = text.len().min(4096);
-        Room {
-            table: vec![0; 3 * most],
-            work: vec![0; work_words(most)],
-            tree: vec![0; tree_words(most)],
-        }
+    /// As large as this text needs.
+    fn new(text: &[u8]) -> Result<Self, Refusal> {
+        let mut answer = [0; 2];
+        Refusal::of_code(calls::count(text, &mut answer))?;
+        let [tokens, others] = answer.map(|count| count as usize);
+        Ok(Room {
+            others,
+            table: vec![0; 3 * tokens],
+            work: vec![0; work_words(others)],
+            tree: vec![0; tree_words(others)],
+        })
     }
 }
 
