@@ -23,8 +23,8 @@
  * ## Threads and stack
  *
  * The library has no state: any number of threads may call it, each with its own buffers. Depth of
- * recursion is limited whatever the text; a call stays within 512 KB of stack (tools/robust
- * measures it: 370 KB at most were seen).
+ * recursion is limited whatever the text. 370 KB of stack at most were measured (tools/robust); no
+ * bound on it is proved.
  *
  * ## Example
  *
