@@ -6,7 +6,7 @@ use native.Mathlib.Omega.{arith}
 use native.Mathlib.Numerals.{add-one}
 use lib.ListN.{set}
 use lib.Seq.{getD-set-other}
-use Rattle.entries.specs.Record.{afterClose}
+use Rattle.records.specs.Record.{afterClose}
 use Rattle.entries.specs.Open.{Chain, clearAll}
 use Rattle.entries.proofs.Matching.{chain-top, chain-none, chain-kept, Popped, popped}
 

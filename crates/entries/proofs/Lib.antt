@@ -3,5 +3,4 @@ mod Clearing
 mod Words
 mod Filling
 mod Answers
-mod Spaces
 pub mod Recorded

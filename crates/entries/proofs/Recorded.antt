@@ -7,7 +7,7 @@ use mathlib.Core.Option.{Option, none, some}
 use native.Mathlib.Omega.{arith}
 use native.Mathlib.Nat.{add-zero, zero-add}
 use native.Mathlib.Numerals.{add-one}
-use lib.ListN.{length, getD, drop, getElem?, length-map, List·getD-append}
+use lib.ListN.{length, getD, drop, getElem?, length-append, length-map, List·getD-append}
 use Rattle.tokens.specs.declared.token.Token.the-variants as token
 use Rattle.tokens.specs.Kinds.{numberOf}
 use Rattle.tokens.specs.Lexeme.{Span, Lexeme}
@@ -19,9 +19,9 @@ use Rattle.tree.specs.Tree.{nowhere}
 use Rattle.tree.specs.Words.{pick}
 use Rattle.reading.specs.Entries.{Entry, is, entries, closeAfter, hasSep}
 use Rattle.reading.specs.Reading.{closeOf}
-use Rattle.entries.specs.Record.{placeOf, afterClose, sepWord, marksOf, kindOf, startOf, lenOf, spaceWord, spaceStart, spaceLen}
+use Rattle.records.specs.Record.{placeOf, afterClose, sepWord, marksOf, isPlaced, kindOf, startOf, lenOf, spaceWord, spaceStart, spaceLen}
 use Rattle.entries.specs.Prepared.{places, closeFrom, ofBracket, records, workWords}
-use Rattle.entries.proofs.Spaces.{space-first, space-there, space-absent}
+use Rattle.records.proofs.Places.{is-placed, space-first, space-there, space-absent}
 use Rattle.entries.proofs.Filling.{places-space, entries-space, places-other, entries-other, length-work}
 
 -- the words of the record i
@@ -149,7 +149,7 @@ module _ (count : ℕ) (table : List ℕ) (kinds : (j : ℕ) → j < count → g
       let q = placed count 0 (omega arith) in
       rw (tokens-all count table) (rw (w 0, w 1) at q)
 
-  module _ (K rest : List ℕ) (work : K ≡ workWords (tokenList count table) ++ rest) (i : ℕ) (h : i < countOthers (tokenList count table)) where
+  module _ (words : 3 * count ≤ length table) (K rest : List ℕ) (work : K ≡ workWords (tokenList count table) ++ rest) (i : ℕ) (h : i < countOthers (tokenList count table)) where
     word : (k : ℕ) → k < 4 → getD K (4 * i + k) 0 ≡ getD (workWords (tokenList count table)) (4 * i + k) 0
     word k l = rw work (List·getD-append (workWords (tokenList count table)) rest 0 (4 * i + k) (omega (arith, length-work (tokenList count table))))
 
@@ -185,15 +185,16 @@ module _ (count : ℕ) (table : List ℕ) (kinds : (j : ℕ) → j < count → g
     unfolding kindOf startOf lenOf spaceStart spaceLen marksOf ofBracket
     recorded =
         let l : placeOf K i < count = rw place-is (all-placed .inside i listed) in
+        let p : isPlaced table K i ≡ true = is-placed table K i (omega (arith, ap length work, length-append (workWords (tokenList count table)) rest, length-work (tokenList count table))) (omega arith) in
         record {
           entry = entryAt table (placeOf K i);
           there = there-is;
           inside = l;
-          kind = sym (number-of-token (getD table (3 * placeOf K i + 2) 0) (omega (arith, kinds (placeOf K i) l)));
-          start = refl;
-          len = refl;
-          space = refl;
-          spaceSize = refl;
+          kind = rw p (sym (number-of-token (getD table (3 * placeOf K i + 2) 0) (omega (arith, kinds (placeOf K i) l))));
+          start = rw p;
+          len = rw p;
+          space = rw p;
+          spaceSize = rw p;
           close = λ text o. close-is ∙ rw o (close-of text (entries nowhere (tokenList count table)) i);
           sep = λ o. sep-is ∙ rw o;
           other = λ o. (close-is ∙ rw o, sep-is ∙ rw o);

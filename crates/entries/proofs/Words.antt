@@ -7,7 +7,7 @@ use lib.ListN.{length, getD, set, length-set}
 use lib.Seq.{sets, getD-set-same, getD-set-other}
 use borrow.Author.Tests.{eq-eqb, ne-eqb}
 use Rattle.tokens.proofs.Cases.{by-eq}
-use Rattle.entries.specs.Record.{placeOf, afterClose, sepWord, marksOf}
+use Rattle.records.specs.Record.{placeOf, afterClose, sepWord, marksOf}
 use Rattle.entries.specs.Open.{Chain, clearAll}
 use Rattle.entries.proofs.Matching.{comes}
 

@@ -5,7 +5,7 @@ use mathlib.Core.List.{List, [], _∷_, _++_}
 use lib.ListN.{length, drop, set}
 use Rattle.tokens.specs.Lexeme.{Lexeme}
 use Rattle.tokens.specs.Table.{countOthers}
-use Rattle.entries.specs.Record.{afterClose}
+use Rattle.records.specs.Record.{afterClose}
 use Rattle.entries.specs.Prepared.{workWords}
 
 -- the open brackets below number b, last first, by the close words c; and the number behind the last, or 0

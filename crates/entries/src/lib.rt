@@ -1,13 +1,11 @@
-// Parser::new of parse.rs over lent words: a record of four words for each token other than Space, and its accessors.
-pub mod record;
-
+// Parser::new of parse.rs over lent words: a record of four words for each token other than Space.
 ghost use mathlib.Core.Path.{_≡_};
 ghost use mathlib.Core.List.{List, [], _∷_};
 ghost use Prim.Native.Nat.{ℕ, _+_, _*_, _≤_, _<_};
 ghost use lib.ListN.{length};
 ghost use lib.Seq.{sets};
 ghost use Rattle.tokens.specs.Table.{tokenList, countOthers};
-ghost use Rattle.entries.specs.Record.{afterClose};
+ghost use Rattle.records.specs.Record.{afterClose};
 ghost use Rattle.entries.specs.Prepared.{prepared};
 ghost use Rattle.entries.specs.Open.{Chain, Opened, clearAll, Link, Filled};
 

@@ -1,23 +1,29 @@
 -- An item that is one leaf: the readers above it find it, and take nothing else.
 use Prim.Native.Nat.{ℕ, _+_, _*_, _-_, _≤_, _<_}
-use mathlib.Core.Path.{_≡_, refl, subst, _∙_}
+use mathlib.Core.Path.{_≡_, refl, sym, ap, subst, _∙_}
 use mathlib.Core.List.{List, [], _∷_}
-use mathlib.Core.Bool.{Bool, true, false, not, _&&_, _||_}
+use mathlib.Core.Bool.{Bool, true, false, not, _&&_}
 use native.Mathlib.Omega.{arith}
 use lib.ListN.{length}
-use lib.Seq.{sets, length-sets}
-use lib.Dec.{eqb, ltb}
-use borrow.Author.Tests.{ltb-true, ltb-false, lt-ltb, le-ltb, ne-eqb}
+use lib.Seq.{sets}
+use lib.Dec.{ltb}
+use borrow.Author.Tests.{ltb-true, ltb-false, ne-eqb}
 use Rattle.tree.specs.Words.{pick}
 use Rattle.parse.specs.declared.cursor.Cursor.{Cursor}
 use Rattle.parse.specs.declared.cursor.Part.{Part}
-use Rattle.parse.specs.declared.cursor.Step.the-variants.{Found}
-use Rattle.parse.specs.Entry.{kindOf, testAt, isKind, headsKind, marksKind, beginsKind, leafOnly, joinsKind, plainAt, leafWords, leafEnds}
-use Rattle.parse.specs.Meet.{Known, Intermediate, Simple, ScriptFunc, Scripts, onward, seen, inner, atDepth}
-use Rattle.parse.proofs.Kit.{test-below, test-kind, test-in, test-out}
+use Rattle.parse.specs.declared.cursor.Step.the-variants.{Found, Nothing}
+use Rattle.records.specs.Record.{kindOf}
+use Rattle.records.specs.Tests.{testAt, isKind, headsKind, marksKind, beginsKind, leafOnly, joinsKind, plainAt, overAt}
+use Rattle.nodes.specs.Buffer.{stored}
+use Rattle.nodes.specs.Nodes.{leafWords, leafEnds, plainWords}
+use Rattle.nodes.proofs.Stores.{stored-in}
+use Rattle.parse.specs.Meet.{Known, Intermediate, ScriptFunc, onward, seen, inner}
+use Rattle.records.proofs.Places.{test-below}
+use Rattle.parse.proofs.Kit.{test-kind, test-in, test-out}
+use Rattle.parse.proofs.Buffer.{sets-before}
 use Rattle.parse.proofs.Arms.{scripts-none}
-use Rattle.parse.proofs.Scripting.{script-scripted, item-plain}
-use Rattle.parse.proofs.Begins.{simple-begun, begun-leaf}
+use Rattle.parse.proofs.Scripting.{script-scripted, script-nothing, item-plain, item-nothing}
+use Rattle.parse.proofs.Begins.{simple-begun, simple-nothing, begun-leaf}
 
 -- what the tests say of a kind
 both : (a b : Bool) → pick a b false ≡ true → (a ≡ true) × (b ≡ true)
@@ -111,8 +117,48 @@ module _ {X t : List ℕ} {n : ℕ} {K : List ℕ} (stop sg : Bool) {c : Cursor}
       let place : e + 7 ≡ e + 1 + 6 = omega arith in
       rw hg (subst (λ (E : ℕ). Intermediate X t n K K stop sg c e x y (Found (seen n (seen n (onward (seen n c)))) E (leafEnds k))) long (item-plain stop sg {c = c} {e = e} {x = x} (omega arith) part (after .1) (rw place at hy)))
 
+-- the words of the item, one after another
+plain-sets : (x : List ℕ) (e : ℕ) (w : List ℕ) → sets (sets (sets x (e + 7) w) (e + 1) (13 ∷ 0 ∷ 0 ∷ 0 ∷ 0 ∷ 0 ∷ [])) e (0 ∷ []) ≡ sets x e (0 ∷ 13 ∷ 0 ∷ 0 ∷ 0 ∷ 0 ∷ 0 ∷ w)
+plain-sets x e w =
+    let place : e + 7 ≡ e + 1 + 6 = omega arith in
+    rw place (ap (λ (v : List ℕ). sets v e (0 ∷ [])) (sets-before x (e + 1) (13 ∷ 0 ∷ 0 ∷ 0 ∷ 0 ∷ 0 ∷ []) w) ∙ sets-before x e (0 ∷ []) (13 ∷ 0 ∷ 0 ∷ 0 ∷ 0 ∷ 0 ∷ w))
+
+pub plain-tree : (t K x : List ℕ) (e i : ℕ) {k : ℕ} {y : List ℕ} → k ≡ kindOf t K i → e + 13 ≤ length x → y ≡ stored x e (plainWords t K i k)
+    → y ≡ sets (sets (sets x (e + 7) (leafWords t K i (kindOf t K i))) (e + 1) (13 ∷ 0 ∷ 0 ∷ 0 ∷ 0 ∷ 0 ∷ [])) e (0 ∷ [])
+plain-tree t K x e i {k} hk h hy = rw (← hk) (hy ∙ stored-in x e (plainWords t K i k) h ∙ sym (plain-sets x e (leafWords t K i k)))
+
 -- what the code answers
-pub plain-answer : (n : ℕ) (c c1 c2 c3 c4 : Cursor) (e k j : ℕ) (g : Part) → c1 ≡ seen n c → c2 ≡ onward c1 → c3 ≡ seen n c2 → c4 ≡ seen n c3
-    → g ≡ record { cur = c; end = e + 7 + 6; ends = leafEnds k } → k ≡ j
-    → _≡_ {A = Part} (record { cur = c4; end = g .end; ends = g .ends }) (record { cur = seen n (seen n (onward (seen n c))); end = e + 13; ends = leafEnds j })
-plain-answer n c c1 c2 c3 c4 e k j g h1 h2 h3 h4 hg hk = let long : e + 7 + 6 ≡ e + 13 = omega arith in rw (h4, h3, h2, h1, hg, hk, long)
+pub plain-answer : (n : ℕ) (c c1 c2 c3 c4 : Cursor) (e k j : ℕ) (f : Bool) → c1 ≡ seen n c → c2 ≡ onward c1 → c3 ≡ seen n c2 → c4 ≡ seen n c3
+    → f ≡ leafEnds k → k ≡ j
+    → _≡_ {A = Part} (record { cur = c4; end = e + 13; ends = f }) (record { cur = seen n (seen n (onward (seen n c))); end = e + 13; ends = leafEnds j })
+plain-answer n c c1 c2 c3 c4 e k j f h1 h2 h3 h4 hf hk = rw (h4, h3, h2, h1, hf, hk)
+
+-- No item begins: the readers above find none, and look twice.
+no-start : (stop : Bool) (k m : ℕ) → beginsKind stop m ≡ true → beginsKind stop k ≡ false → k ≡ m → ⊥
+no-start stop k m h q z = let y : beginsKind stop k ≡ true = rw z h in let o : _≡_ {A = ℕ} 0 1 = cc in omega arith
+
+starts : (stop : Bool) → (beginsKind stop 16 ≡ true) × (beginsKind stop 17 ≡ true)
+starts true = (refl, refl)
+starts false = (refl, refl)
+
+module _ (t K : List ℕ) (n : ℕ) (stop : Bool) (i : ℕ) (h : testAt t K n (beginsKind stop) i ≡ false) where
+  no-head-either : (sg : Bool) → testAt t K n (headsKind sg) i ≡ false
+  no-head-either sg = go (ltb i n) refl
+    where
+      go : (b : Bool) → ltb i n ≡ b → testAt t K n (headsKind sg) i ≡ false
+      go true e =
+          let l : i < n = ltb-true i n e in
+          let k = test-kind t K n (beginsKind stop) i false l h in
+          test-in t K n (headsKind sg) i l
+          ∙ rw (ne-eqb (kindOf t K i) 17 (no-start stop (kindOf t K i) 17 (starts stop .1) k), ne-eqb (kindOf t K i) 16 (no-start stop (kindOf t K i) 16 (starts stop .0) k), and-false sg)
+      go false e = test-out t K n (headsKind sg) i (ltb-false i n e)
+
+module _ {X t : List ℕ} {n : ℕ} {K : List ℕ} (stop sg : Bool) {c : Cursor} {e : ℕ} {x : List ℕ} where
+  pub over-nothing : overAt t K n (c .depth) stop (c .pos) ≡ true → e + 7 + 32 * (n - c .pos) ≤ length x → c .pos ≤ n → Known X t n K → Intermediate X t n K K stop sg c e x x (Nothing (seen n (seen n c)))
+  unfolding overAt
+  over-nothing h room here kn =
+      let both-hold = both _ _ h in
+      let deep : c .depth < 255 = ltb-true (c .depth) 255 (both-hold .0) in
+      let none-begins : testAt t K n (beginsKind stop) (c .pos) ≡ false = never _ (both-hold .1) in
+      let simple = simple-nothing {X = X} {t = t} {n = n} {K = K} stop sg {c = inner (seen n c)} {e = e + 1 + 6} {x = x} (omega arith) none-begins here kn in
+      item-nothing stop sg {c = c} {e = e} {x = x} room (script-nothing stop sg {c = c} {e = e + 1} {x = x} (omega arith) (no-head-either t K n stop (c .pos) none-begins sg) (omega arith) simple)

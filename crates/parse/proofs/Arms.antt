@@ -15,10 +15,12 @@ use Rattle.parse.specs.declared.cursor.Cursor.{Cursor}
 use Rattle.parse.specs.declared.cursor.Step.the-variants.{Found, Nothing}
 use Rattle.parse.specs.declared.cursor.Part.{Part}
 use Rattle.parse.specs.Buffer.{Wrote}
-use Rattle.parse.specs.Entry.{testAt, isKind, marksKind, nodeWords}
+use Rattle.records.specs.Tests.{testAt, isKind, marksKind}
+use Rattle.nodes.specs.Nodes.{nodeWords}
 use Rattle.parse.specs.Meet.{Known, Simple, ScriptFunc, Argument, Operand, Scripts, Unary, Binary, prefixOf, onward, seen}
 use Rattle.parse.proofs.Buffer.{push, fill, seq, wrote-none}
-use Rattle.parse.proofs.Kit.{bind, ret, if-true, if-false, tick, at-tick, row-of, kept-refl, kept-trans, took, passed, test-below, same-is, same-marks, kind-is}
+use Rattle.records.proofs.Places.{test-below}
+use Rattle.parse.proofs.Kit.{bind, ret, if-true, if-false, tick, at-tick, row-of, kept-refl, kept-trans, took, passed, same-is, same-marks, kind-is}
 
 abbrev zeros : List ℕ
 zeros = 0 ∷ 0 ∷ 0 ∷ 0 ∷ 0 ∷ 0 ∷ []

@@ -1,21 +1,22 @@
 -- The marks as words: reading one, and setting one; and the definition's attempts as equations.
-use Prim.Native.Nat.{ℕ, _+_, _*_, _-_, _<_}
+use Prim.Native.Nat.{ℕ, _+_, _*_, _<_}
 use mathlib.Core.Path.{_≡_, refl, sym, ap, _∙_, subst}
 use mathlib.Core.List.{List}
 use mathlib.Core.Option.{none, some}
 use mathlib.Core.Bool.{Bool, true, false}
 use native.Mathlib.Omega.{arith}
-use lib.ListN.{length, getD, set}
+use lib.ListN.{length, getD, set, length-set}
 use lib.Dec.{eqb}
 use borrow.Author.Tests.{eqb-true, eqb-false}
 use Rattle.tree.specs.Tree.{Node}
 use Rattle.reading.specs.Stop.{Stop}
 use Rattle.reading.specs.Entries.{Entry}
 use Rattle.reading.specs.Reading.{State, M, Mark, openMark, matrixMark, slot, Try, made, lost, nought, failed, giveUp, attempt}
-use Rattle.parse.specs.Entry.{Kept, placeOf, afterClose, sepWord, marksOf, isMarked, withMark, marksWord}
+use Rattle.records.specs.Record.{placeOf, afterClose, sepWord, marksOf}
+use Rattle.records.specs.Marks.{isMarked, withMark}
+use Rattle.parse.specs.Entry.{Kept, marksWord}
 use Rattle.parse.specs.Meet.{Input, Marks, At, Known}
 use Rattle.parse.proofs.Kit.{bind, ret, at-here, if-true, if-false, given-kept}
-use lib.ListN.{length-set}
 use lib.Seq.{getD-set-same, getD-set-other}
 
 -- the number of a mark in the mark word

@@ -17,11 +17,17 @@ use Rattle.parse.specs.declared.cursor.Step.the-variants.{Found, Nothing
 use Rattle.parse.specs.declared.cursor.Part.{Part}
 use Rattle.parse.specs.declared.cursor.Items.{Items}
 use Rattle.parse.specs.Buffer.{Wrote}
-use Rattle.parse.specs.Entry.{Kept, marksOf, testAt, isKind, sameAt, barAt, isMarked, withMark, leafEnds, leafWords, groupWords}
-use Rattle.parse.specs.Entry as entry
+use Rattle.records.specs.Record.{marksOf}
+use Rattle.records.specs.Tests.{testAt, isKind}
+use Rattle.brackets.specs.Brackets.{sameAt, barAt}
+use Rattle.records.specs.Marks.{isMarked, withMark}
+use Rattle.nodes.specs.Nodes.{leafEnds, leafWords, groupWords}
+use Rattle.parse.specs.Entry.{Kept}
+use Rattle.records.specs.Marks as entry
 use Rattle.parse.specs.Meet.{Input, Row, At, Known, Intermediate, Intermediates, OpenGroup, Bracket, OpenCloseGroup, TryMatrix, Bars, stopOf, onward, rewound}
 use Rattle.parse.proofs.Buffer.{push, fill, seq, back}
-use Rattle.parse.proofs.Kit.{bind, ret, at-here, if-true, if-false, tick, at-tick, row-of, kept-refl, kept-trans, test-below, advance-took}
+use Rattle.records.proofs.Places.{test-below}
+use Rattle.parse.proofs.Kit.{bind, ret, at-here, if-true, if-false, tick, at-tick, row-of, kept-refl, kept-trans, advance-took}
 use Rattle.parse.proofs.Attempts.{markNumber, mark-is, set-kept, at-lost, known-lost, attempt-known, attempt-made, attempt-lost, attempt-nought}
 use Rattle.parse.proofs.Loop.{bar-is}
 use Rattle.parse.proofs.Scripting.{closed-words, group-size}

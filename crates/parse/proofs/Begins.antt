@@ -1,5 +1,5 @@
 -- What each way through a simple expression shows.
-use Prim.Native.Nat.{ℕ, _+_, _-_, _≤_, _<_}
+use Prim.Native.Nat.{ℕ, _+_, _≤_, _<_}
 use mathlib.Core.Path.{_≡_, refl, sym, ap, _∙_, subst}
 use mathlib.Core.List.{List}
 use mathlib.Core.Option.{Option, some}
@@ -19,10 +19,13 @@ use Rattle.parse.specs.declared.cursor.Cursor.{Cursor}
 use Rattle.parse.specs.declared.cursor.Step.the-variants.{Found, Nothing}
 use Rattle.parse.specs.declared.cursor.Part.{Part}
 use Rattle.parse.specs.Buffer.{Wrote}
-use Rattle.parse.specs.Entry.{kindOf, testAt, beginsKind, leafKind, leafClass, leafEnds, leafWords}
+use Rattle.records.specs.Record.{kindOf}
+use Rattle.records.specs.Tests.{testAt, beginsKind}
+use Rattle.nodes.specs.Nodes.{leafKind, leafClass, leafEnds, leafWords}
 use Rattle.parse.specs.Meet.{Input, Known, readers, Began, Simple, Begun, Bracket, OpenCloseGroup, Unary, Binary, stopOf, onward, seen, inner, atDepth}
 use Rattle.parse.proofs.Buffer.{push, wrote-none}
-use Rattle.parse.proofs.Kit.{bind, ret, at-here, tick, at-tick, row-of, kept-refl, took, passed, test-below, test-kind, same-begins, level-simple}
+use Rattle.records.proofs.Places.{test-below}
+use Rattle.parse.proofs.Kit.{bind, ret, at-here, tick, at-tick, row-of, kept-refl, took, passed, test-kind, same-begins, level-simple}
 use Rattle.parse.proofs.Sorts.{is-Sign, is-Function, is-Unary, is-Binary, is-OpenBracket, is-OpenCloseBracket, leaf-of}
 use Rattle.parse.proofs.Scripting.{found-of}
 

@@ -4,7 +4,7 @@ use mathlib.Core.List.{List, [], _∷_, _++_, append-assoc, append-nil}
 use Prim.Native.Nat.{ℕ, suc, _+_, _-_, _≤_, _<_}
 use native.Mathlib.Omega.{arith}
 use lib.ListN.{length, take, drop, set, replicate, length-append, replicate-append-replicate}
-use lib.Seq.{sets, sets-eq, length-sets, take-at, drop-at, take-add, take-take, take-append-le, take-append-add, length-take-le, take-all}
+use lib.Seq.{set-comm, sets, sets-eq, length-sets, take-at, drop-at, take-add, take-take, take-append-le, take-append-add, length-take-le, take-all}
 use Rattle.parse.specs.Buffer.{Wrote}
 
 -- vs stored at e
@@ -81,20 +81,13 @@ zero-more {x} {y} {e} {i} p h k =
 pub wrote-all : {x y w : List ℕ} {e E : ℕ} → Wrote x e y E w → length y ≤ E → y ≡ take e x ++ w
 wrote-all {x} {y} {w} {e} {E} p h = sym (take-all E y h) ∙ p .body
 
-pub two : (i : ℕ) → i + 2 ≡ suc (suc i)
-two i = omega arith
+-- words after others, and before them
+swap-set : (x : List ℕ) (i a : ℕ) (j : ℕ) (v : List ℕ) → i < j → set (sets x j v) i a ≡ sets (set x i a) j v
+swap-set x i a j [] h = refl
+swap-set x i a j (b ∷ v) h = swap-set (set x j b) i a (suc j) v (omega arith) ∙ ap (λ (w : List ℕ). sets w (suc j) v) (set-comm x j i b a (λ z. omega arith))
 
-pub three : (i : ℕ) → i + 3 ≡ suc (suc (suc i))
-three i = omega arith
-
-pub four : (i : ℕ) → i + 4 ≡ suc (suc (suc (suc i)))
-four i = omega arith
-
-pub five : (i : ℕ) → i + 5 ≡ suc (suc (suc (suc (suc i))))
-five i = omega arith
-
-pub six : (i : ℕ) → i + 6 ≡ suc (suc (suc (suc (suc (suc i)))))
-six i = omega arith
-
-pub seven : (i : ℕ) → i + 7 ≡ suc (suc (suc (suc (suc (suc (suc i))))))
-seven i = omega arith
+pub sets-before : (x : List ℕ) (i : ℕ) (u v : List ℕ) → sets (sets x (i + length u) v) i u ≡ sets x i (u ++ v)
+sets-before x i [] v = let z : i + 0 ≡ i = omega arith in rw z
+sets-before x i (a ∷ u) v =
+    let z : i + suc (length u) ≡ suc i + length u = omega arith in
+    rw z (ap (λ (w : List ℕ). sets w (suc i) u) (swap-set x i a (suc i + length u) v (omega arith)) ∙ sets-before (set x i a) (suc i) u v)

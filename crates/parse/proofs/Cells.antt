@@ -14,16 +14,16 @@ use Rattle.tree.specs.Tree.{Head, node, Nodes, end, _▸_, _⧺_, count, one}
 use Rattle.tree.specs.Words.{encode, encodes, encodeItems}
 use Rattle.reading.specs.Stop.{Stop}
 use Rattle.reading.specs.Entries.{Entry, is}
-use Rattle.reading.specs.Reading.{State, M, return, advance, any, Readers, intermediates, prefixes}
+use Rattle.reading.specs.Reading.{State, M, return, advance, any, Readers, intermediates, prefixes, rowCells, nextMatrixRow}
 use Rattle.parse.specs.declared.cursor.Cursor.{Cursor}
 use Rattle.parse.specs.declared.cursor.Items.{Items}
 use Rattle.parse.specs.Buffer.{Wrote}
-use Rattle.parse.specs.Entry.{testAt, isKind}
+use Rattle.records.specs.Tests.{testAt, isKind}
 use Rattle.parse.specs.Meet.{Input, Row, Stands, At, Known, readers, Each, Intermediates, onward, passing}
 use Rattle.parse.proofs.Buffer.{fill, seq, back, wrote-none}
-use Rattle.parse.proofs.Kit.{bind, ret, if-true, if-false, tick, at-tick, kept-refl, kept-trans, test-below, kind-is, advance-took, advance-end, past}
+use Rattle.records.proofs.Places.{test-below}
+use Rattle.parse.proofs.Kit.{bind, ret, if-true, if-false, tick, at-tick, kept-refl, kept-trans, kind-is, advance-took, advance-end, past}
 use Rattle.reading.specs.Reading as reading
-use Rattle.reading.specs.Reading.{rowCells, nextMatrixRow}
 use Rattle.parse.specs.declared.cursor.Close.{Close}
 use Rattle.parse.specs.declared.cursor.Close.the-variants as close
 use Rattle.parse.specs.declared.cursor.Cells.{Cells}

@@ -1,37 +1,46 @@
--- The Space before an item, by the code's cases.
-use Prim.Native.Nat.{ℕ, _+_, _-_, _≤_, _<_}
-use mathlib.Core.Path.{_≡_, refl, _∙_}
+-- The Space before an item, by what the code answers.
+use Prim.Native.Nat.{ℕ, _+_, _≤_}
+use mathlib.Core.Path.{_≡_, refl, sym}
 use mathlib.Core.List.{List, [], _∷_}
 use mathlib.Core.Bool.{Bool, true, false}
 use native.Mathlib.Omega.{arith}
 use lib.ListN.{length}
 use lib.Dec.{eqb}
-use lib.Seq.{sets}
-use borrow.Author.Tests.{lt-ltb, le-ltb, ne-eqb}
-use Rattle.tree.specs.Tree.{end}
-use Rattle.parse.specs.Buffer.{Wrote}
-use Rattle.parse.specs.Entry.{spaceStart, spaceLen, gapLen, gapWords, gapItems}
+use Rattle.records.specs.Record.{spaceStart, spaceLen}
+use Rattle.nodes.specs.Buffer.{stored}
+use Rattle.nodes.specs.Nodes.{gapLen, gapWords, gapItems}
+use Rattle.nodes.proofs.Stores.{stored-in, stored-none}
 use Rattle.parse.specs.Meet.{Gapped}
-use Rattle.parse.proofs.Buffer.{push, seq, wrote-none}
+use Rattle.parse.proofs.Buffer.{push, wrote-none}
 
-module _ (t K : List ℕ) (n : ℕ) {first : Bool} (i e : ℕ) {x : List ℕ} where
-  pub gap-first : first ≡ true → Gapped t K n first i e x x (record { end = e; items = 0 })
-  unfolding gapWords gapItems gapLen
-  gap-first h = rw h (record { tree = wrote-none x e; items = refl; few = omega arith; short = omega arith })
+module _ (t K : List ℕ) (n : ℕ) (first : Bool) (i : ℕ) where
+  words-none : eqb (gapLen t K n first i) 0 ≡ true → gapWords t K n first i ≡ []
+  unfolding gapWords
+  words-none h = rw h
 
-  pub gap-zero : first ≡ false → i < n → spaceLen t K i ≡ 0 → Gapped t K n first i e x x (record { end = e; items = 0 })
-  unfolding gapWords gapItems gapLen
-  gap-zero h l z = rw h (record { tree = rw (lt-ltb i n l, z) (wrote-none x e); items = rw (lt-ltb i n l, z); few = omega arith; short = omega arith })
+  words-some : eqb (gapLen t K n first i) 0 ≡ false → gapWords t K n first i ≡ 0 ∷ 6 ∷ spaceStart t K i ∷ spaceLen t K i ∷ 0 ∷ 0 ∷ 0 ∷ []
+  unfolding gapWords
+  words-some h = rw h
 
-  pub gap-out : first ≡ false → n ≤ i → Gapped t K n first i e x x (record { end = e; items = 0 })
-  unfolding gapWords gapItems gapLen
-  gap-out h l = rw h (record { tree = rw (le-ltb i n l) (wrote-none x e); items = rw (le-ltb i n l); few = omega arith; short = omega arith })
+  items-none : eqb (gapLen t K n first i) 0 ≡ true → gapItems t K n first i ≡ 0
+  unfolding gapItems
+  items-none h = rw h
 
-  pub gap-put : {y z : List ℕ} {a w : ℕ} → first ≡ false → i < n → (w ≡ 0 → ⊥) → w ≡ spaceLen t K i → a ≡ spaceStart t K i → y ≡ sets x e (0 ∷ []) → z ≡ sets y (e + 1) (6 ∷ a ∷ w ∷ 0 ∷ 0 ∷ 0 ∷ [])
-      → e + 7 ≤ length x → Gapped t K n first i e x z (record { end = e + 7; items = 1 })
-  unfolding gapWords gapItems gapLen
-  gap-put {y} {z} {a} {w} h l nz hw ha hy hz r =
-      let f : eqb (spaceLen t K i) 0 ≡ false = ne-eqb (spaceLen t K i) 0 (λ q. nz (hw ∙ q)) in
-      let v : Wrote x e y (e + 1) (0 ∷ []) = rw hy (push x e (0 ∷ []) (e + 1) refl (omega arith)) in
-      let u : Wrote y (e + 1) z (e + 7) (6 ∷ a ∷ w ∷ 0 ∷ 0 ∷ 0 ∷ []) = rw hz (push y (e + 1) (6 ∷ a ∷ w ∷ 0 ∷ 0 ∷ 0 ∷ []) (e + 7) (omega arith) (omega (arith, v .long))) in
-      rw h (record { tree = rw (lt-ltb i n l, f, ← ha, ← hw) (seq v u); items = rw (lt-ltb i n l, f); few = omega arith; short = omega arith })
+  items-some : eqb (gapLen t K n first i) 0 ≡ false → gapItems t K n first i ≡ 1
+  unfolding gapItems
+  items-some h = rw h
+
+  module _ {e r : ℕ} {x y : List ℕ} (number : r ≡ gapItems t K n first i) (words : y ≡ stored x e (gapWords t K n first i)) where
+    pub gap-none : r ≡ 0 → Gapped t K n first i e x y (record { end = e; items = 0 })
+    gap-none h = go (eqb (gapLen t K n first i) 0) refl
+      where
+        go : (b : Bool) → eqb (gapLen t K n first i) 0 ≡ b → Gapped t K n first i e x y (record { end = e; items = 0 })
+        go true q = record { tree = rw (words, words-none q, stored-none x e) (wrote-none x e); items = sym (items-none q); few = omega arith; short = omega arith }
+        go false q = absurd (omega (arith, items-some q))
+
+    pub gap-some : (r ≡ 0 → ⊥) → e + 7 ≤ length x → Gapped t K n first i e x y (record { end = e + 7; items = 1 })
+    gap-some h fit = go (eqb (gapLen t K n first i) 0) refl
+      where
+        go : (b : Bool) → eqb (gapLen t K n first i) 0 ≡ b → Gapped t K n first i e x y (record { end = e + 7; items = 1 })
+        go true q = absurd (h (omega (arith, items-none q)))
+        go false q = record { tree = rw (words, words-some q, stored-in x e _ fit) (push x e _ (e + 7) refl fit); items = sym (items-some q); few = omega arith; short = omega arith }

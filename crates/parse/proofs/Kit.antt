@@ -1,5 +1,5 @@
 -- The definition's steps as equations, and the code's tests and moves beside them.
-use Prim.Native.Nat.{ℕ, zero, suc, _+_, _*_, _-_, _%_, _^_, _≤_, _<_}
+use Prim.Native.Nat.{ℕ, zero, suc, _+_, _-_, _%_, _^_, _≤_, _<_}
 use mathlib.Core.Path.{_≡_, refl, sym, ap, _∙_}
 use mathlib.Core.List.{List, [], _∷_}
 use mathlib.Core.Option.{Option, none, some}
@@ -7,16 +7,18 @@ use mathlib.Core.Bool.{Bool, true, false, not, _||_}
 use native.Mathlib.Omega.{arith}
 use native.Mathlib.Numerals.{add-one}
 use native.Mathlib.Nat.{mod-add-mod, mod-mod}
-use lib.ListN.{length, getD, getElem?}
+use lib.ListN.{length, getElem?}
 use lib.Dec.{eqb, ltb}
 use borrow.Author.Tests.{ltb-true, ltb-false, lt-ltb, le-ltb, eqb-true, eqb-false, eq-eqb, ne-eqb}
 use Rattle.tokens.specs.declared.token.Token.{Token}
 use Rattle.tokens.specs.declared.token.Token.the-variants as token
 use Rattle.tokens.specs.Kinds.{numberOf}
-use Rattle.tree.specs.Words.{pick}
 use Rattle.reading.specs.Entries.{Entry, is}
 use Rattle.reading.specs.Reading.{State, M, return, _>>=_, if_then_else_, here, advance, heads, marksScript, begins, stops, level, nextSimple, nextScriptFunc, step, isAt}
-use Rattle.parse.specs.Entry.{Safe, Kept, placeOf, kindOf, startOf, lenOf, spaceStart, spaceLen, testAt, isKind, headsKind, marksKind, beginsKind, looked}
+use Rattle.records.proofs.Places.{test-below}
+use Rattle.records.specs.Record.{placeOf, isPlaced, kindOf, startOf, lenOf, spaceStart, spaceLen}
+use Rattle.records.specs.Tests.{testAt, isKind, headsKind, marksKind, beginsKind}
+use Rattle.parse.specs.Entry.{Safe, Kept, looked}
 use Rattle.parse.specs.Meet.{Input, Row, Stands, Given, At, Known, readers, stopOf}
 
 -- The monad.
@@ -88,25 +90,29 @@ places-kept : {K L : List ℕ} → Kept K L → Places K L
 places-kept p = record { long = p .long; place = p .place }
 
 module _ {K L : List ℕ} (t : List ℕ) (p : Places K L) (i : ℕ) where
+  same-placed : isPlaced t L i ≡ isPlaced t K i
+  unfolding isPlaced
+  same-placed = rw (p .long, p .place i)
+
   pub same-kind : kindOf t L i ≡ kindOf t K i
   unfolding kindOf
-  same-kind = ap (λ (j : ℕ). getD t (3 * j + 2) 0) (p .place i)
+  same-kind = rw (same-placed, p .place i)
 
   pub same-start : startOf t L i ≡ startOf t K i
   unfolding startOf
-  same-start = ap (λ (j : ℕ). getD t (3 * j) 0) (p .place i)
+  same-start = rw (same-placed, p .place i)
 
   pub same-len : lenOf t L i ≡ lenOf t K i
   unfolding lenOf
-  same-len = ap (λ (j : ℕ). getD t (3 * j + 1) 0) (p .place i)
+  same-len = rw (same-placed, p .place i)
 
   same-space : spaceStart t L i ≡ spaceStart t K i
   unfolding spaceStart
-  same-space = rw (p .place i)
+  same-space = rw (same-placed, p .place i)
 
   same-spaceLen : spaceLen t L i ≡ spaceLen t K i
   unfolding spaceLen
-  same-spaceLen = rw (p .place i)
+  same-spaceLen = rw (same-placed, p .place i)
 
   pub same-row : {e : Entry} → Row t K i e → Row t L i e
   same-row r = record { kind = same-kind ∙ r .kind; start = same-start ∙ r .start; len = same-len ∙ r .len; space = same-space ∙ r .space; spaceSize = same-spaceLen ∙ r .spaceSize }
@@ -159,14 +165,6 @@ abbrev pub Same : (Entry → Bool) → (ℕ → Bool) → Type 0
 Same ok f = (e : Entry) → ok e ≡ f (numberOf (e .token))
 
 module _ (t K : List ℕ) (n : ℕ) (f : ℕ → Bool) (i : ℕ) where
-  pub test-below : testAt t K n f i ≡ true → i < n
-  unfolding testAt
-  test-below h = go (ltb i n) refl h
-    where
-      go : (b : Bool) → ltb i n ≡ b → pick b (f (kindOf t K i)) false ≡ true → i < n
-      go true e k = ltb-true i n e
-      go false e k = let z : _≡_ {A = ℕ} 0 1 = cc in absurd (omega arith)
-
   pub test-kind : (b : Bool) → i < n → testAt t K n f i ≡ b → f (kindOf t K i) ≡ b
   unfolding testAt
   test-kind b h k = rw (lt-ltb i n h) at k

@@ -9,7 +9,6 @@ pub mod Loop
 pub mod Gaps
 pub mod Attempts
 pub mod Barred
-pub mod Spans
 pub mod Cells
 pub mod Rows
 pub mod Matrices

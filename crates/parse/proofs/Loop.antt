@@ -17,7 +17,10 @@ use Rattle.parse.specs.declared.cursor.Cursor.{Cursor}
 use Rattle.parse.specs.declared.cursor.Step.the-variants.{Found, Nothing}
 use Rattle.parse.specs.declared.cursor.Gap.{Gap}
 use Rattle.parse.specs.Buffer.{Wrote}
-use Rattle.parse.specs.Entry.{kindOf, spaceLen, testAt, isKind, sameAt, barAt, gapLen, gapWords, gapItems}
+use Rattle.records.specs.Record.{kindOf, spaceLen}
+use Rattle.records.specs.Tests.{testAt, isKind}
+use Rattle.brackets.specs.Brackets.{sameAt, barAt}
+use Rattle.nodes.specs.Nodes.{gapLen, gapWords, gapItems}
 use Rattle.parse.specs.Meet.{Input, Row, Stands, Given, At, Known, readers, Moves, Each, Intermediate, Intermediates, Gapped, Until, lastAfter, isNone, stopOf, itemsAt}
 use Rattle.parse.proofs.Buffer.{seq, back, wrote-none}
 use Rattle.parse.proofs.Kit.{bind, ret, at-here, if-true, if-false, row-of, kept-refl, kept-trans, test-in, test-out, same-is, past, at-some, at-none}

@@ -7,25 +7,29 @@ use mathlib.Core.Bool.{Bool, true, false, not, _&&_}
 use native.Mathlib.Omega.{arith}
 use lib.ListN.{length, length-append, getD, getElem?, set, take, drop}
 use lib.Dec.{eqb, ltb}
-use lib.Seq.{sets, length-sets}
+use lib.Seq.{sets, length-sets, take-take, take-at, length-take-le, getD-take, getD-append-add}
 use borrow.Author.Tests.{ltb-true, ltb-false, eqb-true, eqb-false, eq-eqb, ne-eqb}
 use Rattle.tokens.specs.declared.token.Token.the-variants as token
 use Rattle.tree.specs.Tree.{Head, Node, node, Nodes, end, _▸_, _⧺_, count}
 use Rattle.tree.specs.Words.{pick, encode, encodes, encodeItems}
 use Rattle.reading.specs.Entries.{Entry, is, hasSep}
-use Rattle.reading.specs.Reading.{State, M, matrixMark, made, lost, isAt, isByte, closeOf, closes, couldBeMatrix, makesMatrix, tryMatrix, endsOperand, look}
+use Rattle.reading.specs.Reading.{State, M, matrixMark, made, lost, isAt, isByte, closeOf, closes, couldBeMatrix, makesMatrix, tryMatrix, endsOperand, look, Rows, joinRows, matrixBody, splitColumnLines}
 use Rattle.parse.specs.declared.cursor.Cursor.{Cursor}
 use Rattle.parse.specs.declared.cursor.Step.the-variants.{Found, Nothing}
 use Rattle.parse.specs.Buffer.{Wrote}
-use Rattle.parse.specs.Entry.{Kept, afterClose, sepWord, marksOf, kindOf, testAt, isKind, byteAt, barAt, closesAt, gateAt, setAt, makesAt, isMarked, withMark, bit, matrixWords}
+use Rattle.records.specs.Record.{afterClose, sepWord, marksOf, kindOf}
+use Rattle.records.specs.Tests.{testAt, isKind}
+use Rattle.brackets.specs.Brackets.{byteAt, barAt, closesAt, gateAt, setAt, makesAt}
+use Rattle.records.specs.Marks.{isMarked, withMark}
+use Rattle.nodes.specs.Nodes.{matrixWords}
+use Rattle.parse.specs.Entry.{Kept, bit}
 use Rattle.parse.specs.Meet.{Input, Row, linkNumber, Given, At, Known, readers, Moves, Misses, Each, TryMatrix, onward, rewound}
 use Rattle.parse.proofs.Buffer.{fill, back, wrote-none}
-use Rattle.parse.proofs.Kit.{bind, ret, at-here, if-true, if-false, tick, at-tick, row-of, kept-refl, kept-trans, test-below, test-kind, same-is, past, at-some, at-none}
-use Rattle.reading.specs.Reading.{Rows, joinRows, matrixBody, splitColumnLines}
+use Rattle.records.proofs.Places.{test-below}
+use Rattle.parse.proofs.Kit.{bind, ret, at-here, if-true, if-false, tick, at-tick, row-of, kept-refl, kept-trans, test-kind, same-is, past, at-some, at-none}
 use Rattle.parse.specs.declared.cursor.Cells.{Cells}
 use Rattle.parse.specs.Columns as columns
 use Rattle.parse.specs.Matrix.{Broke, Filled, Fails, HasMatrix, rowsAt}
-use lib.Seq.{take-take, take-at, length-take-le, getD-take, getD-append-add}
 use Rattle.parse.specs.declared.columns.Split.{Split}
 use Rattle.parse.proofs.Attempts.{mark-is, set-kept, at-lost, known-lost, attempt-known, attempt-made, attempt-lost}
 use Rattle.parse.proofs.Cells.{took-any, cell-words}

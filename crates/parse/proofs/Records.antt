@@ -1,5 +1,5 @@
 -- The records of an accepted list are what the whole reading needs, and it reads the list's entries.
-use Prim.Native.Nat.{ℕ, zero, suc, _+_, _-_, _*_, _≤_, _<_}
+use Prim.Native.Nat.{ℕ, zero, suc, _+_, _*_, _≤_, _<_}
 use mathlib.Core.Path.{_≡_, refl, sym, _∙_}
 use mathlib.Core.Bool.{Bool, true, false}
 use mathlib.Core.List.{List, _++_}
@@ -20,9 +20,10 @@ use Rattle.reading.specs.Reading.{closeOf}
 use Rattle.reading.proofs.Theorems.{entries-count}
 use Rattle.tokens.proofs.Accepted.{accepted}
 use Rattle.entries.specs.Prepared.{workWords}
-use Rattle.entries.specs.Record as words
 use Rattle.entries.proofs.Recorded.{Recorded, recorded, behind}
-use Rattle.parse.specs.Entry.{placeOf, afterClose, sepWord, marksOf, kindOf, startOf, lenOf, spaceWord, spaceStart, spaceLen, bit}
+use Rattle.records.specs.Record.{placeOf, isPlaced, kindOf, startOf, lenOf}
+use Rattle.records.proofs.Places.{is-placed}
+use Rattle.parse.specs.Entry.{bit}
 use Rattle.parse.specs.Meet.{Input, Stands, Linked, Given, linkNumber}
 use Rattle.parse.specs.Top.{TopReady}
 
@@ -41,14 +42,12 @@ same-link (some k) = refl
 module _ (text table : List ℕ) (count : ℕ) (ok : listRefusal text count table ≡ none) (K rest : List ℕ)
     (work : K ≡ workWords (tokenList count table) ++ rest) where
   at : (i : ℕ) → i < countOthers (tokenList count table) → Recorded count table K (entries nowhere (tokenList count table)) i
-  at i h = recorded count table (λ j l. accepted text count table ok .sound j l .kind) K rest work i h
+  at i h = let a = accepted text count table ok in recorded count table (λ j l. a .sound j l .kind) (a .words) K rest work i h
 
   place : (i : ℕ) → i < countOthers (tokenList count table) → placeOf K i < count
-  unfolding placeOf words.placeOf
   place i h = at i h .inside
 
   stands : (i : ℕ) → i < countOthers (tokenList count table) → Stands table K (entries nowhere (tokenList count table)) i
-  unfolding placeOf kindOf startOf lenOf spaceWord spaceStart spaceLen words.placeOf words.kindOf words.startOf words.lenOf words.spaceWord words.spaceStart words.spaceLen
   stands i h =
       let r = at i h in
       record {
@@ -58,7 +57,7 @@ module _ (text table : List ℕ) (count : ℕ) (ok : listRefusal text count tabl
       }
 
   linked : (i : ℕ) → i < countOthers (tokenList count table) → kindOf table K i ≡ 20 → Linked K (inputOf text (tokenList count table)) i
-  unfolding placeOf kindOf afterClose sepWord words.placeOf words.kindOf words.afterClose words.sepWord is
+  unfolding is
   linked i h k =
       let r = at i h in
       let o : is token.OpenBracket (r .entry) ≡ true = eq-eqb 20 (numberOf (r .entry .token)) (sym k ∙ r .kind) in
@@ -67,13 +66,15 @@ module _ (text table : List ℕ) (count : ℕ) (ok : listRefusal text count tabl
   pub given : Given text table (countOthers (tokenList count table)) K (inputOf text (tokenList count table))
   given = record { text = refl; size = entries-count nowhere (tokenList count table); stands = stands; linked = linked }
 
-  spans : (i : ℕ) → i < countOthers (tokenList count table) → startOf table K i + lenOf table K i ≤ length text
+  spans : 4 * countOthers (tokenList count table) ≤ length K → (i : ℕ) → i < countOthers (tokenList count table) → startOf table K i + lenOf table K i ≤ length text
   unfolding startOf lenOf
-  spans i h = accepted text count table ok .sound (placeOf K i) (place i h) .span
+  spans fit i h =
+      let a = accepted text count table ok in
+      let p : isPlaced table K i ≡ true = is-placed table K i (omega arith) (omega (arith, place i h, a .words)) in
+      rw p (a .sound (placeOf K i) (place i h) .span)
 
   pub top-ready : 4 * countOthers (tokenList count table) ≤ length K → (tree : List ℕ) → 32 * (countOthers (tokenList count table) + 1) ≤ length tree
       → TopReady (countOthers (tokenList count table)) text table K tree
-  unfolding marksOf words.marksOf
   top-ready fit tree room =
       let a = accepted text count table ok in
       record {
@@ -81,7 +82,7 @@ module _ (text table : List ℕ) (count : ℕ) (ok : listRefusal text count tabl
             record {
               few = omega (arith, a .few, others-few count table);
               placed = λ i h. record { fit = omega arith; inside = omega (arith, place i h, a .words) };
-              spans = spans;
+              spans = spans fit;
             };
         input = inputOf text (tokenList count table);
         given = given;

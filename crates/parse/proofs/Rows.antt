@@ -14,16 +14,17 @@ use Rattle.tokens.specs.Kinds.{numberOf}
 use Rattle.tree.specs.Tree.{Nodes, end, _⧺_, count}
 use Rattle.tree.specs.Words.{pick, encodes}
 use Rattle.reading.specs.Entries.{Entry, is}
-use Rattle.reading.specs.Reading.{State, M, return, advance, any, Readers, isAt, textOf, same, isByte}
+use Rattle.reading.specs.Reading.{State, M, return, advance, any, Readers, isAt, textOf, same, isByte, Rows, joinRows, nextMatrixRow, moreRows, nextMatrixRows, alike, rowBrackets}
 use Rattle.parse.specs.declared.cursor.Cursor.{Cursor}
 use Rattle.parse.specs.Buffer.{Wrote}
-use Rattle.parse.specs.Entry.{testAt, isKind, sameAt, byteAt}
-use Rattle.parse.specs.Entry as entry
+use Rattle.records.specs.Tests.{testAt, isKind}
+use Rattle.brackets.specs.Brackets.{sameAt, byteAt}
+use Rattle.brackets.specs.Brackets as entry
 use Rattle.parse.specs.Meet.{Input, Row, Given, At, Known, readers, Each, onward}
 use Rattle.parse.proofs.Buffer.{seq, back, wrote-none}
-use Rattle.parse.proofs.Kit.{bind, ret, at-here, if-true, if-false, tick, at-tick, row-of, kept-refl, kept-trans, test-below, test-in, test-out, same-is, past, at-some, at-none}
+use Rattle.records.proofs.Places.{test-below}
+use Rattle.parse.proofs.Kit.{bind, ret, at-here, if-true, if-false, tick, at-tick, row-of, kept-refl, kept-trans, test-in, test-out, same-is, past, at-some, at-none}
 use Rattle.reading.specs.Reading as reading
-use Rattle.reading.specs.Reading.{Rows, joinRows, nextMatrixRow, moreRows, nextMatrixRows, alike, rowBrackets}
 use Rattle.parse.specs.declared.cursor.Close.the-variants as close
 use Rattle.parse.specs.declared.cursor.Cells.{Cells}
 use Rattle.parse.specs.declared.cursor.Why.{Why}

@@ -1,5 +1,5 @@
 -- A token is known by its number; what a token that is a leaf begins.
-use Prim.Native.Nat.{ℕ, _-_, _<_}
+use Prim.Native.Nat.{ℕ, _<_}
 use mathlib.Core.Path.{_≡_, refl}
 use mathlib.Core.Option.{some}
 use mathlib.Core.Bool.{Bool, true, false}
@@ -13,7 +13,7 @@ use Rattle.tree.specs.Tree.{Head, Atom, leaf}
 use Rattle.tree.specs.Words.{atomKind, classWord}
 use Rattle.reading.specs.Entries.{Entry}
 use Rattle.reading.specs.Reading.{State, return, Readers, begun, atomEnds}
-use Rattle.parse.specs.Entry.{leafKind, leafClass, leafEnds}
+use Rattle.nodes.specs.Nodes.{leafKind, leafClass, leafEnds}
 use Rattle.parse.specs.Meet.{Input, Unary, Binary, stopOf}
 
 class-small : (c : SymbolClass) → classNumber c < 8

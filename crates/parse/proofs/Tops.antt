@@ -5,8 +5,8 @@ use mathlib.Core.List.{List, [], _∷_, _++_, append-nil, append-assoc}
 use mathlib.Core.Option.{Option, none, some}
 use mathlib.Core.Bool.{Bool, true, false}
 use native.Mathlib.Omega.{arith}
-use lib.ListN.{length, getD, set, take}
-use lib.Seq.{sets, length-sets}
+use lib.ListN.{length, getD, set, take, replicate, length-replicate, length-set}
+use lib.Seq.{sets, length-sets, getD-set-same, getD-set-other}
 use borrow.Author.Tests.{eqb-true}
 use Rattle.tokens.specs.declared.token.Token.the-variants as token
 use Rattle.tokens.specs.Lexeme.{Span}
@@ -14,15 +14,15 @@ use Rattle.tree.specs.Tree.{nowhere, Head, Node, node, Nodes, end, _▸_, _⧺_
 use Rattle.tree.specs.Words.{encode, encodes, encodeItem, encodeItems}
 use Rattle.reading.specs.Stop.{Stop}
 use Rattle.reading.specs.Entries.{Entry, is}
-use Rattle.reading.specs.Reading.{State, advance, level, intermediates, unscripted, endsOperand, endsFirst, look, prefixes}
+use Rattle.reading.specs.Reading.{State, advance, level, intermediates, unscripted, endsOperand, endsFirst, look, prefixes, parse, parseEntries, lastOf}
 use Rattle.parse.specs.declared.cursor.Cursor.{Cursor}
 use Rattle.parse.specs.declared.cursor.Items.{Items}
-use Rattle.parse.specs.Entry.{Safe, Kept, placeOf, afterClose, sepWord, marksOf, kindOf, startOf, lenOf, testAt, isKind}
+use Rattle.records.specs.Record.{placeOf, afterClose, sepWord, marksOf, kindOf, startOf, lenOf}
+use Rattle.records.specs.Tests.{testAt, isKind}
+use Rattle.parse.specs.Entry.{Safe, Kept}
 use Rattle.parse.specs.Meet.{Input, Row, Given, Marks, At, Known, Intermediates, lastAfter, isNone, onward, seen}
-use Rattle.parse.proofs.Kit.{bind, ret, tick, at-tick, same-kind, same-start, same-len, same-row, Places, safe-same, safe-kept, took, passed, test-below, test-kind, same-is}
-use lib.ListN.{replicate, length-replicate, length-set}
-use lib.Seq.{getD-set-same, getD-set-other}
-use Rattle.reading.specs.Reading.{parse, parseEntries, lastOf}
+use Rattle.records.proofs.Places.{test-below}
+use Rattle.parse.proofs.Kit.{bind, ret, tick, at-tick, same-kind, same-start, same-len, same-row, Places, safe-same, safe-kept, took, passed, test-kind, same-is}
 use Rattle.parse.specs.Top.{Wrap, Chained, wrapWords, wrapsWords, TopReady, Topped}
 use Rattle.parse.proofs.Scripting.{count-append}
 use Rattle.parse.proofs.Loop.{encodeItems-append, last-append}

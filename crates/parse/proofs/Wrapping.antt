@@ -2,73 +2,35 @@
 use Prim.Native.Nat.{ℕ, suc, _+_, _*_, _-_, _%_, _^_, _≤_, _<_}
 use mathlib.Core.Path.{_≡_, refl, sym, ap, _∙_}
 use mathlib.Core.List.{List, [], _∷_, _++_, append-nil, append-assoc}
-use mathlib.Core.Bool.{Bool, true, false}
+use mathlib.Core.Bool.{true}
 use native.Mathlib.Omega.{arith}
-use lib.ListN.{length, length-append, getD, set, take, drop}
-use lib.Dec.{eqb, ltb}
-use lib.Seq.{sets, length-sets}
-use borrow.Author.Tests.{ltb-true, ltb-false, eqb-true, eqb-false}
+use lib.ListN.{length, length-append, set, take, drop, replicate}
+use lib.Seq.{sets, length-sets, paste, take-paste, take-append-le, take-at, length-take-le}
 use Rattle.tree.specs.Tree.{Nodes, end, count}
 use Rattle.tree.specs.Words.{encodeItems}
 use Rattle.reading.specs.Entries.{Entry}
-use Rattle.reading.specs.Reading.{State}
+use Rattle.reading.specs.Reading.{State, parseEntries}
 use Rattle.parse.specs.Buffer.{Wrote}
-use Rattle.parse.specs.Entry.{afterClose, sepWord, startOf, lenOf}
+use Rattle.records.specs.Record.{afterClose, sepWord, startOf, lenOf}
 use Rattle.parse.specs.Meet.{Input, Given}
 use Rattle.parse.proofs.Buffer.{fill}
-use lib.ListN.{replicate, length-set, length-drop}
-use lib.Seq.{ext-getD, getD-take, getD-drop, take-add, length-take-le, getD-set-same, getD-set-other}
+use Rattle.nodes.specs.Buffer.{shifted}
+use Rattle.nodes.proofs.Stores.{shifted-in}
 use native.Mathlib.Nat.{mod-eq-of-lt, mul-le-mul}
-use Rattle.reading.specs.Reading.{parseEntries}
 use Rattle.reading.proofs.Takes.{takes-bound}
 use Rattle.parse.specs.declared.top.Wrapped.{Wrapped}
 use Rattle.parse.specs.Top.{Wrap, Chained, wrapWords, wrapsWords, Noted, Topped, Reads}
 
--- The words from i on are moved, those before it not yet.
-pub record Moved (x y : List ℕ) (stp by i : ℕ) : Type 0 where
-  pub within : i ≤ stp
-  pub long : length y ≡ length x
-  pub below : (j : ℕ) → j < i → getD y j 0 ≡ getD x j 0
-  pub above : (j : ℕ) → i ≤ j → j < stp → getD y (j + by) 0 ≡ getD x j 0
-
-pub moved-none : (x : List ℕ) (stp by : ℕ) → Moved x x stp by stp
-moved-none x stp by = record { within = omega arith; long = refl; below = λ j h. refl; above = λ j h k. absurd (omega arith) }
-
-ne : (j k : ℕ) → k ≤ j → (j ≡ k → ⊥) → k < j
-ne j k h e = go (ltb k j) refl
-  where
-    go : (b : Bool) → ltb k j ≡ b → k < j
-    go true q = ltb-true k j q
-    go false q = absurd (e (omega (arith, ltb-false k j q)))
-
-pub moved-more : {x y : List ℕ} {stp by i : ℕ} → Moved x y stp by i → 0 < i → stp + by ≤ length x → Moved x (set y (i - 1 + by) (getD y (i - 1) 0)) stp by (i - 1)
-moved-more {x} {y} {stp} {by} {i} m h r = record {
-  within = omega (arith, m .within);
-  long = length-set y (i - 1 + by) (getD y (i - 1) 0) ∙ m .long;
-  below = λ j k. getD-set-other y (i - 1 + by) j (getD y (i - 1) 0) 0 (λ z. omega arith) ∙ m .below j (omega arith);
-  above = λ j k l. at j k l (eqb j (i - 1)) refl;
-}
-  where
-    at : (j : ℕ) → i - 1 ≤ j → j < stp → (b : Bool) → eqb j (i - 1) ≡ b → getD (set y (i - 1 + by) (getD y (i - 1) 0)) (j + by) 0 ≡ getD x j 0
-    at j k l true q =
-        let e : j ≡ i - 1 = eqb-true j (i - 1) q in
-        rw e (getD-set-same y (i - 1 + by) (getD y (i - 1) 0) 0 (omega (arith, m .long, m .within)) ∙ m .below (i - 1) (omega arith))
-    at j k l false q =
-        let e : j ≡ i - 1 → ⊥ = eqb-false j (i - 1) q in
-        getD-set-other y (i - 1 + by) (j + by) (getD y (i - 1) 0) 0 (λ z. e (omega (arith, z))) ∙ m .above j (omega (arith, ne j (i - 1) k e)) l
-
-pub moved-all : {x y : List ℕ} {stp by i : ℕ} → Moved x y stp by i → i ≤ 0 → stp + by ≤ length x → Wrote y by y (by + stp) (take stp x)
-moved-all {x} {y} {stp} {by} {i} m h r =
-    let lx : length (take stp x) ≡ stp = length-take-le stp x (omega arith) in
-    let ly : length (take stp (drop by y)) ≡ stp = length-take-le stp (drop by y) (omega (arith, length-drop by y, m .long)) in
-    record {
-      upto = omega (arith, lx);
+-- The items, moved on to leave room for the headers.
+pub moved-on : (x : List ℕ) (stp by : ℕ) {y : List ℕ} → y ≡ shifted x stp by → stp + by ≤ length x → Wrote y by y (by + stp) (take stp x)
+moved-on x stp by hy h =
+    let front : take by (paste x by x stp) ≡ take by x =
+    take-append-le by (take by x ++ take stp x) (drop (by + stp) x) (omega (arith, length-append (take by x) (take stp x), length-take-le by x (omega arith))) ∙ take-at (take by x) (take stp x) by (length-take-le by x (omega arith)) in
+    rw (hy, shifted-in x stp by (omega arith)) (record {
+      upto = omega (arith, length-take-le stp x (omega arith));
       long = refl;
-      body = take-add by stp y ∙ ap (λ (w : List ℕ). take by y ++ w) (ext-getD 0 (take stp (drop by y)) (take stp x) (ly ∙ sym lx) (λ j k.
-          let z : j < stp = omega (arith, ly) in
-          let q : by + j ≡ j + by = omega arith in
-          getD-take stp (drop by y) j 0 z ∙ getD-drop by y j 0 ∙ ap (λ (p : ℕ). getD y p 0) q ∙ m .above j (omega arith) z ∙ sym (getD-take stp x j 0 z)));
-    }
+      body = take-paste x by x stp (omega arith) (omega arith) ∙ ap (λ (w : List ℕ). w ++ take stp x) (sym front);
+    })
 
 -- The headers, one after the other.
 sets-append : (x : List ℕ) (i : ℕ) (u v : List ℕ) → sets x i (u ++ v) ≡ sets (sets x i u) (i + length u) v

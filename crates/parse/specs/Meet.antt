@@ -23,7 +23,9 @@ use Rattle.parse.specs.declared.cursor.Scripted as code
 use Rattle.parse.specs.declared.cursor.Items.{Items}
 use Rattle.parse.specs.declared.cursor.Gap.{Gap}
 use Rattle.parse.specs.Buffer.{Wrote}
-use Rattle.parse.specs.Entry.{Safe, Kept, afterClose, sepWord, marksOf, kindOf, startOf, lenOf, spaceStart, spaceLen, bit, marksWord, gapWords, gapItems, looked}
+use Rattle.records.specs.Record.{afterClose, sepWord, marksOf, kindOf, startOf, lenOf, spaceStart, spaceLen}
+use Rattle.nodes.specs.Nodes.{gapWords, gapItems}
+use Rattle.parse.specs.Entry.{Safe, Kept, bit, marksWord, looked}
 
 -- What the definition reads.
 pub record Input : Type 0 where

@@ -9,7 +9,8 @@ use Rattle.tree.specs.Words.{encodeItems}
 use Rattle.reading.specs.Reading.{parseEntries}
 use Rattle.parse.specs.declared.top.Wrapped.{Wrapped}
 use Rattle.parse.specs.declared.top.Reading.{Reading}
-use Rattle.parse.specs.Entry.{Safe, Placed, afterClose, sepWord, marksOf, startOf, lenOf}
+use Rattle.records.specs.Record.{afterClose, sepWord, marksOf, startOf, lenOf}
+use Rattle.parse.specs.Entry.{Safe, Placed}
 use Rattle.parse.specs.Meet.{Input, Given}
 
 -- A wrap: the entry of its closing bracket, and its items.

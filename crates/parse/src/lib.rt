@@ -1,7 +1,6 @@
 // The parser of asciimath-parser over a token list: parse.rs, and its calls on a text and on a token list.
 mod columns;
 mod cursor;
-mod entry;
 mod plain;
 mod readers;
 mod top;

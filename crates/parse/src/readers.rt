@@ -9,20 +9,6 @@ use crate::cursor::Rows;
 use crate::cursor::Scripted;
 use crate::cursor::Step;
 use crate::cursor::Why;
-use crate::entry::bar_at;
-use crate::entry::begins_at;
-use crate::entry::could_be_matrix;
-use crate::entry::failed_at;
-use crate::entry::heads_at;
-use crate::entry::is_at;
-use crate::entry::kind_at;
-use crate::entry::makes_matrix;
-use crate::entry::mark_failed;
-use crate::entry::marks_at;
-use crate::entry::open_mark;
-use crate::entry::row_brackets;
-use crate::entry::same_brackets;
-use crate::plain::is_plain;
 use crate::plain::plain_item;
 use crate::write::leaf;
 use crate::write::put_group;
@@ -31,10 +17,25 @@ use crate::write::put_node;
 use crate::write::put_space;
 use crate::write::put1;
 use crate::write::put6;
+use brackets::bar_at;
+use brackets::could_be_matrix;
+use brackets::makes_matrix;
+use brackets::row_brackets;
+use brackets::same_brackets;
+use records::marks::failed_at;
+use records::marks::mark_failed;
+use records::marks::open_mark;
+use records::record::kind_at;
+use records::tests::begins_at;
+use records::tests::heads_at;
+use records::tests::is_at;
+use records::tests::is_over;
+use records::tests::is_plain;
+use records::tests::marks_at;
 ghost use mathlib.Core.Path.{_≡_};
 ghost use mathlib.Core.Bool.{true};
 ghost use Prim.Native.Nat.{_≤_, _<_};
-ghost use Rattle.parse.specs.Entry.{testAt, beginsKind};
+ghost use Rattle.records.specs.Tests.{testAt, beginsKind};
 ghost use Rattle.parse.specs.Meet.{Ready, Simple, ScriptFunc, Intermediate, Argument, Operand, Scripts, Intermediates, Headed, Begun, OpenGroup, Bracket, OpenCloseGroup, TryMatrix, Bars, Unary, Binary, prefixOf};
 ghost use Rattle.tree.specs.Words.{prefixKind};
 ghost use Rattle.parse.specs.Matrix.{RowCells, MatrixRow, MoreRows, MatrixRows};
@@ -300,7 +301,7 @@ pub(crate) fn extend(
             break 'items;
         }
         let g = put_space(tok, work, n, tree, pos, end, first);
-        if is_plain(tok, work, n, cur) {
+        if is_plain(tok, work, n, cur.depth, pos) {
             let p = plain_item(tok, work, n, tree, cur, g.end);
             cur = p.cur;
             end = p.end;
@@ -308,6 +309,10 @@ pub(crate) fn extend(
             first = false;
             sign = !p.ends;
             continue 'items;
+        }
+        if is_over(tok, work, n, cur.depth, stop, pos) {
+            cur = cur.look(n).look(n);
+            break 'items;
         }
         match next_intermediate(text, tok, n, work, tree, cur, g.end, stop, sign) {
             Step::Found(d, e2, f) => {
@@ -435,7 +440,7 @@ fn more_rows(
                     if count != cols {
                         break 'rows Why::Differs;
                     }
-                    if same_brackets(text, tok, work, n, left, right, p + 1, q) {} else {
+                    if same_brackets(text, tok, work, left, right, p + 1, q) {} else {
                         break 'rows Why::Differs;
                     }
                 }
@@ -483,7 +488,7 @@ fn next_rows(
             why: Why::Broken,
         },
         Close::At(right) => {
-            if row_brackets(text, tok, work, n, left, right) {
+            if row_brackets(text, tok, work, left, right) {
                 more_rows(text, tok, n, work, tree, cur, end, cols, left, right)
             } else {
                 Rows {

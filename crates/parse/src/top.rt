@@ -1,20 +1,23 @@
 // The whole reading: the items, and the groups of closing brackets that nothing opened.
 use crate::cursor::Cursor;
-use crate::entry::after_close;
-use crate::entry::is_at;
-use crate::entry::len_at;
-use crate::entry::sep_word;
-use crate::entry::start_at;
 use crate::readers::extend;
 use crate::write::put1;
 use crate::write::put6;
+use nodes::buffer::clear_from;
+use nodes::buffer::shift;
+use records::record::after_close;
+use records::record::len_at;
+use records::record::sep_word;
+use records::record::start_at;
+use records::tests::is_at;
 ghost use mathlib.Core.Path.{_≡_};
 ghost use mathlib.Core.List.{List, [], _∷_, _++_};
 ghost use Prim.Native.Nat.{ℕ, _+_, _-_, _*_, _≤_, _<_};
 ghost use lib.ListN.{length, take, replicate};
 ghost use lib.Seq.{sets};
 ghost use Rattle.parse.specs.Buffer.{Wrote};
-ghost use Rattle.parse.specs.Entry.{Placed, sepWord, startOf, lenOf};
+ghost use Rattle.records.specs.Record.{sepWord, startOf, lenOf};
+ghost use Rattle.parse.specs.Entry.{Placed};
 ghost use Rattle.parse.specs.Meet.{Input, Given};
 ghost use Rattle.parse.specs.Top.{Noted, wrapWords, wrapsWords, TopReady, Topped, Reads};
 
@@ -31,30 +34,6 @@ pub(crate) struct Wrapped {
     pub count: u32,
     pub wraps: usize,
     pub last: usize,
-}
-
-// Zeros from `from` on.
-fn clear_from(b: &mut [u32], from: usize)
-    requires { ⌜ from ≤ length (now b) ⌝ }
-    ensures { λ _. ⌜ now (b .exit) ≡ take from (now (b .entry)) ++ replicate (length (now (b .entry)) - from) 0 ⌝ }
-{
-    let mut i = from;
-    while i < b.len() {
-        b[i] = 0;
-        i += 1;
-    }
-}
-
-// The first `end` words, `by` places on.
-fn shift(tree: &mut [u32], end: usize, by: usize)
-    requires { ⌜ end + by ≤ length (now tree) ⌝ }
-    ensures { λ _. ⌜ Wrote (now (tree .exit)) by (now (tree .exit)) (by + end) (take end (now (tree .entry))) ⌝ }
-{
-    let mut i = end;
-    while 0 < i {
-        i -= 1;
-        tree[i + by] = tree[i];
-    }
 }
 
 // Notes the wrap of `count` items that the closing bracket at i makes; the one before it is `last`.

@@ -4,7 +4,7 @@ use mathlib.Core.Path.{_≡_, refl}
 use mathlib.Core.List.{List}
 use native.Mathlib.Omega.{arith}
 use lib.ListN.{length, length-set}
-use Rattle.entries.specs.Record.{afterClose}
+use Rattle.records.specs.Record.{afterClose}
 use Rattle.entries.specs.Open.{Chain}
 use Rattle.entries.proofs.Clearing.{Clearing, clearing-next, clearing-done, clearing-low}
 use Rattle.entries.proofs.clear_open.Statement.{statement}

@@ -3,7 +3,7 @@ use mathlib.Core.Path.{refl}
 use Prim.Native.Nat.{_+_, _*_, _-_}
 use native.Mathlib.Omega.{arith}
 use borrow.Author.Needs.{needs}
-use Rattle.entries.specs.Record.{afterClose}
+use Rattle.records.specs.Record.{afterClose}
 use Rattle.entries.specs.Open.{Link}
 use Rattle.entries.proofs.link.Statement.{statement}
 use Rattle.entries.proofs.link.Tie as tie

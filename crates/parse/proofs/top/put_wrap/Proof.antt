@@ -1,6 +1,5 @@
-use Rattle.parse.proofs.Buffer.{seven}
+use Rattle.nodes.proofs.Stores.{seven}
 use native.Mathlib.Numerals.{add-one}
-use Prim.Native.Nat.{_-_}
 use borrow.Author.Needs.{needs}
 use Rattle.parse.proofs.top.put_wrap.Statement.{statement}
 use Rattle.parse.proofs.top.put_wrap.Tie as tie

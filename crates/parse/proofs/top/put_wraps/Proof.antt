@@ -1,3 +1,4 @@
+use borrow.Author.Needs.{needs}
 use Rattle.parse.proofs.Wrapping.{Putting, putting-none, putting-more, putting-all, next-wrap}
 use Prim.Native.Nat.{_-_}
 use native.Mathlib.Omega.{arith}
@@ -20,7 +21,7 @@ put-wrap-requires c κs = let q = next-wrap (c .before .before .loop .inv) (c .b
 
 -- src/top.rt:134:9
 after-close-requires : tie.Need-after-close-requires Inv-loop μ-loop
-after-close-requires c κs = let q = next-wrap (c .before .before .before .before .before .loop .inv) (c .before .before .before .before .loop-test .taken) (c .before .before .before .before .before .before .before .before .before .pre .0) in (c .before .before .before .before .before .before .before .before .before .pre .0 .placed (c .before .before .before .before .before .loop .i) (q .small)) .fit
+after-close-requires c κs = search needs
 
 -- src/top.rt:135:9
 add-at : tie.Need-add-at Inv-loop μ-loop

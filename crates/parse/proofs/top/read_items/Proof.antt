@@ -1,5 +1,6 @@
 use Rattle.parse.proofs.Tops.{Round, round-none, round-open, round-drop, round-wrap}
-use Rattle.parse.proofs.Kit.{test-below, safe-kept}
+use Rattle.records.proofs.Places.{test-below}
+use Rattle.parse.proofs.Kit.{safe-kept}
 use borrow.Author.Needs.{needs}
 use Prim.Native.Nat.{_+_, _-_}
 use native.Mathlib.Omega.{arith}
@@ -27,7 +28,7 @@ add-count c = let v = c .before .before .before .before .before .before .before 
 
 -- src/top.rt:89:12
 is-at-requires : tie.Need-is-at-requires Inv-all μ-all
-is-at-requires c κs = let v = c .before .before .before .before .before .before .before .before .before .before .all .inv in let m = c .before .before .before .before .before .before .before .extend .ensures .moves in safe-kept (m .kept) (v .safe) .placed
+is-at-requires c κs = search needs
 
 -- src/top.rt:90:13
 next-requires : tie.Need-next-requires Inv-all μ-all

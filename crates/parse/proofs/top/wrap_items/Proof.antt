@@ -1,5 +1,4 @@
-use Rattle.parse.proofs.Wrapping.{wrapped-none, wrapped-all}
-use Prim.Native.Nat.{_-_}
+use Rattle.parse.proofs.Wrapping.{moved-on, wrapped-none, wrapped-all}
 use borrow.Author.Needs.{needs}
 use Rattle.parse.proofs.top.wrap_items.Statement.{statement}
 use Rattle.parse.proofs.top.wrap_items.Tie as tie
@@ -26,7 +25,7 @@ same-length c = search needs
 
 -- src/top.rt:141:1
 returns-2 : tie.Need-returns-2
-returns-2 c = λ p. wrapped-all (c .before .before .before .before .before .before .before .before .before .before .before .before .args .tree .now) (c .before .before .before .before .before .before .before .before .before .before .before .before .args .end) (c .before .before .before .before .before .before .shift .ensures) (c .before .before .before .before .before .before .shift .kept .0) (c .before .before .before .before .before .before .before .before .before .before .before .before .pre .1 .1) p (c .before .before .put-wraps .ensures p)
+returns-2 c = λ p. wrapped-all (c .before .before .before .before .before .before .before .before .before .before .before .before .args .tree .now) (c .before .before .before .before .before .before .before .before .before .before .before .before .args .end) (moved-on (c .before .before .before .before .before .before .before .before .before .before .before .before .args .tree .now) (c .before .before .before .before .before .before .before .before .before .before .before .before .args .end) _ (c .before .before .before .before .before .before .shift .ensures) (c .before .before .before .before .before .before .before .before .before .before .before .before .pre .1 .1)) (c .before .before .before .before .before .before .shift .kept .0) (c .before .before .before .before .before .before .before .before .before .before .before .before .pre .1 .1) p (c .before .before .put-wraps .ensures p)
 
 pub wrap-items-spec : {M : Type 1} → statement M
 wrap-items-spec =

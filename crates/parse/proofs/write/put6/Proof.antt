@@ -1,108 +1,18 @@
-use lib.ListN.{length-set}
-use native.Mathlib.Numerals.{add-one}
-use Rattle.parse.proofs.Buffer.{two, three, four, five}
-use Prim.Native.Nat.{_-_}
-use native.Mathlib.Omega.{arith}
+-- `write::put6`: there is room.
+use Rattle.nodes.proofs.Stores.{stored-in}
+use mathlib.Core.Path.{_∙_}
 use borrow.Author.Needs.{needs}
 use Rattle.parse.proofs.write.put6.Statement.{statement}
 use Rattle.parse.proofs.write.put6.Tie as tie
 
--- src/write.rt:23:5
-mul-tree : tie.Need-mul-tree
-mul-tree c = search needs
+put6-requires : tie.Need-put6-requires
+put6-requires c κs = search needs
 
--- src/write.rt:23:5
-slice-write-tree : tie.Need-slice-write-tree
-slice-write-tree c = search needs
-
--- src/write.rt:24:10
-add-tree : tie.Need-add-tree
-add-tree c = search needs
-
--- src/write.rt:24:5
-mul-tree-2 : tie.Need-mul-tree-2
-mul-tree-2 c = search needs
-
--- src/write.rt:24:5
-slice-write-tree-2 : tie.Need-slice-write-tree-2
-slice-write-tree-2 c = simp length-set (omega arith)
-
--- src/write.rt:25:10
-add-tree-2 : tie.Need-add-tree-2
-add-tree-2 c = search needs
-
--- src/write.rt:25:5
-mul-tree-3 : tie.Need-mul-tree-3
-mul-tree-3 c = search needs
-
--- src/write.rt:25:5
-slice-write-tree-3 : tie.Need-slice-write-tree-3
-slice-write-tree-3 c = simp length-set (omega arith)
-
--- src/write.rt:26:10
-add-tree-3 : tie.Need-add-tree-3
-add-tree-3 c = search needs
-
--- src/write.rt:26:5
-mul-tree-4 : tie.Need-mul-tree-4
-mul-tree-4 c = search needs
-
--- src/write.rt:26:5
-slice-write-tree-4 : tie.Need-slice-write-tree-4
-slice-write-tree-4 c = simp length-set (omega arith)
-
--- src/write.rt:27:10
-add-tree-4 : tie.Need-add-tree-4
-add-tree-4 c = search needs
-
--- src/write.rt:27:5
-mul-tree-5 : tie.Need-mul-tree-5
-mul-tree-5 c = search needs
-
--- src/write.rt:27:5
-slice-write-tree-5 : tie.Need-slice-write-tree-5
-slice-write-tree-5 c = simp length-set (omega arith)
-
--- src/write.rt:28:10
-add-tree-5 : tie.Need-add-tree-5
-add-tree-5 c = search needs
-
--- src/write.rt:28:5
-mul-tree-6 : tie.Need-mul-tree-6
-mul-tree-6 c = search needs
-
--- src/write.rt:28:5
-slice-write-tree-6 : tie.Need-slice-write-tree-6
-slice-write-tree-6 c = simp length-set (omega arith)
-
--- src/write.rt:19:1
 same-length : tie.Need-same-length
 same-length c = search needs
 
--- src/write.rt:19:1
 returns : tie.Need-returns
-returns c = simp (add-one, two, three, four, five)
+returns c = c .before .before .put6 .ensures ∙ stored-in (c .before .before .before .before .before .args .tree .now) (c .before .before .before .before .before .args .i) _ (c .before .before .before .before .before .pre)
 
 pub put6-spec : {M : Type 1} → statement M
-put6-spec =
-    tie.close
-    (tie.spec
-    mul-tree
-    slice-write-tree
-    add-tree
-    mul-tree-2
-    slice-write-tree-2
-    add-tree-2
-    mul-tree-3
-    slice-write-tree-3
-    add-tree-3
-    mul-tree-4
-    slice-write-tree-4
-    add-tree-4
-    mul-tree-5
-    slice-write-tree-5
-    add-tree-5
-    mul-tree-6
-    slice-write-tree-6
-    same-length
-    returns)
+put6-spec = tie.close (tie.spec put6-requires same-length returns)

@@ -1,14 +1,14 @@
 -- bars: what each way through it shows.
-use Prim.Native.Nat.{ℕ, _-_}
+use Prim.Native.Nat.{ℕ}
 use Rattle.parse.proofs.readers.bars.Reads as bars
 use Rattle.parse.proofs.readers.extend.Reads as extend
 use Rattle.parse.proofs.readers.next_intermediate.Reads as next-intermediate
 use Rattle.parse.proofs.cursor.Cursor.next.Reads as next-reads
 use Rattle.parse.proofs.cursor.Cursor.rewind.Reads as rewind-reads
-use Rattle.parse.proofs.entry.bar_at.Reads as bar-at-reads
-use Rattle.parse.proofs.entry.failed_at.Reads as failed-at-reads
-use Rattle.parse.proofs.entry.mark_failed.Reads as mark-failed-reads
-use Rattle.parse.proofs.entry.open_mark.Reads as open-mark-reads
+use Rattle.brackets.proofs.bar_at.Reads as bar-at-reads
+use Rattle.records.proofs.marks.failed_at.Reads as failed-at-reads
+use Rattle.records.proofs.marks.mark_failed.Reads as mark-failed-reads
+use Rattle.records.proofs.marks.open_mark.Reads as open-mark-reads
 use Rattle.parse.proofs.write.leaf.Reads as leaf-reads
 use Rattle.parse.proofs.write.put_group.Reads as put-group-reads
 use Rattle.parse.proofs.readers.+arg+bar_group+bars+begun+binary+bracket+extend+headed+more_rows+next_intermediate+next_row+next_rows+next_script+next_script_func+next_simple+open_group+operand+row_cells+try_matrix+unary.Lts-bars as bars-lts
@@ -17,8 +17,7 @@ use mathlib.Core.Path.{sym, _∙_}
 use native.Mathlib.Omega.{arith}
 use borrow.Author.Needs.{needs}
 use Rattle.parse.proofs.Kit.{safe-kept}
-use Rattle.parse.proofs.Barred.{bars-known, bars-nought, bars-made, bars-lost, bar-below, open-small}
-use Rattle.parse.proofs.Attempts.{mark-below, set-kept}
+use Rattle.parse.proofs.Barred.{bars-known, bars-nought, bars-made, bars-lost, bar-below}
 
 abbrev pub uses : ℕ → bars-lts.Claims
 uses t = (open-mark-reads.Asked, open-mark-reads.Learnt, failed-at-reads.Asked, failed-at-reads.Learnt, leaf-reads.Asked, leaf-reads.Learnt, next-intermediate-below t, next-intermediate.Post, extend-below t, extend.Post, bar-at-reads.Asked, bar-at-reads.Learnt, put-group-reads.Asked, put-group-reads.Learnt, next-reads.Asked, next-reads.Learnt, mark-failed-reads.Asked, mark-failed-reads.Learnt, rewind-reads.Asked, rewind-reads.Learnt)
@@ -27,12 +26,11 @@ pub open-mark-requires : (t : ℕ) → bars-lts.Need-open-mark-requires (uses t)
 open-mark-requires t c κs = search needs
 
 pub failed-at-requires : (t : ℕ) → bars-lts.Need-failed-at-requires (uses t) (bars-at t) bars.Post
-failed-at-requires t c κs = let S = c .before .before .before .before .before .before in
-    let os = open-small (S .args .stop) in ((S .pre .1 .0 .safe .placed (S .args .i) (S .pre .1 .1)) .fit, omega (arith, c .before .open-mark .ensures, os .0))
+failed-at-requires t c κs = search needs
 
 pub leaf-requires : (t : ℕ) → bars-lts.Need-leaf-requires (uses t) (bars-at t) bars.Post
 leaf-requires t c κs = let S = c .before .before .before .before .before .before .before .before .before .before in
-    (S .pre .1 .0 .safe .placed (S .args .i) (S .pre .1 .1), omega (arith, S .pre .1 .0 .room))
+    omega (arith, S .pre .1 .0 .room)
 
 pub same-length : (t : ℕ) → bars-lts.Need-same-length (uses t) (bars-at t) bars.Post
 same-length t c = search needs
@@ -57,7 +55,7 @@ enum-known-d t c = search needs
 
 pub leaf-requires-2 : (t : ℕ) → bars-lts.Need-leaf-requires-2 (uses t) (bars-at t) bars.Post
 leaf-requires-2 t c κs = let S = c .before .before .before .before .before .before .before .before .before .before .before .before .before .before .before .before .before .before .before .before in
-    let f = (rw (c .before .before .before .d .given .1) at (c .before .before .before .before .before .before .before .before .before .next-intermediate .ensures)) .0 in (safe-kept (f .kept) (S .pre .1 .0 .safe) .placed (S .args .i) (S .pre .1 .1), omega (arith, S .pre .1 .0 .room, f .long))
+    let f = (rw (c .before .before .before .d .given .1) at (c .before .before .before .before .before .before .before .before .before .next-intermediate .ensures)) .0 in omega (arith, S .pre .1 .0 .room, f .long)
 
 pub enum-known-d-2 : (t : ℕ) → bars-lts.Need-enum-known-d-2 (uses t) (bars-at t) bars.Post
 enum-known-d-2 t c = search needs
@@ -67,8 +65,7 @@ extend-requires t c κs = let S = c .before .before .before .before .before .bef
     let f = (rw (c .before .before .before .d2 .given .1) at (c .before .before .before .before .before .before .before .before .before .next-intermediate .ensures)) .0 in (omega (arith, S .pre .0, f .depth), record { safe = safe-kept (f .kept) (S .pre .1 .0 .safe); known = f .known; here = f .within; room = omega (arith, S .pre .1 .0 .room, f .room, f .long) })
 
 pub bar-at-requires : (t : ℕ) → bars-lts.Need-bar-at-requires (uses t) (bars-at t) bars.Post
-bar-at-requires t c κs = let S = c .before .before .before .before .before .before .before .before .before .before .before .before .before .before .before .before .before .before .before .before .before .before .before .before .before .before .before in
-    let f = (rw (c .before .before .before .before .before .before .before .before .before .before .d2 .given .1) at (c .before .before .before .before .before .before .before .before .before .before .before .before .before .before .before .before .next-intermediate .ensures)) .0 in let m = c .before .before .before .before .before .before .extend .ensures .moves in let sj = safe-kept (m .kept) (safe-kept (f .kept) (S .pre .1 .0 .safe)) in sj
+bar-at-requires t c κs = search needs
 
 pub add-put-group : (t : ℕ) → bars-lts.Need-add-put-group (uses t) (bars-at t) bars.Post
 add-put-group t c = let S = c .before .before .before .before .before .before .before .before .before .before .before .before .before .before .before .before .before .before .before .before .before .before .before .before .before .before .before .before .before .before .before .before in
@@ -76,22 +73,21 @@ add-put-group t c = let S = c .before .before .before .before .before .before .b
 
 pub put-group-requires : (t : ℕ) → bars-lts.Need-put-group-requires (uses t) (bars-at t) bars.Post
 put-group-requires t c κs = let S = c .before .before .before .before .before .before .before .before .before .before .before .before .before .before .before .before .before .before .before .before .before .before .before .before .before .before .before .before .before .before .before .before in
-    let f = (rw (c .before .before .before .before .before .before .before .before .before .before .before .before .before .before .before .d2 .given .1) at (c .before .before .before .before .before .before .before .before .before .before .before .before .before .before .before .before .before .before .before .before .before .next-intermediate .ensures)) .0 in let m = c .before .before .before .before .before .before .before .before .before .before .before .extend .ensures .moves in let sj = safe-kept (m .kept) (safe-kept (f .kept) (S .pre .1 .0 .safe)) in (sj .placed, (S .pre .1 .1, omega (arith, S .pre .1 .0 .room, f .long, m .long)))
+    let f = (rw (c .before .before .before .before .before .before .before .before .before .before .before .before .before .before .before .d2 .given .1) at (c .before .before .before .before .before .before .before .before .before .before .before .before .before .before .before .before .before .before .before .before .before .next-intermediate .ensures)) .0 in let m = c .before .before .before .before .before .before .before .before .before .before .before .extend .ensures .moves in let sj = safe-kept (m .kept) (safe-kept (f .kept) (S .pre .1 .0 .safe)) in omega (arith, S .pre .1 .0 .room, f .long, m .long)
 
 pub next-requires : (t : ℕ) → bars-lts.Need-next-requires (uses t) (bars-at t) bars.Post
 next-requires t c κs = let S = c .before .before .before .before .before .before .before .before .before .before .before .before .before .before .before .before .before .before .before .before .before .before .before .before .before .before .before .before .before .before .before .before .before .before .before in
     let b = bar-below _ _ _ _ _ _ (sym (c .before .before .before .before .before .before .before .bar-at .ensures) ∙ c .before .before .before .before .before .before .if2 .taken) in omega (arith, S .pre .1 .0 .safe .few)
 
 pub mark-failed-requires : (t : ℕ) → bars-lts.Need-mark-failed-requires (uses t) (bars-at t) bars.Post
-mark-failed-requires t c κs = let S = c .before .before .before .before .before .before .before .before .before .before .before .before .before .before .before .before .before .before .before .before .before .before .before .before .before .before .before .before .before .before in
-    let os = open-small (S .args .stop) in let f = (rw (c .before .before .before .before .before .before .before .before .before .before .before .before .before .d2 .given .1) at (c .before .before .before .before .before .before .before .before .before .before .before .before .before .before .before .before .before .before .before .next-intermediate .ensures)) .0 in let m = c .before .before .before .before .before .before .before .before .before .extend .ensures .moves in let sj = safe-kept (m .kept) (safe-kept (f .kept) (S .pre .1 .0 .safe)) in ((sj .placed (S .args .i) (S .pre .1 .1)) .fit, (mark-below (S .args .i) (m .known .marks) (S .pre .1 .1), (omega (arith, c .before .before .before .before .before .before .before .before .before .before .before .before .before .before .before .before .before .before .before .before .before .before .before .before .before .open-mark .ensures, os .0), omega (arith, c .before .before .before .before .before .before .before .before .before .before .before .before .before .before .before .before .before .before .before .before .before .before .before .before .before .open-mark .ensures, os .1))))
+mark-failed-requires t c κs = search needs
 
 pub rewind-requires : (t : ℕ) → bars-lts.Need-rewind-requires (uses t) (bars-at t) bars.Post
 rewind-requires t c κs = search needs
 
 pub leaf-requires-3 : (t : ℕ) → bars-lts.Need-leaf-requires-3 (uses t) (bars-at t) bars.Post
 leaf-requires-3 t c κs = let S = c .before .before .before .before .before .before .before .before .before .before .before .before .before .before .before .before .before .before .before .before .before .before .before .before .before .before .before .before .before .before .before .before .before .before .before .before in
-    let f = (rw (c .before .before .before .before .before .before .before .before .before .before .before .before .before .before .before .before .before .before .before .d2 .given .1) at (c .before .before .before .before .before .before .before .before .before .before .before .before .before .before .before .before .before .before .before .before .before .before .before .before .before .next-intermediate .ensures)) .0 in let m = c .before .before .before .before .before .before .before .before .before .before .before .before .before .before .before .extend .ensures .moves in let sj = safe-kept (m .kept) (safe-kept (f .kept) (S .pre .1 .0 .safe)) in let fit = (sj .placed (S .args .i) (S .pre .1 .1)) .fit in (safe-kept {L = c .before .before .before .before .before .mark-failed .last .0} (rw (c .before .before .before .before .before .mark-failed .ensures) (set-kept _ (S .args .i) _ fit)) sj .placed (S .args .i) (S .pre .1 .1), omega (arith, S .pre .1 .0 .room, f .long, m .long))
+    let f = (rw (c .before .before .before .before .before .before .before .before .before .before .before .before .before .before .before .before .before .before .before .d2 .given .1) at (c .before .before .before .before .before .before .before .before .before .before .before .before .before .before .before .before .before .before .before .before .before .before .before .before .before .next-intermediate .ensures)) .0 in let m = c .before .before .before .before .before .before .before .before .before .before .before .before .before .before .before .extend .ensures .moves in let sj = safe-kept (m .kept) (safe-kept (f .kept) (S .pre .1 .0 .safe)) in let fit = (sj .placed (S .args .i) (S .pre .1 .1)) .fit in omega (arith, S .pre .1 .0 .room, f .long, m .long)
 
 pub same-length-3 : (t : ℕ) → bars-lts.Need-same-length-3 (uses t) (bars-at t) bars.Post
 same-length-3 t c = search needs

@@ -1,11 +1,11 @@
 -- begun: what each way through it shows.
-use Prim.Native.Nat.{ℕ, _-_}
+use Prim.Native.Nat.{ℕ}
 use Rattle.parse.proofs.readers.begun.Reads as begun
 use Rattle.parse.proofs.readers.binary.Reads as binary
 use Rattle.parse.proofs.readers.bracket.Reads as bracket
 use Rattle.parse.proofs.readers.bar_group.Reads as bar-group
 use Rattle.parse.proofs.readers.unary.Reads as unary
-use Rattle.parse.proofs.entry.kind_at.Reads as kind-at-reads
+use Rattle.records.proofs.record.kind_at.Reads as kind-at-reads
 use Rattle.parse.proofs.write.leaf.Reads as leaf-reads
 use Rattle.parse.proofs.readers.+arg+bar_group+bars+begun+binary+bracket+extend+headed+more_rows+next_intermediate+next_row+next_rows+next_script+next_script_func+next_simple+open_group+operand+row_cells+try_matrix+unary.Lts-begun as begun-lts
 use Rattle.parse.proofs.readers.+arg+bar_group+bars+begun+binary+bracket+extend+headed+more_rows+next_intermediate+next_row+next_rows+next_script+next_script_func+next_simple+open_group+operand+row_cells+try_matrix+unary.Proof.Setting.{binary-below, bracket-below, bar-group-below, unary-below, begun-at}
@@ -18,8 +18,7 @@ abbrev pub uses : ℕ → begun-lts.Claims
 uses t = (kind-at-reads.Asked, kind-at-reads.Learnt, bracket-below t, bracket.Post, bar-group-below t, bar-group.Post, unary-below t, unary.Post, binary-below t, binary.Post, leaf-reads.Asked, leaf-reads.Learnt)
 
 pub kind-at-requires : (t : ℕ) → begun-lts.Need-kind-at-requires (uses t) (begun-at t) begun.Post
-kind-at-requires t c κs = let S = c .before .before .before .before .before in
-    S .pre .1 .0 .safe .placed (S .args .i) (S .pre .1 .1 .1)
+kind-at-requires t c κs = search needs
 
 pub bracket-requires : (t : ℕ) → begun-lts.Need-bracket-requires (uses t) (begun-at t) begun.Post
 bracket-requires t c κs = let S = c .before .before .before .before .before .before .before .before .before in
@@ -47,11 +46,11 @@ unary-requires-3 t c κs = let S = c .before .before .before .before .before .be
 
 pub leaf-requires : (t : ℕ) → begun-lts.Need-leaf-requires (uses t) (begun-at t) begun.Post
 leaf-requires t c κs = let S = c .before .before .before .before .before .before .before .before .before .before .before .before .before .before .before in
-    (S .pre .1 .0 .safe .placed (S .args .i) (S .pre .1 .1 .1), omega (arith, S .pre .1 .0 .room))
+    omega (arith, S .pre .1 .0 .room)
 
 pub leaf-requires-2 : (t : ℕ) → begun-lts.Need-leaf-requires-2 (uses t) (begun-at t) begun.Post
 leaf-requires-2 t c κs = let S = c .before .before .before .before .before .before .before .before .before .before .before .before .before .before in
-    (S .pre .1 .0 .safe .placed (S .args .i) (S .pre .1 .1 .1), omega (arith, S .pre .1 .0 .room))
+    omega (arith, S .pre .1 .0 .room)
 
 pub same-length : (t : ℕ) → begun-lts.Need-same-length (uses t) (begun-at t) begun.Post
 same-length t c = search needs

@@ -1,5 +1,5 @@
 -- binary: what each way through it shows.
-use Prim.Native.Nat.{ℕ, _-_}
+use Prim.Native.Nat.{ℕ}
 use Rattle.parse.proofs.readers.binary.Reads as binary
 use Rattle.parse.proofs.readers.arg.Reads as arg
 use Rattle.parse.proofs.write.put_node.Reads as put-node-reads
@@ -27,7 +27,7 @@ arg-requires-2 t c κs = let S = c .before .before .before .before .before .befo
 
 pub put-node-requires : (t : ℕ) → binary-lts.Need-put-node-requires (uses t) (binary-at t) binary.Post
 put-node-requires t c κs = let S = c .before .before .before .before .before .before .before .before .before .before .before .before .before .before .before .before .before .before .before .before .before .before in
-    let m = c .before .before .before .before .before .before .before .before .before .before .before .before .before .before .before .arg .ensures .moves in let m2 = c .before .before .before .before .before .before .before .arg2 .ensures .moves in (safe-kept (m2 .kept) (safe-kept (m .kept) (S .pre .1 .0 .safe)) .placed (S .args .i) (S .pre .1 .1), omega (arith, S .pre .1 .0 .room, m .long, m2 .long))
+    let m = c .before .before .before .before .before .before .before .before .before .before .before .before .before .before .before .arg .ensures .moves in let m2 = c .before .before .before .before .before .before .before .arg2 .ensures .moves in omega (arith, S .pre .1 .0 .room, m .long, m2 .long)
 
 pub same-length : (t : ℕ) → binary-lts.Need-same-length (uses t) (binary-at t) binary.Post
 same-length t c = search needs

@@ -1,9 +1,9 @@
 -- headed: what each way through it shows.
-use Prim.Native.Nat.{ℕ, _-_}
+use Prim.Native.Nat.{ℕ}
 use Rattle.parse.proofs.readers.headed.Reads as headed
 use Rattle.parse.proofs.readers.next_script.Reads as next-script
 use Rattle.parse.proofs.readers.operand.Reads as operand
-use Rattle.parse.proofs.entry.is_at.Reads as is-at-reads
+use Rattle.records.proofs.tests.is_at.Reads as is-at-reads
 use Rattle.parse.proofs.write.put_node.Reads as put-node-reads
 use Rattle.parse.proofs.readers.+arg+bar_group+bars+begun+binary+bracket+extend+headed+more_rows+next_intermediate+next_row+next_rows+next_script+next_script_func+next_simple+open_group+operand+row_cells+try_matrix+unary.Lts-headed as headed-lts
 use Rattle.parse.proofs.readers.+arg+bar_group+bars+begun+binary+bracket+extend+headed+more_rows+next_intermediate+next_row+next_rows+next_script+next_script_func+next_simple+open_group+operand+row_cells+try_matrix+unary.Proof.Setting.{next-script-below, operand-below, headed-at}
@@ -17,8 +17,7 @@ abbrev pub uses : ℕ → headed-lts.Claims
 uses t = (is-at-reads.Asked, is-at-reads.Learnt, next-script-below t, next-script.Post, operand-below t, operand.Post, put-node-reads.Asked, put-node-reads.Learnt)
 
 pub is-at-requires : (t : ℕ) → headed-lts.Need-is-at-requires (uses t) (headed-at t) headed.Post
-is-at-requires t c κs = let S = c .before .before .before .before .before in
-    S .pre .1 .0 .safe .placed
+is-at-requires t c κs = search needs
 
 pub add-next-script : (t : ℕ) → headed-lts.Need-add-next-script (uses t) (headed-at t) headed.Post
 add-next-script t c = let S = c .before .before .before .before .before .before .before .before .before in
@@ -34,7 +33,7 @@ operand-requires t c κs = let S = c .before .before .before .before .before .be
 
 pub put-node-requires : (t : ℕ) → headed-lts.Need-put-node-requires (uses t) (headed-at t) headed.Post
 put-node-requires t c κs = let S = c .before .before .before .before .before .before .before .before .before .before .before .before .before .before .before .before .before .before .before .before .before .before .before .before .before in
-    let m = c .before .before .before .before .before .before .before .before .before .before .before .before .before .before .before .next-script .ensures .moves in let m2 = c .before .before .before .before .before .before .before .operand .ensures .moves in (safe-kept (m2 .kept) (safe-kept (m .kept) (S .pre .1 .0 .safe)) .placed (S .args .i) (S .pre .1 .1), omega (arith, S .pre .1 .0 .room, m .long, m2 .long))
+    let m = c .before .before .before .before .before .before .before .before .before .before .before .before .before .before .before .next-script .ensures .moves in let m2 = c .before .before .before .before .before .before .before .operand .ensures .moves in omega (arith, S .pre .1 .0 .room, m .long, m2 .long)
 
 pub add-operand : (t : ℕ) → headed-lts.Need-add-operand (uses t) (headed-at t) headed.Post
 add-operand t c = let S = c .before .before .before .before .before .before .before .before .before in
@@ -46,7 +45,7 @@ operand-requires-2 t c κs = let S = c .before .before .before .before .before .
 
 pub put-node-requires-2 : (t : ℕ) → headed-lts.Need-put-node-requires-2 (uses t) (headed-at t) headed.Post
 put-node-requires-2 t c κs = let S = c .before .before .before .before .before .before .before .before .before .before .before .before .before .before .before .before .before in
-    let m = c .before .before .before .before .before .before .before .operand2 .ensures .moves in (safe-kept (m .kept) (S .pre .1 .0 .safe) .placed (S .args .i) (S .pre .1 .1), omega (arith, S .pre .1 .0 .room, m .long))
+    let m = c .before .before .before .before .before .before .before .operand2 .ensures .moves in omega (arith, S .pre .1 .0 .room, m .long)
 
 pub same-length : (t : ℕ) → headed-lts.Need-same-length (uses t) (headed-at t) headed.Post
 same-length t c = search needs

@@ -3,15 +3,16 @@ use Prim.Native.Nat.{ℕ, _+_, _-_}
 use Rattle.parse.proofs.readers.more_rows.Reads as more-rows
 use Rattle.parse.proofs.readers.next_row.Reads as next-row
 use Rattle.parse.proofs.cursor.Cursor.next.Reads as next-reads
-use Rattle.parse.proofs.entry.is_at.Reads as is-at-reads
-use Rattle.parse.proofs.entry.same_brackets.Reads as same-brackets-reads
+use Rattle.records.proofs.tests.is_at.Reads as is-at-reads
+use Rattle.brackets.proofs.same_brackets.Reads as same-brackets-reads
 use Rattle.parse.proofs.readers.+arg+bar_group+bars+begun+binary+bracket+extend+headed+more_rows+next_intermediate+next_row+next_rows+next_script+next_script_func+next_simple+open_group+operand+row_cells+try_matrix+unary.Lts-more_rows as more-rows-lts
 use Rattle.parse.proofs.readers.+arg+bar_group+bars+begun+binary+bracket+extend+headed+more_rows+next_intermediate+next_row+next_rows+next_script+next_script_func+next_simple+open_group+operand+row_cells+try_matrix+unary.Proof.Setting.{next-row-below, more-rows-at}
 use mathlib.Core.Path.{_≡_, sym, _∙_}
 use native.Mathlib.Omega.{arith}
 use borrow.Author.Needs.{needs}
 use borrow.Author.Tests.{eq-eqb, ne-eqb}
-use Rattle.parse.proofs.Kit.{test-below, safe-kept}
+use Rattle.records.proofs.Places.{test-below}
+use Rattle.parse.proofs.Kit.{safe-kept}
 use Rattle.parse.proofs.Rows.{Inv, rows-none, rows-done, rows-broken, rows-differ, rows-more}
 
 abbrev pub uses : ℕ → more-rows-lts.Claims
@@ -28,8 +29,7 @@ rows-holds t c = let S = c .before .before .before .before in
     rows-none (S .args .cols) (S .args .left) (S .args .right) (S .args .c) (S .args .e) (S .args .tree .now) (S .pre .1 .0 .here) (S .pre .1 .0 .known)
 
 pub is-at-requires : (t : ℕ) → more-rows-lts.Need-is-at-requires (uses t) (more-rows-at t) more-rows.Post Inv-rows μ-rows
-is-at-requires t c κs = let S = c .before .before .before .before .before .before in
-    let v = c .before .rows .inv .moves in safe-kept (v .kept) (S .pre .1 .0 .safe) .placed
+is-at-requires t c κs = search needs
 
 pub next-requires : (t : ℕ) → more-rows-lts.Need-next-requires (uses t) (more-rows-at t) more-rows.Post Inv-rows μ-rows
 next-requires t c κs = let S = c .before .before .before .before .before .before .before .before .before .before in
@@ -54,8 +54,7 @@ add-same-brackets t c = let S = c .before .before .before .before .before .befor
     let b = test-below _ _ _ _ _ (sym (c .before .before .before .before .before .before .before .before .before .before .before .before .before .before .before .is-at .ensures) ∙ c .before .before .before .before .before .before .before .before .before .before .before .before .before .before .if1 .taken) in omega (arith, S .pre .1 .0 .safe .few)
 
 pub same-brackets-requires : (t : ℕ) → more-rows-lts.Need-same-brackets-requires (uses t) (more-rows-at t) more-rows.Post Inv-rows μ-rows
-same-brackets-requires t c κs = let S = c .before .before .before .before .before .before .before .before .before .before .before .before .before .before .before .before .before .before .before .before .before .before in
-    let f = (rw (c .before .before .before .close .given .1) at (c .before .before .before .before .before .before .before .before .before .before .next-row .ensures)) in let v = c .before .before .before .before .before .before .before .before .before .before .before .before .before .before .before .before .before .rows .inv .moves in let np : c .before .before .before .before .before .before .before .before .before .before .before .next .result .pos ≡ c .before .before .before .before .before .before .before .before .before .before .before .before .before .before .before .before .before .rows .cur .pos + 1 = rw (c .before .before .before .before .before .before .before .before .before .before .before .next .ensures) in (safe-kept (f .0 .kept) (safe-kept (v .kept) (S .pre .1 .0 .safe)), (S .pre .1 .1 .1 .0, (S .pre .1 .1 .1 .1, (omega (arith, f .2), f .3))))
+same-brackets-requires t c κs = search needs
 
 pub rows-less : (t : ℕ) → more-rows-lts.Need-rows-less (uses t) (more-rows-at t) more-rows.Post Inv-rows μ-rows
 rows-less t c = let f = (rw (c .before .before .before .before .before .close .given .1) at (c .before .before .before .before .before .before .before .before .before .before .before .before .next-row .ensures)) in let np : c .before .before .before .before .before .before .before .before .before .before .before .before .before .next .result .pos ≡ c .before .before .before .before .before .before .before .before .before .before .before .before .before .before .before .before .before .before .before .rows .cur .pos + 1 = rw (c .before .before .before .before .before .before .before .before .before .before .before .before .before .next .ensures) in omega (arith, f .0 .on, f .0 .within)

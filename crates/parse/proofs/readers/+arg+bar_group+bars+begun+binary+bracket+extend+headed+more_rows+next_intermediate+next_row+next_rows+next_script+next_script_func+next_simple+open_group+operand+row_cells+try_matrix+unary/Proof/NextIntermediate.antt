@@ -1,18 +1,19 @@
 -- next_intermediate: what each way through it shows.
-use Prim.Native.Nat.{ℕ, _+_, _-_}
+use Prim.Native.Nat.{ℕ, _+_}
 use Rattle.parse.proofs.readers.next_intermediate.Reads as next-intermediate
 use Rattle.parse.proofs.readers.next_script_func.Reads as next-script-func
 use Rattle.parse.proofs.readers.operand.Reads as operand
 use Rattle.parse.proofs.cursor.Cursor.look.Reads as look-reads
 use Rattle.parse.proofs.cursor.Cursor.next.Reads as next-reads
-use Rattle.parse.proofs.entry.is_at.Reads as is-at-reads
+use Rattle.records.proofs.tests.is_at.Reads as is-at-reads
 use Rattle.parse.proofs.write.put1.Reads as put1-reads
 use Rattle.parse.proofs.readers.+arg+bar_group+bars+begun+binary+bracket+extend+headed+more_rows+next_intermediate+next_row+next_rows+next_script+next_script_func+next_simple+open_group+operand+row_cells+try_matrix+unary.Lts-next_intermediate as next-intermediate-lts
 use Rattle.parse.proofs.readers.+arg+bar_group+bars+begun+binary+bracket+extend+headed+more_rows+next_intermediate+next_row+next_rows+next_script+next_script_func+next_simple+open_group+operand+row_cells+try_matrix+unary.Proof.Setting.{next-script-func-below, operand-below, next-intermediate-at}
 use mathlib.Core.Path.{_≡_, sym, ap, _∙_}
 use native.Mathlib.Omega.{arith}
 use borrow.Author.Needs.{needs}
-use Rattle.parse.proofs.Kit.{test-below, safe-kept}
+use Rattle.records.proofs.Places.{test-below}
+use Rattle.parse.proofs.Kit.{safe-kept}
 use Rattle.parse.proofs.Scripting.{item-nothing, item-plain, item-over}
 use mathlib.Core.List.{[], _∷_}
 use lib.ListN.{length}
@@ -36,8 +37,7 @@ pub enum-known-d-2 : (t : ℕ) → next-intermediate-lts.Need-enum-known-d-2 (us
 enum-known-d-2 t c = search needs
 
 pub is-at-requires : (t : ℕ) → next-intermediate-lts.Need-is-at-requires (uses t) (next-intermediate-at t) next-intermediate.Post
-is-at-requires t c κs = let S = c .before .before .before .before .before .before .before .before .before .before .before .before .before .before .before in
-    let f = (rw (c .before .before .d2 .given .1) at (c .before .before .before .before .before .before .before .before .next-script-func .ensures)) .0 in safe-kept (f .kept) (S .pre .1 .safe) .placed
+is-at-requires t c κs = search needs
 
 pub put1-requires : (t : ℕ) → next-intermediate-lts.Need-put1-requires (uses t) (next-intermediate-at t) next-intermediate.Post
 put1-requires t c κs = let S = c .before .before .before .before .before .before .before .before .before .before .before .before .before .before .before .before .before .before in

@@ -1,24 +1,23 @@
 -- next_row: what each way through it shows.
-use Prim.Native.Nat.{ℕ, _+_, _-_}
+use Prim.Native.Nat.{ℕ, _+_}
 use Rattle.parse.proofs.readers.next_row.Reads as next-row
 use Rattle.parse.proofs.readers.row_cells.Reads as row-cells
 use Rattle.parse.proofs.cursor.Cursor.next.Reads as next-reads
 use Rattle.parse.proofs.cursor.Cursor.over.Reads as over-reads
-use Rattle.parse.proofs.entry.is_at.Reads as is-at-reads
+use Rattle.records.proofs.tests.is_at.Reads as is-at-reads
 use Rattle.parse.proofs.readers.+arg+bar_group+bars+begun+binary+bracket+extend+headed+more_rows+next_intermediate+next_row+next_rows+next_script+next_script_func+next_simple+open_group+operand+row_cells+try_matrix+unary.Lts-next_row as next-row-lts
 use Rattle.parse.proofs.readers.+arg+bar_group+bars+begun+binary+bracket+extend+headed+more_rows+next_intermediate+next_row+next_rows+next_script+next_script_func+next_simple+open_group+operand+row_cells+try_matrix+unary.Proof.Setting.{row-cells-below, next-row-at}
 use mathlib.Core.Path.{_≡_, sym, _∙_}
 use native.Mathlib.Omega.{arith}
 use borrow.Author.Needs.{needs}
-use Rattle.parse.proofs.Kit.{test-below}
+use Rattle.records.proofs.Places.{test-below}
 use Rattle.parse.proofs.Cells.{row-met, row-none}
 
 abbrev pub uses : ℕ → next-row-lts.Claims
 uses t = (is-at-reads.Asked, is-at-reads.Learnt, next-reads.Asked, next-reads.Learnt, row-cells-below t, row-cells.Post, over-reads.Asked, over-reads.Learnt)
 
 pub is-at-requires : (t : ℕ) → next-row-lts.Need-is-at-requires (uses t) (next-row-at t) next-row.Post
-is-at-requires t c κs = let S = c .before .before .before .before .before in
-    S .pre .1 .safe .placed
+is-at-requires t c κs = search needs
 
 pub next-requires : (t : ℕ) → next-row-lts.Need-next-requires (uses t) (next-row-at t) next-row.Post
 next-requires t c κs = let S = c .before .before .before .before .before .before .before .before .before in

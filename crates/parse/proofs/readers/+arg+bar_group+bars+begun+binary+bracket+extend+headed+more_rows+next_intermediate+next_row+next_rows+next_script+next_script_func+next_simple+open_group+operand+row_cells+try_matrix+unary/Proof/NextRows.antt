@@ -1,9 +1,9 @@
 -- next_rows: what each way through it shows.
-use Prim.Native.Nat.{ℕ, _-_}
+use Prim.Native.Nat.{ℕ}
 use Rattle.parse.proofs.readers.more_rows.Reads as more-rows
 use Rattle.parse.proofs.readers.next_row.Reads as next-row
 use Rattle.parse.proofs.readers.next_rows.Reads as next-rows
-use Rattle.parse.proofs.entry.row_brackets.Reads as row-brackets-reads
+use Rattle.brackets.proofs.row_brackets.Reads as row-brackets-reads
 use Rattle.parse.proofs.readers.+arg+bar_group+bars+begun+binary+bracket+extend+headed+more_rows+next_intermediate+next_row+next_rows+next_script+next_script_func+next_simple+open_group+operand+row_cells+try_matrix+unary.Lts-next_rows as next-rows-lts
 use Rattle.parse.proofs.readers.+arg+bar_group+bars+begun+binary+bracket+extend+headed+more_rows+next_intermediate+next_row+next_rows+next_script+next_script_func+next_simple+open_group+operand+row_cells+try_matrix+unary.Proof.Setting.{more-rows-below, next-row-below, next-rows-at}
 use mathlib.Core.Path.{sym, _∙_}
@@ -26,8 +26,7 @@ pub enum-known-close : (t : ℕ) → next-rows-lts.Need-enum-known-close (uses t
 enum-known-close t c = search needs
 
 pub row-brackets-requires : (t : ℕ) → next-rows-lts.Need-row-brackets-requires (uses t) (next-rows-at t) next-rows.Post
-row-brackets-requires t c κs = let S = c .before .before .before .before .before .before .before .before .before .before .before .before .before .before .before .before in
-    let f = (rw (c .before .before .close .given .1) at (c .before .before .before .before .before .before .before .before .before .next-row .ensures)) in (safe-kept (f .0 .kept) (S .pre .1 .safe), (f .2, f .3))
+row-brackets-requires t c κs = search needs
 
 pub more-rows-requires : (t : ℕ) → next-rows-lts.Need-more-rows-requires (uses t) (next-rows-at t) next-rows.Post
 more-rows-requires t c κs = let S = c .before .before .before .before .before .before .before .before .before .before .before .before .before .before .before .before .before .before .before .before in

@@ -1,30 +1,29 @@
 -- next_script: what each way through it shows.
-use Prim.Native.Nat.{ℕ, _+_, _-_}
+use Prim.Native.Nat.{ℕ, _+_}
 use Rattle.parse.proofs.readers.next_script.Reads as next-script
 use Rattle.parse.proofs.readers.arg.Reads as arg
 use Rattle.parse.proofs.cursor.Cursor.look.Reads as look-reads
 use Rattle.parse.proofs.cursor.Cursor.next.Reads as next-reads
-use Rattle.parse.proofs.entry.is_at.Reads as is-at-reads
-use Rattle.parse.proofs.entry.marks_at.Reads as marks-at-reads
+use Rattle.records.proofs.tests.is_at.Reads as is-at-reads
+use Rattle.records.proofs.tests.marks_at.Reads as marks-at-reads
 use Rattle.parse.proofs.readers.+arg+bar_group+bars+begun+binary+bracket+extend+headed+more_rows+next_intermediate+next_row+next_rows+next_script+next_script_func+next_simple+open_group+operand+row_cells+try_matrix+unary.Lts-next_script as next-script-lts
 use Rattle.parse.proofs.readers.+arg+bar_group+bars+begun+binary+bracket+extend+headed+more_rows+next_intermediate+next_row+next_rows+next_script+next_script_func+next_simple+open_group+operand+row_cells+try_matrix+unary.Proof.Setting.{arg-below, next-script-at}
 use mathlib.Core.Path.{_≡_, sym, _∙_}
 use native.Mathlib.Omega.{arith}
 use borrow.Author.Needs.{needs}
-use Rattle.parse.specs.Entry.{isKind, marksKind}
-use Rattle.parse.proofs.Kit.{test-below, safe-kept}
+use Rattle.records.specs.Tests.{isKind, marksKind}
+use Rattle.records.proofs.Places.{test-below}
+use Rattle.parse.proofs.Kit.{safe-kept}
 use Rattle.parse.proofs.Arms.{scripts-none, scripts-super, scripts-sub, scripts-both}
 
 abbrev pub uses : ℕ → next-script-lts.Claims
 uses t = (marks-at-reads.Asked, marks-at-reads.Learnt, is-at-reads.Asked, is-at-reads.Learnt, next-reads.Asked, next-reads.Learnt, arg-below t, arg.Post, look-reads.Asked, look-reads.Learnt)
 
 pub marks-at-requires : (t : ℕ) → next-script-lts.Need-marks-at-requires (uses t) (next-script-at t) next-script.Post
-marks-at-requires t c κs = let S = c .before .before .before .before .before in
-    S .pre .1 .safe .placed
+marks-at-requires t c κs = search needs
 
 pub is-at-requires : (t : ℕ) → next-script-lts.Need-is-at-requires (uses t) (next-script-at t) next-script.Post
-is-at-requires t c κs = let S = c .before .before .before .before .before .before .before .before in
-    S .pre .1 .safe .placed
+is-at-requires t c κs = search needs
 
 pub next-requires : (t : ℕ) → next-script-lts.Need-next-requires (uses t) (next-script-at t) next-script.Post
 next-requires t c κs = let S = c .before .before .before .before .before .before .before .before .before .before .before .before in
@@ -43,8 +42,7 @@ arg-requires-2 t c κs = let S = c .before .before .before .before .before .befo
     let b = test-below (S .args .tok .now) (S .args .work .now) (S .args .n) marksKind (S .args .c .pos) (sym (c .before .before .before .before .before .before .before .marks-at .ensures) ∙ c .before .before .before .before .before .before .if1 .taken) in let np : c .next2 .result .pos ≡ S .args .c .pos + 1 = rw (c .next2 .ensures) in let nd : c .next2 .result .depth ≡ S .args .c .depth = rw (c .next2 .ensures) in (omega (arith, S .pre .0), record { safe = S .pre .1 .safe; known = S .pre .1 .known; here = omega arith; room = omega (arith, S .pre .1 .room) })
 
 pub is-at-requires-2 : (t : ℕ) → next-script-lts.Need-is-at-requires-2 (uses t) (next-script-at t) next-script.Post
-is-at-requires-2 t c κs = let S = c .before .before .before .before .before .before .before .before .before .before .before .before .before .before .before .before .before .before .before .before in
-    let m = c .before .before .before .before .before .before .arg2 .ensures .moves in safe-kept (m .kept) (S .pre .1 .safe) .placed
+is-at-requires-2 t c κs = search needs
 
 pub next-requires-3 : (t : ℕ) → next-script-lts.Need-next-requires-3 (uses t) (next-script-at t) next-script.Post
 next-requires-3 t c κs = let S = c .before .before .before .before .before .before .before .before .before .before .before .before .before .before .before .before .before .before .before .before .before .before .before .before in

@@ -1,5 +1,5 @@
 -- next_script_func: what each way through it shows.
-use Prim.Native.Nat.{ℕ, _+_, _-_}
+use Prim.Native.Nat.{ℕ, _+_}
 use Rattle.parse.proofs.readers.headed.Reads as headed
 use Rattle.parse.proofs.readers.next_script.Reads as next-script
 use Rattle.parse.proofs.readers.next_script_func.Reads as next-script-func
@@ -8,15 +8,16 @@ use Rattle.parse.proofs.cursor.Cursor.at_depth.Reads as at-depth-reads
 use Rattle.parse.proofs.cursor.Cursor.deeper.Reads as deeper-reads
 use Rattle.parse.proofs.cursor.Cursor.look.Reads as look-reads
 use Rattle.parse.proofs.cursor.Cursor.next.Reads as next-reads
-use Rattle.parse.proofs.entry.heads_at.Reads as heads-at-reads
+use Rattle.records.proofs.tests.heads_at.Reads as heads-at-reads
 use Rattle.parse.proofs.write.put6.Reads as put6-reads
 use Rattle.parse.proofs.readers.+arg+bar_group+bars+begun+binary+bracket+extend+headed+more_rows+next_intermediate+next_row+next_rows+next_script+next_script_func+next_simple+open_group+operand+row_cells+try_matrix+unary.Lts-next_script_func as next-script-func-lts
 use Rattle.parse.proofs.readers.+arg+bar_group+bars+begun+binary+bracket+extend+headed+more_rows+next_intermediate+next_row+next_rows+next_script+next_script_func+next_simple+open_group+operand+row_cells+try_matrix+unary.Proof.Setting.{headed-below, next-script-below, next-simple-below, next-script-func-at}
 use mathlib.Core.Path.{_≡_, sym, _∙_}
 use native.Mathlib.Omega.{arith}
 use borrow.Author.Needs.{needs}
-use Rattle.parse.specs.Entry.{headsKind}
-use Rattle.parse.proofs.Kit.{test-below, safe-kept}
+use Rattle.records.specs.Tests.{headsKind}
+use Rattle.records.proofs.Places.{test-below}
+use Rattle.parse.proofs.Kit.{safe-kept}
 use Rattle.parse.proofs.Scripting.{script-deep, script-nothing, script-scripted, script-headed}
 
 abbrev pub uses : ℕ → next-script-func-lts.Claims
@@ -27,8 +28,7 @@ returns t c = let S = c .before .before .before .before .before in
     script-deep (S .args .stop) (S .args .sign) (c .if1 .taken) (S .pre .1 .here) (S .pre .1 .known)
 
 pub heads-at-requires : (t : ℕ) → next-script-func-lts.Need-heads-at-requires (uses t) (next-script-func-at t) next-script-func.Post
-heads-at-requires t c κs = let S = c .before .before .before .before .before .before in
-    S .pre .1 .safe .placed
+heads-at-requires t c κs = search needs
 
 pub next-requires : (t : ℕ) → next-script-func-lts.Need-next-requires (uses t) (next-script-func-at t) next-script-func.Post
 next-requires t c κs = let S = c .before .before .before .before .before .before .before .before .before .before in

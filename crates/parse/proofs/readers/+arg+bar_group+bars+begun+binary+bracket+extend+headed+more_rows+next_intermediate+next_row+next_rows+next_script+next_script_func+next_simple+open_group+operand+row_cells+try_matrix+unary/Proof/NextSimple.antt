@@ -1,19 +1,19 @@
 -- next_simple: what each way through it shows.
-use Prim.Native.Nat.{ℕ, _+_, _-_}
+use Prim.Native.Nat.{ℕ, _+_}
 use Rattle.parse.proofs.readers.begun.Reads as begun
 use Rattle.parse.proofs.readers.next_simple.Reads as next-simple
 use Rattle.parse.proofs.cursor.Cursor.at_depth.Reads as at-depth-reads
 use Rattle.parse.proofs.cursor.Cursor.deeper.Reads as deeper-reads
 use Rattle.parse.proofs.cursor.Cursor.look.Reads as look-reads
 use Rattle.parse.proofs.cursor.Cursor.next.Reads as next-reads
-use Rattle.parse.proofs.entry.begins_at.Reads as begins-at-reads
+use Rattle.records.proofs.tests.begins_at.Reads as begins-at-reads
 use Rattle.parse.proofs.readers.+arg+bar_group+bars+begun+binary+bracket+extend+headed+more_rows+next_intermediate+next_row+next_rows+next_script+next_script_func+next_simple+open_group+operand+row_cells+try_matrix+unary.Lts-next_simple as next-simple-lts
 use Rattle.parse.proofs.readers.+arg+bar_group+bars+begun+binary+bracket+extend+headed+more_rows+next_intermediate+next_row+next_rows+next_script+next_script_func+next_simple+open_group+operand+row_cells+try_matrix+unary.Proof.Setting.{begun-below, next-simple-at}
 use mathlib.Core.Path.{_≡_, sym, _∙_}
 use native.Mathlib.Omega.{arith}
 use borrow.Author.Needs.{needs}
-use Rattle.parse.specs.Entry.{beginsKind}
-use Rattle.parse.proofs.Kit.{test-below}
+use Rattle.records.specs.Tests.{beginsKind}
+use Rattle.records.proofs.Places.{test-below}
 use Rattle.parse.proofs.Begins.{simple-nothing, simple-begun}
 use Rattle.parse.proofs.Scripting.{simple-deep}
 
@@ -25,8 +25,7 @@ returns t c = let S = c .before .before .before .before .before in
     simple-deep (S .args .stop) (S .args .sign) (c .if1 .taken) (S .pre .1 .here) (S .pre .1 .known)
 
 pub begins-at-requires : (t : ℕ) → next-simple-lts.Need-begins-at-requires (uses t) (next-simple-at t) next-simple.Post
-begins-at-requires t c κs = let S = c .before .before .before .before .before .before in
-    S .pre .1 .safe .placed
+begins-at-requires t c κs = search needs
 
 pub next-requires : (t : ℕ) → next-simple-lts.Need-next-requires (uses t) (next-simple-at t) next-simple.Post
 next-requires t c κs = let S = c .before .before .before .before .before .before .before .before .before .before in

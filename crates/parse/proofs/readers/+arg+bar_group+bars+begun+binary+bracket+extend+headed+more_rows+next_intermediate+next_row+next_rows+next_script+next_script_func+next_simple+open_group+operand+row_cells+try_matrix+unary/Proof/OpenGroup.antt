@@ -1,18 +1,18 @@
 -- open_group: what each way through it shows.
-use Prim.Native.Nat.{ℕ, _-_}
+use Prim.Native.Nat.{ℕ}
 use Rattle.parse.proofs.readers.extend.Reads as extend
 use Rattle.parse.proofs.readers.open_group.Reads as open-group
 use Rattle.parse.proofs.cursor.Cursor.look.Reads as look-reads
 use Rattle.parse.proofs.cursor.Cursor.next.Reads as next-reads
-use Rattle.parse.proofs.entry.is_at.Reads as is-at-reads
+use Rattle.records.proofs.tests.is_at.Reads as is-at-reads
 use Rattle.parse.proofs.write.put_group.Reads as put-group-reads
 use Rattle.parse.proofs.readers.+arg+bar_group+bars+begun+binary+bracket+extend+headed+more_rows+next_intermediate+next_row+next_rows+next_script+next_script_func+next_simple+open_group+operand+row_cells+try_matrix+unary.Lts-open_group as open-group-lts
 use Rattle.parse.proofs.readers.+arg+bar_group+bars+begun+binary+bracket+extend+headed+more_rows+next_intermediate+next_row+next_rows+next_script+next_script_func+next_simple+open_group+operand+row_cells+try_matrix+unary.Proof.Setting.{extend-below, open-group-at}
 use mathlib.Core.Path.{sym, _∙_}
 use native.Mathlib.Omega.{arith}
 use borrow.Author.Needs.{needs}
-use Rattle.parse.specs.Entry.{isKind}
-use Rattle.parse.proofs.Kit.{test-below, safe-kept}
+use Rattle.records.specs.Tests.{isKind}
+use Rattle.records.proofs.Places.{test-below}
 use Rattle.parse.proofs.Scripting.{group-shut, group-open}
 
 abbrev pub uses : ℕ → open-group-lts.Claims
@@ -27,12 +27,11 @@ extend-requires t c κs = let S = c .before .before .before .before .before .bef
     (omega (arith, S .pre .0), record { safe = S .pre .1 .0 .safe; known = S .pre .1 .0 .known; here = S .pre .1 .0 .here; room = omega (arith, S .pre .1 .0 .room) })
 
 pub is-at-requires : (t : ℕ) → open-group-lts.Need-is-at-requires (uses t) (open-group-at t) open-group.Post
-is-at-requires t c κs = let S = c .before .before .before .before .before .before .before .before .before .before .before .before .before in
-    let m = c .before .before .before .before .before .before .extend .ensures .moves in safe-kept (m .kept) (S .pre .1 .0 .safe) .placed
+is-at-requires t c κs = search needs
 
 pub put-group-requires : (t : ℕ) → open-group-lts.Need-put-group-requires (uses t) (open-group-at t) open-group.Post
 put-group-requires t c κs = let S = c .before .before .before .before .before .before .before .before .before .before .before .before .before .before .before .before .before in
-    let m = c .before .before .before .before .before .before .before .before .before .before .extend .ensures .moves in (safe-kept (m .kept) (S .pre .1 .0 .safe) .placed, (S .pre .1 .1, omega (arith, S .pre .1 .0 .room, m .long)))
+    let m = c .before .before .before .before .before .before .before .before .before .before .extend .ensures .moves in omega (arith, S .pre .1 .0 .room, m .long)
 
 pub next-requires : (t : ℕ) → open-group-lts.Need-next-requires (uses t) (open-group-at t) open-group.Post
 next-requires t c κs = let S = c .before .before .before .before .before .before .before .before .before .before .before .before .before .before .before .before .before .before .before .before in
@@ -40,7 +39,7 @@ next-requires t c κs = let S = c .before .before .before .before .before .befor
 
 pub put-group-requires-2 : (t : ℕ) → open-group-lts.Need-put-group-requires-2 (uses t) (open-group-at t) open-group.Post
 put-group-requires-2 t c κs = let S = c .before .before .before .before .before .before .before .before .before .before .before .before .before .before .before .before .before in
-    let m = c .before .before .before .before .before .before .before .before .before .before .extend .ensures .moves in (safe-kept (m .kept) (S .pre .1 .0 .safe) .placed, (S .pre .1 .1, omega (arith, S .pre .1 .0 .room, m .long)))
+    let m = c .before .before .before .before .before .before .before .before .before .before .extend .ensures .moves in omega (arith, S .pre .1 .0 .room, m .long)
 
 pub look-requires : (t : ℕ) → open-group-lts.Need-look-requires (uses t) (open-group-at t) open-group.Post
 look-requires t c κs = search needs

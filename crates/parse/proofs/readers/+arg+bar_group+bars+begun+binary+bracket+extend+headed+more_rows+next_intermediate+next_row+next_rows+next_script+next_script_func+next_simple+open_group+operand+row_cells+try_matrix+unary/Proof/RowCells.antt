@@ -1,17 +1,18 @@
 -- row_cells: what each way through it shows.
+use borrow.Author.Needs.{needs}
 use Prim.Native.Nat.{ℕ, _+_, _-_}
 use Rattle.parse.proofs.readers.extend.Reads as extend
 use Rattle.parse.proofs.readers.row_cells.Reads as row-cells
 use Rattle.parse.proofs.cursor.Cursor.over.Reads as over-reads
-use Rattle.parse.proofs.entry.is_at.Reads as is-at-reads
+use Rattle.records.proofs.tests.is_at.Reads as is-at-reads
 use Rattle.parse.proofs.write.put6.Reads as put6-reads
 use Rattle.parse.proofs.readers.+arg+bar_group+bars+begun+binary+bracket+extend+headed+more_rows+next_intermediate+next_row+next_rows+next_script+next_script_func+next_simple+open_group+operand+row_cells+try_matrix+unary.Lts-row_cells as row-cells-lts
 use Rattle.parse.proofs.readers.+arg+bar_group+bars+begun+binary+bracket+extend+headed+more_rows+next_intermediate+next_row+next_rows+next_script+next_script_func+next_simple+open_group+operand+row_cells+try_matrix+unary.Proof.Setting.{extend-below, row-cells-at}
 use mathlib.Core.Path.{_≡_, refl, sym, ap, _∙_}
 use native.Mathlib.Omega.{arith}
-use Rattle.parse.proofs.Kit.{test-below, safe-kept}
+use Rattle.records.proofs.Places.{test-below}
+use Rattle.parse.proofs.Kit.{safe-kept, some-at}
 use Rattle.parse.proofs.Cells.{Inv, cells-none, cells-more, cells-shut, cells-broken, passing-in}
-use Rattle.parse.proofs.Kit.{some-at}
 use mathlib.Core.Option.{none}
 use Rattle.reading.specs.Reading.{prefixes}
 use Rattle.parse.specs.declared.cursor.Cursor.{Cursor}
@@ -62,8 +63,7 @@ over-requires t c κs = let S = c .before .before .before .before .before .befor
     S .pre .1 .safe .few
 
 pub is-at-requires : (t : ℕ) → row-cells-lts.Need-is-at-requires (uses t) (row-cells-at t) row-cells.Post Inv-cells μ-cells
-is-at-requires t c κs = let S = c .before .before .before .before .before .before .before .before .before .before .before .before .before .before .before .before .before .before .before in
-    let v = c .before .before .before .before .before .before .before .before .before .before .before .before .before .before .cells .inv .moves in let m = c .before .before .before .before .before .before .before .before .before .before .before .extend .ensures .moves in safe-kept (m .kept) (safe-kept (v .kept) (S .pre .1 .safe)) .placed
+is-at-requires t c κs = search needs
 
 pub cells-less : (t : ℕ) → row-cells-lts.Need-cells-less (uses t) (row-cells-at t) row-cells.Post Inv-cells μ-cells
 cells-less t c = let S = c .before .before .before .before .before .before .before .before .before .before .before .before .before .before .before .before .before .before .before .before .before in
@@ -74,8 +74,7 @@ cells-again t c = let S = c .before .before .before .before .before .before .bef
     rw (c .before .before .before .over .ensures) (cells-more (S .args .c) (S .args .e) (S .args .tree .now) (c .before .before .before .before .before .before .before .before .before .before .before .before .before .before .before .before .cells .inv) (c .before .before .before .before .before .before .before .before .before .before .before .before .before .extend .ensures) refl (c .before .before .before .before .before .before .put6 .ensures) (S .pre .1 .room) (sym (c .before .is-at .ensures) ∙ c .if1 .taken))
 
 pub is-at-requires-2 : (t : ℕ) → row-cells-lts.Need-is-at-requires-2 (uses t) (row-cells-at t) row-cells.Post Inv-cells μ-cells
-is-at-requires-2 t c κs = let S = c .before .before .before .before .before .before .before .before .before .before .before .before .before .before .before .before .before .before .before .before .before .before in
-    let v = c .before .before .before .before .before .before .before .before .before .before .before .before .before .before .before .before .before .cells .inv .moves in let m = c .before .before .before .before .before .before .before .before .before .before .before .before .before .before .extend .ensures .moves in safe-kept (m .kept) (safe-kept (v .kept) (S .pre .1 .safe)) .placed
+is-at-requires-2 t c κs = search needs
 
 pub same-length : (t : ℕ) → row-cells-lts.Need-same-length (uses t) (row-cells-at t) row-cells.Post Inv-cells μ-cells
 same-length t c = omega (arith, c .before .before .before .before .before .before .before .before .before .before .before .before .before .before .before .before .before .before .before .cells .inv .moves .kept .long, c .before .before .before .before .before .before .before .before .before .before .before .before .before .before .before .before .extend .kept .1 .1 .1 .0)

@@ -1,35 +1,31 @@
 -- try_matrix: what each way through it shows.
-use Prim.Native.Nat.{ℕ, _-_}
+use Prim.Native.Nat.{ℕ}
 use Rattle.parse.proofs.readers.next_rows.Reads as next-rows
 use Rattle.parse.proofs.readers.try_matrix.Reads as try-matrix
 use Rattle.parse.proofs.columns.split_column_lines.Reads as split-column-lines-reads
 use Rattle.parse.proofs.cursor.Cursor.next.Reads as next-reads
 use Rattle.parse.proofs.cursor.Cursor.rewind.Reads as rewind-reads
-use Rattle.parse.proofs.entry.could_be_matrix.Reads as could-be-matrix-reads
-use Rattle.parse.proofs.entry.failed_at.Reads as failed-at-reads
-use Rattle.parse.proofs.entry.makes_matrix.Reads as makes-matrix-reads
-use Rattle.parse.proofs.entry.mark_failed.Reads as mark-failed-reads
+use Rattle.brackets.proofs.could_be_matrix.Reads as could-be-matrix-reads
+use Rattle.records.proofs.marks.failed_at.Reads as failed-at-reads
+use Rattle.brackets.proofs.makes_matrix.Reads as makes-matrix-reads
+use Rattle.records.proofs.marks.mark_failed.Reads as mark-failed-reads
 use Rattle.parse.proofs.write.put_matrix.Reads as put-matrix-reads
 use Rattle.parse.proofs.readers.+arg+bar_group+bars+begun+binary+bracket+extend+headed+more_rows+next_intermediate+next_row+next_rows+next_script+next_script_func+next_simple+open_group+operand+row_cells+try_matrix+unary.Lts-try_matrix as try-matrix-lts
 use Rattle.parse.proofs.readers.+arg+bar_group+bars+begun+binary+bracket+extend+headed+more_rows+next_intermediate+next_row+next_rows+next_script+next_script_func+next_simple+open_group+operand+row_cells+try_matrix+unary.Proof.Setting.{next-rows-below, try-matrix-at}
 use mathlib.Core.Path.{sym, _∙_}
 use native.Mathlib.Omega.{arith}
 use borrow.Author.Needs.{needs}
-use Rattle.parse.proofs.Kit.{safe-kept}
+use Rattle.parse.proofs.Kit.{safe-kept, some-at}
 use Rattle.parse.proofs.Matrices.{try-shut, try-known, try-broken, try-unmade, try-made, split-ready, makes-below}
-use Rattle.parse.proofs.Attempts.{mark-below}
-use Rattle.parse.proofs.Kit.{some-at}
 
 abbrev pub uses : ℕ → try-matrix-lts.Claims
 uses t = (could-be-matrix-reads.Asked, could-be-matrix-reads.Learnt, failed-at-reads.Asked, failed-at-reads.Learnt, next-rows-below t, next-rows.Post, split-column-lines-reads.Asked, split-column-lines-reads.Learnt, makes-matrix-reads.Asked, makes-matrix-reads.Learnt, put-matrix-reads.Asked, put-matrix-reads.Learnt, next-reads.Asked, next-reads.Learnt, mark-failed-reads.Asked, mark-failed-reads.Learnt, rewind-reads.Asked, rewind-reads.Learnt)
 
 pub could-be-matrix-requires : (t : ℕ) → try-matrix-lts.Need-could-be-matrix-requires (uses t) (try-matrix-at t) try-matrix.Post
-could-be-matrix-requires t c κs = let S = c .before .before .before .before .before in
-    (S .pre .1 .0 .safe, S .pre .1 .1)
+could-be-matrix-requires t c κs = search needs
 
 pub failed-at-requires : (t : ℕ) → try-matrix-lts.Need-failed-at-requires (uses t) (try-matrix-at t) try-matrix.Post
-failed-at-requires t c κs = let S = c .before .before .before .before .before .before .before .before in
-    ((S .pre .1 .0 .safe .placed (S .args .i) (S .pre .1 .1)) .fit, omega arith)
+failed-at-requires t c κs = search needs
 
 pub same-length : (t : ℕ) → try-matrix-lts.Need-same-length (uses t) (try-matrix-at t) try-matrix.Post
 same-length t c = search needs
@@ -58,8 +54,7 @@ split-column-lines-requires t c κs = let S = c .before .before .before .before 
     let p = rw (c .before .enum-told .given .1) at (c .before .before .before .before .before .before .before .before .next-rows .ensures) in split-ready (p .4 _ _ (some-at (S .pre .1 .0 .known) (S .args .c .pos) (S .args .c .takes))) (p .1) (p .2) (omega (arith, p .0 .on, p .0 .within, S .pre .1 .0 .safe .few)) (omega (arith, S .pre .1 .0 .room, p .0 .room, p .0 .long))
 
 pub makes-matrix-requires : (t : ℕ) → try-matrix-lts.Need-makes-matrix-requires (uses t) (try-matrix-at t) try-matrix.Post
-makes-matrix-requires t c κs = let S = c .before .before .before .before .before .before .before .before .before .before .before .before .before .before .before .before .before .before .before .before .before .before .before .before .before in
-    let p = rw (c .before .before .before .before .before .enum-told .given .1) at (c .before .before .before .before .before .before .before .before .before .before .before .before .next-rows .ensures) in (safe-kept (p .0 .kept) (S .pre .1 .0 .safe), (S .pre .1 .1, p .3))
+makes-matrix-requires t c κs = search needs
 
 pub cast-put-matrix : (t : ℕ) → try-matrix-lts.Need-cast-put-matrix (uses t) (try-matrix-at t) try-matrix.Post
 cast-put-matrix t c = let S = c .before .before .before .before .before .before .before .before .before .before .before .before .before .before .before .before .before .before .before .before .before .before .before .before .before .before .before .before .before .before in
@@ -75,15 +70,14 @@ cast-put-matrix-3 t c = let S = c .before .before .before .before .before .befor
 
 pub put-matrix-requires : (t : ℕ) → try-matrix-lts.Need-put-matrix-requires (uses t) (try-matrix-at t) try-matrix.Post
 put-matrix-requires t c κs = let S = c .before .before .before .before .before .before .before .before .before .before .before .before .before .before .before .before .before .before .before .before .before .before .before .before .before .before .before .before .before .before .before .before in
-    let p = rw (c .before .before .before .before .before .before .before .before .before .before .before .before .enum-told .given .1) at (c .before .before .before .before .before .before .before .before .before .before .before .before .before .before .before .before .before .before .before .next-rows .ensures) in let sj = safe-kept (p .0 .kept) (S .pre .1 .0 .safe) in let b = makes-below _ _ _ _ _ _ _ _ (sym (c .before .before .before .before .before .before .makes-matrix .ensures) ∙ c .before .before .before .before .before .if3 .taken) in (sj .placed (S .args .i) (S .pre .1 .1), (sj .placed _ b, omega (arith, S .pre .1 .0 .room, p .0 .long, c .before .before .before .before .before .before .before .before .before .before .split-column-lines .kept .1 .0)))
+    let p = rw (c .before .before .before .before .before .before .before .before .before .before .before .before .enum-told .given .1) at (c .before .before .before .before .before .before .before .before .before .before .before .before .before .before .before .before .before .before .before .next-rows .ensures) in let sj = safe-kept (p .0 .kept) (S .pre .1 .0 .safe) in let b = makes-below _ _ _ _ _ _ _ _ (sym (c .before .before .before .before .before .before .makes-matrix .ensures) ∙ c .before .before .before .before .before .if3 .taken) in omega (arith, S .pre .1 .0 .room, p .0 .long, c .before .before .before .before .before .before .before .before .before .before .split-column-lines .kept .1 .0)
 
 pub next-requires : (t : ℕ) → try-matrix-lts.Need-next-requires (uses t) (try-matrix-at t) try-matrix.Post
 next-requires t c κs = let S = c .before .before .before .before .before .before .before .before .before .before .before .before .before .before .before .before .before .before .before .before .before .before .before .before .before .before .before .before .before .before .before .before .before .before .before in
     let b = makes-below _ _ _ _ _ _ _ _ (sym (c .before .before .before .before .before .before .before .before .before .makes-matrix .ensures) ∙ c .before .before .before .before .before .before .before .before .if3 .taken) in omega (arith, S .pre .1 .0 .safe .few)
 
 pub mark-failed-requires : (t : ℕ) → try-matrix-lts.Need-mark-failed-requires (uses t) (try-matrix-at t) try-matrix.Post
-mark-failed-requires t c κs = let S = c .before .before .before .before .before .before .before .before .before .before .before .before .before .before .before .before .before .before .before .before .before .before .before .before .before .before .before .before in
-    let p = rw (c .before .before .before .before .before .before .before .before .enum-told .given .1) at (c .before .before .before .before .before .before .before .before .before .before .before .before .before .before .before .next-rows .ensures) in let sj = safe-kept (p .0 .kept) (S .pre .1 .0 .safe) in (((sj .placed (S .args .i) (S .pre .1 .1)) .fit), (mark-below (S .args .i) (p .0 .known .marks) (S .pre .1 .1), (omega arith, omega arith)))
+mark-failed-requires t c κs = search needs
 
 pub rewind-requires : (t : ℕ) → try-matrix-lts.Need-rewind-requires (uses t) (try-matrix-at t) try-matrix.Post
 rewind-requires t c κs = search needs
@@ -92,8 +86,7 @@ pub enum-told-2 : (t : ℕ) → try-matrix-lts.Need-enum-told-2 (uses t) (try-ma
 enum-told-2 t c = search needs
 
 pub mark-failed-requires-2 : (t : ℕ) → try-matrix-lts.Need-mark-failed-requires-2 (uses t) (try-matrix-at t) try-matrix.Post
-mark-failed-requires-2 t c κs = let S = c .before .before .before .before .before .before .before .before .before .before .before .before .before .before .before .before .before .before .before .before .before in
-    let p = rw (c .before .enum-told2 .given .1) at (c .before .before .before .before .before .before .before .before .next-rows .ensures) in let sj = safe-kept (p .0 .kept) (S .pre .1 .0 .safe) in (((sj .placed (S .args .i) (S .pre .1 .1)) .fit), (mark-below (S .args .i) (p .0 .known .marks) (S .pre .1 .1), (omega arith, omega arith)))
+mark-failed-requires-2 t c κs = search needs
 
 pub rewind-requires-2 : (t : ℕ) → try-matrix-lts.Need-rewind-requires-2 (uses t) (try-matrix-at t) try-matrix.Post
 rewind-requires-2 t c κs = search needs
@@ -102,8 +95,7 @@ pub enum-told-3 : (t : ℕ) → try-matrix-lts.Need-enum-told-3 (uses t) (try-ma
 enum-told-3 t c = search needs
 
 pub mark-failed-requires-3 : (t : ℕ) → try-matrix-lts.Need-mark-failed-requires-3 (uses t) (try-matrix-at t) try-matrix.Post
-mark-failed-requires-3 t c κs = let S = c .before .before .before .before .before .before .before .before .before .before .before .before .before .before .before .before .before .before .before .before .before in
-    let p = rw (c .before .enum-told3 .given .1) at (c .before .before .before .before .before .before .before .before .next-rows .ensures) in let sj = safe-kept (p .0 .kept) (S .pre .1 .0 .safe) in (((sj .placed (S .args .i) (S .pre .1 .1)) .fit), (mark-below (S .args .i) (p .0 .known .marks) (S .pre .1 .1), (omega arith, omega arith)))
+mark-failed-requires-3 t c κs = search needs
 
 pub rewind-requires-3 : (t : ℕ) → try-matrix-lts.Need-rewind-requires-3 (uses t) (try-matrix-at t) try-matrix.Post
 rewind-requires-3 t c κs = search needs

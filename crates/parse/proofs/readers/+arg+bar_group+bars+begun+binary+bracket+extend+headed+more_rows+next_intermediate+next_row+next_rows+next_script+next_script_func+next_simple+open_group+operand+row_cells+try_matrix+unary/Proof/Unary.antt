@@ -1,5 +1,5 @@
 -- unary: what each way through it shows.
-use Prim.Native.Nat.{ℕ, _-_}
+use Prim.Native.Nat.{ℕ}
 use Rattle.parse.proofs.readers.arg.Reads as arg
 use Rattle.parse.proofs.readers.unary.Reads as unary
 use Rattle.parse.proofs.write.put_node.Reads as put-node-reads
@@ -7,7 +7,6 @@ use Rattle.parse.proofs.readers.+arg+bar_group+bars+begun+binary+bracke
 use Rattle.parse.proofs.readers.+arg+bar_group+bars+begun+binary+bracket+extend+headed+more_rows+next_intermediate+next_row+next_rows+next_script+next_script_func+next_simple+open_group+operand+row_cells+try_matrix+unary.Proof.Setting.{arg-below, unary-at}
 use native.Mathlib.Omega.{arith}
 use borrow.Author.Needs.{needs}
-use Rattle.parse.proofs.Kit.{safe-kept}
 use Rattle.parse.proofs.Arms.{unary-met}
 
 abbrev pub uses : ℕ → unary-lts.Claims
@@ -23,7 +22,7 @@ arg-requires t c κs = let S = c .before .before .before .before .before .before
 
 pub put-node-requires : (t : ℕ) → unary-lts.Need-put-node-requires (uses t) (unary-at t) unary.Post
 put-node-requires t c κs = let S = c .before .before .before .before .before .before .before .before .before .before .before .before .before .before in
-    let m = c .before .before .before .before .before .before .before .arg .ensures .moves in (safe-kept (m .kept) (S .pre .1 .0 .safe) .placed (S .args .i) (S .pre .1 .1 .0), omega (arith, S .pre .1 .0 .room, m .long))
+    let m = c .before .before .before .before .before .before .before .arg .ensures .moves in omega (arith, S .pre .1 .0 .room, m .long)
 
 pub same-length : (t : ℕ) → unary-lts.Need-same-length (uses t) (unary-at t) unary.Post
 same-length t c = search needs

@@ -1,0 +1,57 @@
+-- What the readers ask of brackets and bars, by their words and their texts. X is the text, t are the words of the token table, K
+-- the work words, n the number of entries.
+use Prim.Native.Nat.{ℕ, _+_}
+use mathlib.Core.List.{List, [], _∷_}
+use mathlib.Core.Bool.{Bool, true, false}
+use lib.ListN.{take, drop}
+use lib.Dec.{eqb, ltb}
+use Rattle.tree.specs.Words.{pick}
+use Rattle.reading.specs.Reading.{same}
+use Rattle.records.specs.Record.{afterClose, sepWord, kindOf, startOf, lenOf}
+use Rattle.records.specs.Tests.{testAt, isKind}
+
+-- the bytes of a span; two spans have the same; a span is this one byte
+abbrev pub bytesOf : List ℕ → ℕ → ℕ → List ℕ
+bytesOf X a l = take l (drop a X)
+
+abbrev pub sameSpan : List ℕ → ℕ → ℕ → ℕ → ℕ → Bool
+sameSpan X a l b m = same (bytesOf X a l) (bytesOf X b m)
+
+unfoldable pub sameAt : List ℕ → List ℕ → List ℕ → ℕ → ℕ → Bool
+sameAt X t K i j = sameSpan X (startOf t K i) (lenOf t K i) (startOf t K j) (lenOf t K j)
+
+unfoldable pub byteAt : List ℕ → List ℕ → List ℕ → ℕ → ℕ → Bool
+byteAt X t K i b = same (bytesOf X (startOf t K i) (lenOf t K i)) (b ∷ [])
+
+-- the entry at j is a bar with the text of the entry i, if both are there
+unfoldable pub barAt : List ℕ → List ℕ → List ℕ → ℕ → ℕ → ℕ → Bool
+barAt X t K n i j = pick (ltb i n) (pick (testAt t K n (isKind 22) j) (sameAt X t K i j) false) false
+
+-- closes: the entry at j closes the bracket at i
+unfoldable pub closesAt : List ℕ → List ℕ → List ℕ → ℕ → ℕ → ℕ → Bool
+closesAt X t K n i j = pick (eqb (kindOf t K i) 20) (eqb (afterClose K i) (j + 1)) (barAt X t K n i j)
+
+-- could_be_matrix for the bracket at i
+unfoldable pub gateAt : List ℕ → List ℕ → List ℕ → ℕ → ℕ → Bool
+gateAt X t K n i =
+    pick (testAt t K n (isKind 20) (i + 1))
+    (pick (eqb (afterClose K (i + 1)) 0) false
+    (pick (testAt t K n (isKind 3) (afterClose K (i + 1))) true
+    (pick (closesAt X t K n i (afterClose K (i + 1))) (eqb (sepWord K (i + 1)) 1) false)))
+    false
+
+-- the brackets of a first row; those of a row like another
+unfoldable pub rowsAt : List ℕ → List ℕ → List ℕ → ℕ → ℕ → Bool
+rowsAt X t K l r =
+    pick (byteAt X t K l 40) (byteAt X t K r 41) (pick (byteAt X t K l 91) (byteAt X t K r 93) false)
+
+unfoldable pub likeAt : List ℕ → List ℕ → List ℕ → ℕ → ℕ → ℕ → ℕ → Bool
+likeAt X t K l r l′ r′ = pick (sameAt X t K l l′) (sameAt X t K r r′) false
+
+-- try_matrix: rows that open at l, of k cells, with the entry p behind them, make a matrix of the bracket at i
+unfoldable pub setAt : List ℕ → List ℕ → List ℕ → ℕ → ℕ → Bool
+setAt X t K l p = pick (byteAt X t K l 40) (byteAt X t K p 125) false
+
+unfoldable pub makesAt : List ℕ → List ℕ → List ℕ → ℕ → ℕ → ℕ → ℕ → ℕ → Bool
+makesAt X t K n i l k p =
+    pick (ltb p n) (pick (setAt X t K l p) false (pick (ltb 1 k) (closesAt X t K n i p) false)) false

@@ -1,0 +1,51 @@
+-- The words of the nodes that the readers write, by the entries' words. t are the words of the token table, K the work words, n
+-- the number of entries.
+use Prim.Native.Nat.{ℕ, _-_}
+use mathlib.Core.List.{List, [], _∷_}
+use mathlib.Core.Bool.{Bool, true, false}
+use lib.Dec.{eqb, ltb}
+use Rattle.tree.specs.Words.{pick}
+use Rattle.records.specs.Record.{startOf, lenOf, spaceStart, spaceLen}
+
+-- a leaf's node kind, its class, and whether it ends an operand, by the kind of its token
+abbrev pub leafKind : ℕ → ℕ
+leafKind k = pick (ltb k 4) 7 (pick (ltb k 8) (k - 3) (pick (ltb k 16) 7 (pick (eqb k 16) 5 7)))
+
+abbrev pub leafClass : ℕ → ℕ
+leafClass k = pick (eqb k 3) 7 (pick (ltb k 8) 0 (pick (ltb k 16) (k - 8) 0))
+
+abbrev pub leafEnds : ℕ → Bool
+leafEnds k =
+    pick (ltb k 3) true
+    (pick (eqb k 3) false (pick (ltb k 7) true (pick (ltb k 8) false (pick (ltb k 10) true (pick (ltb k 22) false true)))))
+
+-- a node of the entry i, of this kind and with this word
+abbrev pub nodeWords : List ℕ → List ℕ → ℕ → ℕ → ℕ → List ℕ
+nodeWords t K i kind extra = kind ∷ startOf t K i ∷ lenOf t K i ∷ extra ∷ 0 ∷ 0 ∷ []
+
+abbrev pub leafWords : List ℕ → List ℕ → ℕ → ℕ → List ℕ
+leafWords t K i k = nodeWords t K i (leafKind k) (leafClass k)
+
+-- the item that is this leaf alone, in a simple part without script
+abbrev pub plainWords : List ℕ → List ℕ → ℕ → ℕ → List ℕ
+plainWords t K i k = 0 ∷ 13 ∷ 0 ∷ 0 ∷ 0 ∷ 0 ∷ 0 ∷ leafWords t K i k
+
+-- a group from the bracket i to the bracket j; to none, if j is no entry
+unfoldable pub groupWords : List ℕ → List ℕ → ℕ → ℕ → ℕ → ℕ → List ℕ
+groupWords t K n i j k =
+    15 ∷ startOf t K i ∷ lenOf t K i ∷ k ∷ pick (ltb j n) (startOf t K j) 0 ∷ pick (ltb j n) (lenOf t K j) 0 ∷ []
+
+abbrev pub matrixWords : List ℕ → List ℕ → ℕ → ℕ → ℕ → ℕ → ℕ → List ℕ
+matrixWords t K i j cells cols lines =
+    16 ∷ startOf t K i ∷ lenOf t K i ∷ cells ∷ startOf t K j ∷ lenOf t K j ∷ cols ∷ lines ∷ []
+
+-- the Space before the entry i, if it is kept: its words, and 1 for it
+unfoldable pub gapLen : List ℕ → List ℕ → ℕ → Bool → ℕ → ℕ
+gapLen t K n first i = pick first 0 (pick (ltb i n) (spaceLen t K i) 0)
+
+unfoldable pub gapWords : List ℕ → List ℕ → ℕ → Bool → ℕ → List ℕ
+gapWords t K n first i =
+    pick (eqb (gapLen t K n first i) 0) [] (0 ∷ 6 ∷ spaceStart t K i ∷ spaceLen t K i ∷ 0 ∷ 0 ∷ 0 ∷ [])
+
+unfoldable pub gapItems : List ℕ → List ℕ → ℕ → Bool → ℕ → ℕ
+gapItems t K n first i = pick (eqb (gapLen t K n first i) 0) 0 1

@@ -1,0 +1,17 @@
+-- `record::start_at`: the first word of the token.
+use native.Mathlib.Nat.{add-zero}
+use mathlib.Core.Path.{_∙_}
+use Rattle.records.specs.Record.{startOf}
+use borrow.Author.Needs.{needs}
+use Rattle.records.proofs.record.start_at.Statement.{statement}
+use Rattle.records.proofs.record.start_at.Tie as tie
+
+token-word-requires : tie.Need-token-word-requires
+token-word-requires c κs = search needs
+
+returns : tie.Need-returns
+unfolding startOf
+returns c = c .token-word .ensures ∙ simp add-zero
+
+pub start-at-spec : {M : Type 1} → statement M
+start-at-spec = tie.close (tie.spec token-word-requires returns)

@@ -1,0 +1,45 @@
+-- The work words: a record of four for each entry. t are the words of the token table, K the work words.
+use Prim.Native.Nat.{ℕ, _+_, _*_, _-_}
+use mathlib.Core.List.{List}
+use mathlib.Core.Bool.{Bool, false}
+use lib.ListN.{length, getD}
+use lib.Dec.{eqb, ltb}
+use Rattle.tree.specs.Words.{pick}
+
+-- the token's place in the table; the entry behind the closing bracket of this one, or 0; 1 if a Sep stands directly in the
+-- bracket, or 0; the marks
+unfoldable pub placeOf : List ℕ → ℕ → ℕ
+placeOf K i = getD K (4 * i) 0
+
+unfoldable pub afterClose : List ℕ → ℕ → ℕ
+afterClose K i = getD K (4 * i + 1) 0
+
+unfoldable pub sepWord : List ℕ → ℕ → ℕ
+sepWord K i = getD K (4 * i + 2) 0
+
+unfoldable pub marksOf : List ℕ → ℕ → ℕ
+marksOf K i = getD K (4 * i + 3) 0
+
+-- the entry has its four words, and its token stands in the table
+unfoldable pub isPlaced : List ℕ → List ℕ → ℕ → Bool
+isPlaced t K i = pick (ltb (4 * i + 3) (length K)) (ltb (3 * placeOf K i + 2) (length t)) false
+
+-- the kind, start and length of its token; if it is not placed, the kind of a Space, which is no entry's, and 0
+unfoldable pub kindOf : List ℕ → List ℕ → ℕ → ℕ
+kindOf t K i = pick (isPlaced t K i) (getD t (3 * placeOf K i + 2) 0) 23
+
+unfoldable pub startOf : List ℕ → List ℕ → ℕ → ℕ
+startOf t K i = pick (isPlaced t K i) (getD t (3 * placeOf K i) 0) 0
+
+unfoldable pub lenOf : List ℕ → List ℕ → ℕ → ℕ
+lenOf t K i = pick (isPlaced t K i) (getD t (3 * placeOf K i + 1) 0) 0
+
+-- a word of the Space directly before the token j, or 0
+unfoldable pub spaceWord : List ℕ → ℕ → ℕ → ℕ
+spaceWord t j k = pick (eqb j 0) 0 (pick (eqb (getD t (3 * (j - 1) + 2) 0) 23) (getD t (3 * (j - 1) + k) 0) 0)
+
+unfoldable pub spaceStart : List ℕ → List ℕ → ℕ → ℕ
+spaceStart t K i = pick (isPlaced t K i) (spaceWord t (placeOf K i) 0) 0
+
+unfoldable pub spaceLen : List ℕ → List ℕ → ℕ → ℕ
+spaceLen t K i = pick (isPlaced t K i) (spaceWord t (placeOf K i) 1) 0

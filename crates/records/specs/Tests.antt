@@ -1,0 +1,38 @@
+-- What the readers ask of an entry by its kind. t are the words of the token table, K the work words, n the number of entries.
+use Prim.Native.Nat.{ℕ, _+_}
+use mathlib.Core.List.{List}
+use mathlib.Core.Bool.{Bool, true, false, not, _&&_, _||_}
+use lib.Dec.{eqb, ltb}
+use Rattle.tree.specs.Words.{pick}
+use Rattle.records.specs.Record.{kindOf}
+
+-- the entry at i is there, and its kind passes the test
+unfoldable pub testAt : List ℕ → List ℕ → ℕ → (ℕ → Bool) → ℕ → Bool
+testAt t K n f i = pick (ltb i n) (f (kindOf t K i)) false
+
+abbrev pub isKind : ℕ → ℕ → Bool
+isKind k w = eqb w k
+
+abbrev pub headsKind : Bool → ℕ → Bool
+headsKind sg w = eqb w 17 || (sg && eqb w 16)
+
+abbrev pub marksKind : ℕ → Bool
+marksKind w = eqb w 1 || eqb w 2
+
+abbrev pub beginsKind : Bool → ℕ → Bool
+beginsKind stop w = not (eqb w 21 || (eqb w 23 || (stop && eqb w 3)))
+
+-- an entry that is a leaf by its kind, with neither a script nor a fraction behind it, and no reader too deep for it: an item by
+-- itself
+abbrev pub leafOnly : ℕ → Bool
+leafOnly w = pick (ltb w 4) false (ltb w 16)
+
+abbrev pub joinsKind : ℕ → Bool
+joinsKind w = ltb w 3
+
+unfoldable pub plainAt : List ℕ → List ℕ → ℕ → ℕ → ℕ → Bool
+plainAt t K n d i = pick (ltb d 255) (pick (testAt t K n leafOnly i) (not (testAt t K n joinsKind (i + 1))) false) false
+
+-- no item begins at i, and no reader is too deep to see it
+unfoldable pub overAt : List ℕ → List ℕ → ℕ → ℕ → Bool → ℕ → Bool
+overAt t K n d stop i = pick (ltb d 255) (not (testAt t K n (beginsKind stop) i)) false
