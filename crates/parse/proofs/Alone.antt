@@ -22,7 +22,7 @@ use Rattle.records.proofs.Places.{test-below}
 use Rattle.parse.proofs.Kit.{test-kind, test-in, test-out}
 use Rattle.parse.proofs.Buffer.{sets-before}
 use Rattle.parse.proofs.Arms.{scripts-none}
-use Rattle.parse.proofs.Scripting.{script-scripted, script-nothing, item-plain, item-nothing}
+use Rattle.parse.proofs.Scripting.{script-term, script-nothing, term-scripted, term-nothing, item-plain, item-nothing}
 use Rattle.parse.proofs.Begins.{simple-begun, simple-nothing, begun-leaf}
 
 -- what the tests say of a kind
@@ -112,7 +112,7 @@ module _ {X t : List ℕ} {n : ℕ} {K : List ℕ} (stop sg : Bool) {c : Cursor}
       (λ z. omega arith) (λ z. omega arith) (λ z. omega arith) (λ z. omega arith) (λ z. omega arith) (λ z. absurd (omega arith)) (begins t K n (c .depth) (c .pos) h stop) (omega arith) kn (omega arith) refl refl in
       let simple = simple-begun {X = X} {t = t} {n = n} {K = K} stop sg {c = inner (seen n c)} {e = e + 1 + 6} {x = x} (omega arith) (begins t K n (c .depth) (c .pos) h stop) begun in
       let part : ScriptFunc X t n K K stop sg c (e + 1) x two (Found (seen n (onward (seen n c))) (e + 1 + 6 + 6) (leafEnds k)) =
-      script-scripted stop sg {c = c} {e = e + 1} {x = x} (omega arith) (no-head t K n (c .depth) (c .pos) h sg) (omega arith) simple (scripts-none (after .0) (omega arith) kn) refl in
+      script-term stop sg {c = c} {e = e + 1} {x = x} (omega arith) refl (no-head t K n (c .depth) (c .pos) h sg) (term-scripted stop sg {c = inner (seen n c)} {e = e + 1} {x = x} (omega arith) simple (scripts-none (after .0) (omega arith) kn) refl) in
       let long : e + 1 + 6 + 6 ≡ e + 13 = omega arith in
       let place : e + 7 ≡ e + 1 + 6 = omega arith in
       rw hg (subst (λ (E : ℕ). Intermediate X t n K K stop sg c e x y (Found (seen n (seen n (onward (seen n c)))) E (leafEnds k))) long (item-plain stop sg {c = c} {e = e} {x = x} (omega arith) part (after .1) (rw place at hy)))
@@ -161,4 +161,4 @@ module _ {X t : List ℕ} {n : ℕ} {K : List ℕ} (stop sg : Bool) {c : Cursor}
       let deep : c .depth < 255 = ltb-true (c .depth) 255 (both-hold .0) in
       let none-begins : testAt t K n (beginsKind stop) (c .pos) ≡ false = never _ (both-hold .1) in
       let simple = simple-nothing {X = X} {t = t} {n = n} {K = K} stop sg {c = inner (seen n c)} {e = e + 1 + 6} {x = x} (omega arith) none-begins here kn in
-      item-nothing stop sg {c = c} {e = e} {x = x} room (script-nothing stop sg {c = c} {e = e + 1} {x = x} (omega arith) (no-head-either t K n stop (c .pos) none-begins sg) (omega arith) simple)
+      item-nothing stop sg {c = c} {e = e} {x = x} room (script-nothing stop sg {c = c} {e = e + 1} {x = x} (omega arith) refl (no-head-either t K n stop (c .pos) none-begins sg) (term-nothing stop sg {c = inner (seen n c)} {e = e + 1} {x = x} (omega arith) simple))

@@ -1,17 +1,18 @@
 -- What each way through the group of a bar shows.
 use Prim.Native.Nat.{ℕ, suc, _+_, _*_, _-_, _≤_, _<_}
 use mathlib.Core.Path.{_≡_, refl, sym, ap, _∙_, subst}
-use mathlib.Core.List.{List, _++_}
-use mathlib.Core.Option.{some}
-use mathlib.Core.Bool.{Bool, true, false, not}
+use mathlib.Core.List.{List}
+use mathlib.Core.Option.{Option, none, some}
+use mathlib.Core.Bool.{Bool, true, false}
 use native.Mathlib.Omega.{arith}
 use lib.ListN.{length, getD, getElem?, set}
-use lib.Dec.{ltb}
+use lib.Dec.{eqb, ltb}
+use borrow.Author.Tests.{ne-eqb}
 use lib.Seq.{sets, length-sets}
 use Rattle.tree.specs.Tree.{Head, Node, node, Nodes, end, _▸_, count}
-use Rattle.tree.specs.Words.{pick, encode, encodeItem, encodeItems}
+use Rattle.tree.specs.Words.{pick, encode, encodeItems}
 use Rattle.reading.specs.Entries.{Entry}
-use Rattle.reading.specs.Reading.{State, any, openMark, slot, isAt, isBar, barBody, nextOpenCloseGroup, nextBracket, glyphOf, endsOperand, look, atomEnds, prefixes}
+use Rattle.reading.specs.Reading.{State, M, Try, made, lost, nought, return, _>>=_, if_then_else_, here, advance, any, openMark, slot, isAt, isBar, barBody, tryMatrix, nextOpenCloseGroup, nextBracket, glyphOf, endsOperand, look, atomEnds, prefixes}
 use Rattle.parse.specs.declared.cursor.Cursor.{Cursor}
 use Rattle.parse.specs.declared.cursor.Step.the-variants.{Found, Nothing}
 use Rattle.parse.specs.declared.cursor.Part.{Part}
@@ -24,7 +25,7 @@ use Rattle.records.specs.Marks.{isMarked, withMark}
 use Rattle.nodes.specs.Nodes.{leafEnds, leafWords, groupWords}
 use Rattle.parse.specs.Entry.{Kept}
 use Rattle.records.specs.Marks as entry
-use Rattle.parse.specs.Meet.{Input, Row, At, Known, Intermediate, Intermediates, OpenGroup, Bracket, OpenCloseGroup, TryMatrix, Bars, stopOf, onward, rewound}
+use Rattle.parse.specs.Meet.{Input, Row, At, Known, readers, Intermediates, OpenGroup, Bracket, TryMatrix, Bars, stopOf, intermediateAt, itemsAt, itemsFrom, bracketAt, onward, rewound}
 use Rattle.parse.proofs.Buffer.{push, fill, seq, back}
 use Rattle.records.proofs.Places.{test-below}
 use Rattle.parse.proofs.Kit.{bind, ret, at-here, if-true, if-false, tick, at-tick, row-of, kept-refl, kept-trans, advance-took}
@@ -61,10 +62,44 @@ glyph-ends : (en : Entry) → true ≡ endsOperand (glyphOf en)
 unfolding endsOperand look atomEnds
 glyph-ends en = refl
 
-bar-words : {t K : List ℕ} {n i j k : ℕ} {a b : Entry} (x : Node) (l : Nodes) → Row t K i a → Row t K j b → j < n → k ≡ suc (count l)
-    → encode (node (Head.group (a .span) (b .span)) (x ▸ l)) ≡ groupWords t K n i j k ++ (encodeItem x ++ encodeItems l)
-unfolding encodeItems
-bar-words x l r r2 h hk = closed-words (x ▸ l) r r2 h hk
+-- The body of a bar's attempt, by the items that the code reads.
+abbrev barEnd : Input → Entry → Nodes → M Try
+barEnd I o end = return nought
+barEnd I o (x ▸ l) =
+    here >>= λ p.
+    if isAt (I .text) (I .es) (isBar (I .text) (I .es) o) p
+    then (advance (I .text) (I .es) any >>= λ t. elim t [
+      | none ↦ return lost
+      | some c ↦ return (made (node (Head.group (o .span) (c .span)) (x ▸ l)))
+    ])
+    else return lost
+
+bar-body : (I : Input) (d : ℕ) (o : Entry) (stop : Bool) (s : State) {l : Nodes} {u : State} → itemsFrom d (suc (length (I .es))) (some o) stop none I s ≡ (l, u)
+    → barBody (I .text) (I .es) true (readers d I) o (stopOf stop) s ≡ barEnd I o l u
+unfolding barBody
+bar-body I d o stop s {l} {u} h = go (intermediateAt d stop true I s) refl
+  where
+    go : (r : Option Node × State) → intermediateAt d stop true I s ≡ r → barBody (I .text) (I .es) true (readers d I) o (stopOf stop) s ≡ barEnd I o l u
+    go (none, v) k =
+        let same : _≡_ {A = Nodes × State} (end, v) (l, u) = sym (bind _ _ s k ∙ ret _ _) ∙ h in
+        bind _ _ s k ∙ ap (λ (w : Nodes × State). barEnd I o (w .0) (w .1)) same
+    go (some x, v) k =
+        let r = itemsAt d (suc (length (I .es))) (some o) stop (some x) I v in
+        let same : _≡_ {A = Nodes × State} (x ▸ r .0, r .1) (l, u) = sym (bind _ _ s k ∙ bind _ _ v refl ∙ ret _ _) ∙ h in
+        bind _ _ s k ∙ bind _ _ v refl ∙ ap (λ (w : Nodes × State). barEnd I o (w .0) (w .1)) same
+
+count-none : (l : Nodes) → count l ≡ 0 → l ≡ end
+count-none end h = refl
+count-none (x ▸ l) h = absurd (omega arith)
+
+record More (l : Nodes) : Type 0 where
+  pub head : Node
+  pub rest : Nodes
+  pub is : l ≡ head ▸ rest
+
+count-some : (l : Nodes) → (count l ≡ 0 → ⊥) → More l
+count-some end h = absurd (h refl)
+count-some (x ▸ l) h = record { head = x; rest = l; is = refl }
 
 module _ {X t : List ℕ} {n : ℕ} {K : List ℕ} (i : ℕ) (stop : Bool) {c : Cursor} {e : ℕ} {x : List ℕ} (inside : i < n) (here-n : c .pos ≤ n) (room : e + 20 + 32 * (n - c .pos) ≤ length x) where
   pub bars-known : {y : List ℕ} {g : Part} → isMarked (marksOf K i) (entry.openMark stop) ≡ true → Known X t n K → y ≡ sets x e (leafWords t K i 22) → g ≡ record { cur = c; end = e + 6; ends = leafEnds 22 } → Bars X t n K K i stop c e x y g
@@ -82,95 +117,94 @@ module _ {X t : List ℕ} {n : ℕ} {K : List ℕ} (i : ℕ) (stop : Bool) {c : 
         };
   })
 
-  module _ {L y : List ℕ} (h : isMarked (marksOf K i) (entry.openMark stop) ≡ false) where
-    pub bars-nought : {z : List ℕ} {j : Cursor} {g : Part} → Intermediate X t n K L stop true c (e + 6) x y (Nothing j) → z ≡ sets y e (leafWords t L i 22) → g ≡ record { cur = j; end = e + 6; ends = leafEnds 22 } → Bars X t n K L i stop c e x z g
-    unfolding barBody
-    bars-nought {z} {j} {g} p hz hg = rw (hg, hz) (record {
-      moves = record { within = p .0 .within; on = p .0 .on; depth = p .0 .depth; room = omega (arith, p .0 .on); long = length-sets y e (leafWords t L i 22) ∙ p .0 .long; kept = p .0 .kept; known = p .0 .known };
+  module _ {J z : List ℕ} {g : Items} (h : isMarked (marksOf K i) (entry.openMark stop) ≡ false) (p : Intermediates X t n K J i stop true true c (e + 6) x z g) where
+    pub bars-nought : {w : List ℕ} {j : Part} → g .count ≡ 0 → w ≡ sets z e (leafWords t J i 22) → j ≡ record { cur = g .cur; end = e + 6; ends = leafEnds 22 } → Bars X t n K J i stop c e x w j
+    unfolding prefixes
+    bars-nought {w} {j} hc hw hj = rw (hj, hw) (record {
+      moves = record { within = p .moves .within; on = p .moves .on; depth = p .moves .depth; room = omega (arith, p .moves .on); long = length-sets z e (leafWords t J i 22) ∙ p .moves .long; kept = p .moves .kept; known = p .moves .known };
       means = λ I s at en there.
-          let q = p .1 I s at in
+          let q = p .means I s at (suc (length (I .es))) (omega (arith, at .given .size)) (some en) (inside, there) none refl refl in
           let r = row-of (q .at .given) inside there in
+          let body : barBody (I .text) (I .es) true (readers (c .depth) I) en (stopOf stop) s ≡ (nought, q .state) = bar-body I (c .depth) en stop s (q .runs) ∙ ap (λ (l : Nodes). barEnd I en l (q .state)) (count-none (q .answer) (sym (q .besides .0) ∙ hc)) ∙ ret _ _ in
           record {
             answer = glyphOf en;
             state = q .state;
-            runs = bind _ _ s (attempt-nought (I .text) (I .es) (openMark (stopOf stop)) i _ s (open-known i stop false at inside h) (bind _ _ s (q .runs) ∙ ret _ _)) ∙ ret _ _;
+            runs = bind _ _ s (attempt-nought (I .text) (I .es) (openMark (stopOf stop)) i _ s (open-known i stop false at inside h) body) ∙ ret _ _;
             at = q .at;
-            tree = rw (glyph-words r) (seq (back e (q .tree) (omega arith) (omega arith)) (push y e (leafWords t L i 22) (e + 6) refl (omega (arith, p .0 .long))));
+            tree = rw (glyph-words r) (seq (back e (q .tree) (omega arith) (omega (arith, p .moves .room))) (push z e (leafWords t J i 22) (e + 6) refl (omega (arith, p .moves .long))));
             besides = glyph-ends en;
           };
     })
 
-    module _ {J z : List ℕ} {a : Cursor} {E : ℕ} {f : Bool} {g : Items} (p : Intermediate X t n K L stop true c (e + 6) x y (Found a E f)) (p2 : Intermediates X t n L J i stop false (not f) a E y z g) where
-      pub bars-made : {w : List ℕ} → barAt X t J n i (g .cur .pos) ≡ true → w ≡ sets z e (groupWords t J n i (g .cur .pos) (g .count + 1))
+    module _ (hc : g .count ≡ 0 → ⊥) where
+      pub bars-made : {w : List ℕ} → barAt X t J n i (g .cur .pos) ≡ true → w ≡ sets z e (groupWords t J n i (g .cur .pos) (g .count))
           → Bars X t n K J i stop c e x w (record { cur = onward (g .cur); end = g .end; ends = true })
-      unfolding barBody encodeItems endsOperand look prefixes any
+      unfolding endsOperand look prefixes any
       bars-made {w} hm hw =
           let l : g .cur .pos < n = bar-below X t J n i (g .cur .pos) hm in
-          let size = group-size t J n i (g .cur .pos) (g .count + 1) in
+          let size = group-size t J n i (g .cur .pos) (g .count) in
           record {
-            moves = record { within = omega arith; on = omega (arith, p .0 .on, p2 .moves .on); depth = p2 .moves .depth ∙ p .0 .depth; room = omega (arith, p .0 .room, p2 .moves .room); long = ap length hw ∙ length-sets z e (groupWords t J n i (g .cur .pos) (g .count + 1)) ∙ p2 .moves .long ∙ p .0 .long; kept = kept-trans (p .0 .kept) (p2 .moves .kept); known = p2 .moves .known };
+            moves = record { within = omega arith; on = omega (arith, p .moves .on); depth = p .moves .depth; room = omega (arith, p .moves .room); long = ap length hw ∙ length-sets z e (groupWords t J n i (g .cur .pos) (g .count)) ∙ p .moves .long; kept = p .moves .kept; known = p .moves .known };
             means = λ I s at en there.
-                let q = p .1 I s at in
-                let q2 = rw (p .0 .depth) at (p2 .means I (q .state) (q .at) (some en) (inside, there) (some (q .node)) refl (ap not (q .besides))) in
-                let st = q2 .at .given .stands (g .cur .pos) l in
-                let k1 : g .count + 1 ≡ suc (count (q2 .answer)) = omega (arith, q2 .besides .0) in
-                let m : isAt (I .text) (I .es) (isBar (I .text) (I .es) en) (q2 .state .pos) ≡ true = ap (isAt (I .text) (I .es) (isBar (I .text) (I .es) en)) (sym (q2 .at .pos)) ∙ bar-is i (g .cur .pos) en (q2 .at .given) inside there ∙ hm in
-                let adv = advance-took (I .text) (I .es) any (q2 .state) (st .entry) (ap (λ (k : ℕ). getElem? (I .es) k) (sym (q2 .at .pos)) ∙ st .there) refl in
+                let q = p .means I s at (suc (length (I .es))) (omega (arith, at .given .size)) (some en) (inside, there) none refl refl in
+                let k = count-some (q .answer) (λ w0. hc (q .besides .0 ∙ w0)) in
+                let st = q .at .given .stands (g .cur .pos) l in
+                let m : isAt (I .text) (I .es) (isBar (I .text) (I .es) en) (q .state .pos) ≡ true = ap (isAt (I .text) (I .es) (isBar (I .text) (I .es) en)) (sym (q .at .pos)) ∙ bar-is i (g .cur .pos) en (q .at .given) inside there ∙ hm in
+                let adv = advance-took (I .text) (I .es) any (q .state) (st .entry) (ap (λ (k : ℕ). getElem? (I .es) k) (sym (q .at .pos)) ∙ st .there) refl in
+                let body : barBody (I .text) (I .es) true (readers (c .depth) I) en (stopOf stop) s ≡ (made (node (Head.group (en .span) (st .entry .span)) (k .head ▸ k .rest)), tick (q .state)) =
+                bar-body I (c .depth) en stop s (q .runs) ∙ ap (λ (l : Nodes). barEnd I en l (q .state)) (k .is) ∙ bind _ _ _ (at-here (q .state)) ∙ if-true _ _ _ m ∙ bind _ _ _ adv ∙ ret _ _ in
                 record {
-                  answer = node (Head.group (en .span) (st .entry .span)) (q .node ▸ q2 .answer);
-                  state = tick (q2 .state);
-                  runs = bind _ _ s (attempt-made (I .text) (I .es) (openMark (stopOf stop)) i _ s (open-known i stop false at inside h) (node (Head.group (en .span) (st .entry .span)) (q .node ▸ q2 .answer))
-                      (bind _ _ s (q .runs) ∙ bind _ _ _ (q2 .runs) ∙ bind _ _ _ (at-here (q2 .state)) ∙ if-true _ _ _ m ∙ bind _ _ _ adv ∙ ret _ _)) ∙ ret _ _;
-                  at = at-tick (q2 .at);
-                  tree = rw hw (subst (λ (ws : List ℕ). Wrote x e (sets z e (groupWords t J n i (g .cur .pos) (g .count + 1))) (g .end) ws) (sym (bar-words (q .node) (q2 .answer) (row-of (q2 .at .given) inside there) (st .row) l k1)) (fill e (groupWords t J n i (g .cur .pos) (g .count + 1)) (seq (q .tree) (q2 .tree)) (omega (arith, size)) (omega (arith, p .0 .room, p2 .moves .room))));
+                  answer = node (Head.group (en .span) (st .entry .span)) (k .head ▸ k .rest);
+                  state = tick (q .state);
+                  runs = bind _ _ s (attempt-made (I .text) (I .es) (openMark (stopOf stop)) i _ s (open-known i stop false at inside h) (node (Head.group (en .span) (st .entry .span)) (k .head ▸ k .rest)) body) ∙ ret _ _;
+                  at = at-tick (q .at);
+                  tree = rw hw (subst (λ (ws : List ℕ). Wrote x e (sets z e (groupWords t J n i (g .cur .pos) (g .count))) (g .end) ws) (sym (closed-words (k .head ▸ k .rest) (row-of (q .at .given) inside there) (st .row) l (q .besides .0 ∙ ap count (k .is)))) (fill e (groupWords t J n i (g .cur .pos) (g .count)) (subst (λ (m : Nodes). Wrote x (e + 6) z (g .end) (encodeItems m)) (k .is) (q .tree)) (omega (arith, size)) (omega (arith, p .moves .room))));
                   besides = refl;
                 };
           }
 
       pub bars-lost : {N w : List ℕ} {j : Part} → barAt X t J n i (g .cur .pos) ≡ false → 4 * i + 3 < length J → N ≡ set J (4 * i + 3) (withMark (marksOf J i) (entry.openMark stop)) → w ≡ sets z e (leafWords t N i 22)
           → j ≡ record { cur = rewound (c .pos) (g .cur); end = e + 6; ends = leafEnds 22 } → Bars X t n K N i stop c e x w j
-      unfolding barBody prefixes
+      unfolding prefixes
       bars-lost {N} {w} {j} hm fit hn hw hj =
           let hn2 : N ≡ set J (4 * i + 3) (withMark (marksOf J i) (markNumber (openMark (stopOf stop)))) = hn ∙ ap (λ (k : ℕ). set J (4 * i + 3) (withMark (marksOf J i) k)) (sym (number-open stop)) in
           let kp : Kept J N = rw hn2 (set-kept J i _ fit) in
           rw (hj, hw) (record {
-            moves = record { within = here-n; on = omega arith; depth = p2 .moves .depth ∙ p .0 .depth; room = omega arith; long = length-sets z e (leafWords t N i 22) ∙ p2 .moves .long ∙ p .0 .long; kept = kept-trans (p .0 .kept) (kept-trans (p2 .moves .kept) kp); known = known-lost (openMark (stopOf stop)) i (p2 .moves .known) inside fit hn2 };
+            moves = record { within = here-n; on = omega arith; depth = p .moves .depth; room = omega arith; long = length-sets z e (leafWords t N i 22) ∙ p .moves .long; kept = kept-trans (p .moves .kept) kp; known = known-lost (openMark (stopOf stop)) i (p .moves .known) inside fit hn2 };
             means = λ I s at en there.
-                let q = p .1 I s at in
-                let q2 = rw (p .0 .depth) at (p2 .means I (q .state) (q .at) (some en) (inside, there) (some (q .node)) refl (ap not (q .besides))) in
-                let m : isAt (I .text) (I .es) (isBar (I .text) (I .es) en) (q2 .state .pos) ≡ false = ap (isAt (I .text) (I .es) (isBar (I .text) (I .es) en)) (sym (q2 .at .pos)) ∙ bar-is i (g .cur .pos) en (q2 .at .given) inside there ∙ hm in
-                let at2 = at-lost (openMark (stopOf stop)) i (q2 .at) at inside fit hn2 in
+                let q = p .means I s at (suc (length (I .es))) (omega (arith, at .given .size)) (some en) (inside, there) none refl refl in
+                let k = count-some (q .answer) (λ w0. hc (q .besides .0 ∙ w0)) in
+                let m : isAt (I .text) (I .es) (isBar (I .text) (I .es) en) (q .state .pos) ≡ false = ap (isAt (I .text) (I .es) (isBar (I .text) (I .es) en)) (sym (q .at .pos)) ∙ bar-is i (g .cur .pos) en (q .at .given) inside there ∙ hm in
+                let at2 = at-lost (openMark (stopOf stop)) i (q .at) at inside fit hn2 in
+                let body : barBody (I .text) (I .es) true (readers (c .depth) I) en (stopOf stop) s ≡ (lost, q .state) =
+                bar-body I (c .depth) en stop s (q .runs) ∙ ap (λ (l : Nodes). barEnd I en l (q .state)) (k .is) ∙ bind _ _ _ (at-here (q .state)) ∙ if-false _ _ _ m ∙ ret _ _ in
                 record {
                   answer = glyphOf en;
-                  state = record { pos = s .pos; takes = q2 .state .takes; marks = set (q2 .state .marks) (slot (openMark (stopOf stop)) i) true };
-                  runs = bind _ _ s (attempt-lost (I .text) (I .es) (openMark (stopOf stop)) i _ s (open-known i stop false at inside h)
-                      (bind _ _ s (q .runs) ∙ bind _ _ _ (q2 .runs) ∙ bind _ _ _ (at-here (q2 .state)) ∙ if-false _ _ _ m ∙ ret _ _)) ∙ ret _ _;
+                  state = record { pos = s .pos; takes = q .state .takes; marks = set (q .state .marks) (slot (openMark (stopOf stop)) i) true };
+                  runs = bind _ _ s (attempt-lost (I .text) (I .es) (openMark (stopOf stop)) i _ s (open-known i stop false at inside h) body) ∙ ret _ _;
                   at = at2;
-                  tree = rw (glyph-words (row-of (at2 .given) inside there)) (seq (back e (seq (q .tree) (q2 .tree)) (omega arith) (omega (arith, p .0 .room, p2 .moves .room))) (push z e (leafWords t N i 22) (e + 6) refl (omega (arith, p .0 .long, p2 .moves .long))));
+                  tree = rw (glyph-words (row-of (at2 .given) inside there)) (seq (back e (q .tree) (omega arith) (omega (arith, p .moves .room))) (push z e (leafWords t N i 22) (e + 6) refl (omega (arith, p .moves .long))));
                   besides = glyph-ends en;
                 };
           })
 
 -- a matrix, or else what the bracket opens
-module _ {X t : List ℕ} {n : ℕ} {K L : List ℕ} (i : ℕ) {c : Cursor} {e : ℕ} {x y : List ℕ} where
-  pub bracket-matrix : {b : Cursor} {E : ℕ} {f : Bool} → TryMatrix X t n K L i c e x y (Found b E f) → Bracket X t n K L i c e x y (record { cur = b; end = E; ends = f })
-  unfolding nextBracket
-  bracket-matrix p = record {
-    moves = record { within = p .0 .within; on = omega (arith, p .0 .on); depth = p .0 .depth; room = p .0 .room; long = p .0 .long; kept = p .0 .kept; known = p .0 .known };
-    means = λ I s at en there. let q = p .1 I s at en there in record { answer = q .node; state = q .state; runs = bind _ _ s (q .runs) ∙ ret _ _; at = q .at; tree = q .tree; besides = q .besides };
-  }
+matrix-runs : (b : Bool) (d : ℕ) (stop : Bool) (i : ℕ) (I : Input) (en : Entry) (s u : State) (a : Node) → tryMatrix (I .text) (I .es) true (readers d I) en i s ≡ (some a, u) → bracketAt b d stop i I en s ≡ (a, u)
+unfolding nextBracket nextOpenCloseGroup
+matrix-runs true d stop i I en s u a h = bind _ _ s h ∙ ret _ _
+matrix-runs false d stop i I en s u a h = bind _ _ s h ∙ ret _ _
 
-  pub bar-matrix : (stop : Bool) {b : Cursor} {E : ℕ} {f : Bool} → TryMatrix X t n K L i c e x y (Found b E f) → OpenCloseGroup X t n K L i stop c e x y (record { cur = b; end = E; ends = f })
-  unfolding nextOpenCloseGroup
-  bar-matrix stop p = record {
+module _ {X t : List ℕ} {n : ℕ} {K L : List ℕ} (i : ℕ) (stop : Bool) {c : Cursor} {e : ℕ} {x y : List ℕ} where
+  pub bracket-matrix : (k : ℕ) {b : Cursor} {E : ℕ} {f : Bool} → TryMatrix X t n K L i c e x y (Found b E f) → Bracket X t n K L i k stop c e x y (record { cur = b; end = E; ends = f })
+  bracket-matrix k p = record {
     moves = record { within = p .0 .within; on = omega (arith, p .0 .on); depth = p .0 .depth; room = p .0 .room; long = p .0 .long; kept = p .0 .kept; known = p .0 .known };
-    means = λ I s at en there. let q = p .1 I s at en there in record { answer = q .node; state = q .state; runs = bind _ _ s (q .runs) ∙ ret _ _; at = q .at; tree = q .tree; besides = q .besides };
+    means = λ I s at en there. let q = p .1 I s at en there in record { answer = q .node; state = q .state; runs = matrix-runs (eqb k 20) (c .depth) stop i I en s (q .state) (q .node) (q .runs); at = q .at; tree = q .tree; besides = q .besides };
   }
 
   module _ {b : Cursor} (p : TryMatrix X t n K L i c e x y (Nothing b)) {J z : List ℕ} {g : Part} where
-    pub bracket-group : OpenGroup X t n L J i b e y z g → Bracket X t n K J i c e x z g
+    by-group : OpenGroup X t n L J i b e y z g → Bracket X t n K J i 20 stop c e x z g
     unfolding nextBracket
-    bracket-group p2 = record {
+    by-group p2 = record {
       moves = record { within = p2 .moves .within; on = omega (arith, p .0 .on, p2 .moves .on); depth = p2 .moves .depth ∙ p .0 .depth; room = omega (arith, p .0 .room, p2 .moves .room); long = p2 .moves .long ∙ p .0 .long; kept = kept-trans (p .0 .kept) (p2 .moves .kept); known = p2 .moves .known };
       means = λ I s at en there.
           let q = p .1 I s at en there in
@@ -178,12 +212,18 @@ module _ {X t : List ℕ} {n : ℕ} {K L : List ℕ} (i : ℕ) {c : Cursor} {e :
           record { answer = q2 .answer; state = q2 .state; runs = bind _ _ s (q .runs) ∙ q2 .runs; at = q2 .at; tree = seq (q .tree) (q2 .tree); besides = q2 .besides };
     }
 
-    pub bar-group : (stop : Bool) → Bars X t n L J i stop b e y z g → OpenCloseGroup X t n K J i stop c e x z g
+    by-bars : Bars X t n L J i stop b e y z g → Bracket X t n K J i 22 stop c e x z g
     unfolding nextOpenCloseGroup
-    bar-group stop p2 = record {
+    by-bars p2 = record {
       moves = record { within = p2 .moves .within; on = omega (arith, p .0 .on, p2 .moves .on); depth = p2 .moves .depth ∙ p .0 .depth; room = omega (arith, p .0 .room, p2 .moves .room); long = p2 .moves .long ∙ p .0 .long; kept = kept-trans (p .0 .kept) (p2 .moves .kept); known = p2 .moves .known };
       means = λ I s at en there.
           let q = p .1 I s at en there in
           let q2 = rw (p .0 .depth) at (p2 .means I (q .state) (q .at) en there) in
           record { answer = q2 .answer; state = q2 .state; runs = bind _ _ s (q .runs) ∙ q2 .runs; at = q2 .at; tree = seq (q .tree) (q2 .tree); besides = q2 .besides };
     }
+
+    pub bracket-group : (k : ℕ) → k ≡ 20 → OpenGroup X t n L J i b e y z g → Bracket X t n K J i k stop c e x z g
+    bracket-group k h p2 = rw h (by-group p2)
+
+    pub bracket-bars : (k : ℕ) → (k ≡ 20 → ⊥) → Bars X t n L J i stop b e y z g → Bracket X t n K J i k stop c e x z g
+    bracket-bars k h p2 = rw (ne-eqb k 20 h) (by-bars p2)

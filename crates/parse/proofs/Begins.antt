@@ -6,7 +6,9 @@ use mathlib.Core.Option.{Option, some}
 use mathlib.Core.Bool.{Bool, true, false}
 use native.Mathlib.Omega.{arith}
 use lib.ListN.{length}
+use lib.Dec.{eqb}
 use lib.Seq.{sets, length-sets}
+use borrow.Author.Tests.{eqb-true}
 use Rattle.tokens.specs.declared.token.Token.{Token}
 use Rattle.tokens.specs.declared.token.Token.the-variants as token
 use Rattle.tokens.specs.Kinds.{numberOf}
@@ -22,7 +24,7 @@ use Rattle.parse.specs.Buffer.{Wrote}
 use Rattle.records.specs.Record.{kindOf}
 use Rattle.records.specs.Tests.{testAt, beginsKind}
 use Rattle.nodes.specs.Nodes.{leafKind, leafClass, leafEnds, leafWords}
-use Rattle.parse.specs.Meet.{Input, Known, readers, Began, Simple, Begun, Bracket, OpenCloseGroup, Unary, Binary, stopOf, onward, seen, inner, atDepth}
+use Rattle.parse.specs.Meet.{Input, Known, readers, Began, Simple, Begun, Bracket, Unary, Binary, opening, stopOf, onward, seen, inner, atDepth}
 use Rattle.parse.proofs.Buffer.{push, wrote-none}
 use Rattle.records.proofs.Places.{test-below}
 use Rattle.parse.proofs.Kit.{bind, ret, at-here, tick, at-tick, row-of, kept-refl, took, passed, test-kind, same-begins, level-simple}
@@ -86,13 +88,20 @@ module _ {X t : List ℕ} {n : ℕ} {K L : List ℕ} (i : ℕ) (stop sg : Bool) 
         };
   }
 
-  pub begun-bracket : kindOf t K i ≡ 20 → Bracket X t n K L i c e x y g → Begun X t n K L i stop sg c e x y g
+  by-bracket : kindOf t K i ≡ 20 → Bracket X t n K L i 20 stop c e x y g → Begun X t n K L i stop sg c e x y g
   unfolding begun
-  begun-bracket h p = begun-by token.OpenBracket _ _ _ (λ en a. a) (omega arith) (λ en k. is-OpenBracket (en .token) (sym k ∙ h)) (λ I en s u a q. bind _ _ s q ∙ ret _ _) (λ en a b. b) (λ en a. refl) p
+  by-bracket h p = begun-by token.OpenBracket _ _ _ (λ en a. a) (omega arith) (λ en k. is-OpenBracket (en .token) (sym k ∙ h)) (λ I en s u a q. bind _ _ s q ∙ ret _ _) (λ en a b. b) (λ en a. refl) p
 
-  pub begun-bar : kindOf t K i ≡ 22 → OpenCloseGroup X t n K L i stop c e x y g → Begun X t n K L i stop sg c e x y g
+  by-bar : kindOf t K i ≡ 22 → Bracket X t n K L i 22 stop c e x y g → Begun X t n K L i stop sg c e x y g
   unfolding begun
-  begun-bar h p = begun-by token.OpenCloseBracket _ _ _ (λ en a. a) (omega arith) (λ en k. is-OpenCloseBracket (en .token) (sym k ∙ h)) (λ I en s u a q. bind _ _ s q ∙ ret _ _) (λ en a b. b) (λ en a. refl) p
+  by-bar h p = begun-by token.OpenCloseBracket _ _ _ (λ en a. a) (omega arith) (λ en k. is-OpenCloseBracket (en .token) (sym k ∙ h)) (λ I en s u a q. bind _ _ s q ∙ ret _ _) (λ en a b. b) (λ en a. refl) p
+
+  pub begun-bracket : {k : ℕ} → k ≡ kindOf t K i → opening k ≡ true → Bracket X t n K L i k stop c e x y g → Begun X t n K L i stop sg c e x y g
+  begun-bracket {k} hk ho p = go (eqb k 20) refl
+    where
+      go : (b : Bool) → eqb k 20 ≡ b → Begun X t n K L i stop sg c e x y g
+      go true h = let z : k ≡ 20 = eqb-true k 20 h in by-bracket (sym hk ∙ z) (subst (λ (m : ℕ). Bracket X t n K L i m stop c e x y g) z p)
+      go false h = let z : k ≡ 22 = eqb-true k 22 (rw h at ho) in by-bar (sym hk ∙ z) (subst (λ (m : ℕ). Bracket X t n K L i m stop c e x y g) z p)
 
   pub begun-unary : kindOf t K i ≡ 18 → Unary X t n K L i 10 false c e x y g → Begun X t n K L i stop sg c e x y g
   unfolding begun argument endsOperand look
@@ -148,3 +157,10 @@ module _ {X t : List ℕ} {n : ℕ} {K : List ℕ} (i : ℕ) (stop sg : Bool) {c
           besides = ap leafEnds (sym e1) ∙ q .flag;
         };
   })
+
+-- a kind that opens nothing
+pub opens-nothing : (k : ℕ) → opening k ≡ false → (k ≡ 20 → ⊥) × (k ≡ 22 → ⊥)
+opens-nothing k h = (
+  (λ z. let u : _≡_ {A = Bool} true false = ap opening (sym z) ∙ h in let w : _≡_ {A = ℕ} 0 1 = cc in omega arith),
+  λ z. let u : _≡_ {A = Bool} true false = ap opening (sym z) ∙ h in let w : _≡_ {A = ℕ} 0 1 = cc in omega arith,
+)

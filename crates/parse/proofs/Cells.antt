@@ -22,12 +22,13 @@ use Rattle.records.specs.Tests.{testAt, isKind}
 use Rattle.parse.specs.Meet.{Input, Row, Stands, At, Known, readers, Each, Intermediates, onward, passing}
 use Rattle.parse.proofs.Buffer.{fill, seq, back, wrote-none}
 use Rattle.records.proofs.Places.{test-below}
+use Rattle.parse.proofs.Whole.{whole-items}
 use Rattle.parse.proofs.Kit.{bind, ret, if-true, if-false, tick, at-tick, kept-refl, kept-trans, kind-is, advance-took, advance-end, past}
 use Rattle.reading.specs.Reading as reading
 use Rattle.parse.specs.declared.cursor.Close.{Close}
 use Rattle.parse.specs.declared.cursor.Close.the-variants as close
 use Rattle.parse.specs.declared.cursor.Cells.{Cells}
-use Rattle.parse.specs.Columns as columns
+use Rattle.columns.specs.Rows as columns
 use Rattle.parse.specs.Matrix.{Filled, Fails, cellsAt, RowCells, rowAt, MatrixRow}
 use Rattle.parse.proofs.Loop.{nodes-assoc}
 use Rattle.parse.proofs.Scripting.{encodes-append, count-append}
@@ -153,7 +154,7 @@ module _ {X t : List ℕ} {n : ℕ} {K : List ℕ} (c : Cursor) (e : ℕ) (x : L
     turn : (I : Input) (s : State) (a : Along X t n L (c .depth) I s e x y cur stp num) → Turn I s a
     unfolding prefixes
     turn I s a =
-        let q = rw (i .moves .depth) at (p .means I (a .state) (a .at) none (omega arith) none refl refl) in
+        let q = rw (i .moves .depth) at (whole-items p (omega arith) I (a .state) (a .at) none refl refl) in
         let size : w ≡ length (encodeItems (q .answer)) = omega (arith, hw, q .tree .upto) in
         let one : Wrote y stp z (g .end) ((17 ∷ 0 ∷ 0 ∷ g .count ∷ w ∷ 0 ∷ []) ++ encodeItems (q .answer)) = rw hz (fill stp (17 ∷ 0 ∷ 0 ∷ g .count ∷ w ∷ 0 ∷ []) (q .tree) refl (omega (arith, p .moves .room, i .moves .room, i .moves .long))) in
         record {

@@ -136,11 +136,11 @@ given-kept {X} {t} p q = record {
 }
 
 -- The code's moves.
-more-takes : (a t : ℕ) → a % 2 ^ 64 ≡ t % 2 ^ 64 → (a + 1) % 2 ^ 64 % 2 ^ 64 ≡ suc t % 2 ^ 64
-more-takes a t h = mod-mod (a + 1) (2 ^ 64) ∙ sym (mod-add-mod a (2 ^ 64) 1) ∙ ap (λ (k : ℕ). (k + 1) % 2 ^ 64) h ∙ mod-add-mod t (2 ^ 64) 1 ∙ ap (λ (k : ℕ). k % 2 ^ 64) (add-one t)
+more-takes : (a t : ℕ) → a % 2 ^ 32 ≡ t % 2 ^ 32 → (a + 1) % 2 ^ 32 % 2 ^ 32 ≡ suc t % 2 ^ 32
+more-takes a t h = mod-mod (a + 1) (2 ^ 32) ∙ sym (mod-add-mod a (2 ^ 32) 1) ∙ ap (λ (k : ℕ). (k + 1) % 2 ^ 32) h ∙ mod-add-mod t (2 ^ 32) 1 ∙ ap (λ (k : ℕ). k % 2 ^ 32) (add-one t)
 
 module _ {X t : List ℕ} {n : ℕ} {K : List ℕ} {I : Input} {s : State} where
-  pub at-tick : {p u : ℕ} → At X t n K p u I s → At X t n K (p + 1) ((u + 1) % 2 ^ 64) I (tick s)
+  pub at-tick : {p u : ℕ} → At X t n K p u I s → At X t n K (p + 1) ((u + 1) % 2 ^ 32) I (tick s)
   at-tick {p} {u} a = record { given = a .given; marks = a .marks; pos = omega (arith, a .pos); takes = more-takes u (s .takes) (a .takes) }
 
   pub known-of : {p u : ℕ} → At X t n K p u I s → Known X t n K

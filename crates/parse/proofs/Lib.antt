@@ -1,5 +1,6 @@
 pub mod Buffer
 pub mod Kit
+pub mod Whole
 pub mod Arms
 pub mod Scripting
 pub mod Sorts

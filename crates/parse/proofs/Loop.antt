@@ -21,7 +21,7 @@ use Rattle.records.specs.Record.{kindOf, spaceLen}
 use Rattle.records.specs.Tests.{testAt, isKind}
 use Rattle.brackets.specs.Brackets.{sameAt, barAt}
 use Rattle.nodes.specs.Nodes.{gapLen, gapWords, gapItems}
-use Rattle.parse.specs.Meet.{Input, Row, Stands, Given, At, Known, readers, Moves, Each, Intermediate, Intermediates, Gapped, Until, lastAfter, isNone, stopOf, itemsAt}
+use Rattle.parse.specs.Meet.{Input, Row, Stands, Given, At, Known, readers, Moves, Each, Intermediate, Intermediates, Gapped, Until, lastAfter, isNone, stopOf, itemsAt, itemsFrom}
 use Rattle.parse.proofs.Buffer.{seq, back, wrote-none}
 use Rattle.parse.proofs.Kit.{bind, ret, at-here, if-true, if-false, row-of, kept-refl, kept-trans, test-in, test-out, same-is, past, at-some, at-none}
 use Rattle.parse.proofs.Scripting.{count-append}
@@ -135,12 +135,12 @@ until-is {X} {t} {n} {K} u I none p g h = sym (bar-none X t K n u p h)
 until-is u I (some o) p g h = bar-is u p o g (h .0) (h .1)
 
 -- At the loop's head: the items read so far, and turns enough for the rest.
-pub record Along (X t : List ℕ) (n : ℕ) (L : List ℕ) (d : ℕ) (stop : Bool) (I : Input) (until : Option Entry) (start : Option Node) (s : State) (e : ℕ) (x y : List ℕ) (cur : Cursor) (stp num : ℕ) (first sign : Bool) : Type 0 where
+pub record Along (X t : List ℕ) (n : ℕ) (L : List ℕ) (d turns : ℕ) (stop : Bool) (I : Input) (until : Option Entry) (start : Option Node) (s : State) (e : ℕ) (x y : List ℕ) (cur : Cursor) (stp num : ℕ) (first sign : Bool) : Type 0 where
   pub left : ℕ
   pub acc : Nodes
   pub before : Option Node
   pub state : State
-  pub whole : itemsAt d until stop start I s ≡ joined acc (intermediates (I .text) (I .es) true (readers d I) (suc left) until (stopOf stop) before state)
+  pub whole : itemsFrom d turns until stop start I s ≡ joined acc (itemsFrom d left until stop before I state)
   pub enough : n - cur .pos ≤ left
   pub at : At X t n L (cur .pos) (cur .takes) I state
   pub tree : Wrote x e y stp (encodeItems acc)
@@ -152,25 +152,37 @@ pub record Along (X t : List ℕ) (n : ℕ) (L : List ℕ) (d : ℕ) (stop : Boo
 pub record Inv (X t : List ℕ) (n : ℕ) (K L : List ℕ) (u : ℕ) (stop first₀ sign₀ : Bool) (c : Cursor) (e : ℕ) (x y : List ℕ) (cur : Cursor) (stp num : ℕ) (first sign : Bool) : Type 0 where
   pub moves : Moves X t 0 0 0 n K L c e x y cur stp
   pub few : num + 2 * c .pos ≤ 2 * cur .pos
-  pub along : Each X t n K c (λ I s. (until : Option Entry) → Until n I u until → (start : Option Node) → first₀ ≡ isNone start → sign₀ ≡ prefixes start → Along X t n L (c .depth) stop I until start s e x y cur stp num first sign)
+  pub along : Each X t n K c (λ I s. (f : ℕ) → n - c .pos ≤ f → (until : Option Entry) → Until n I u until → (start : Option Node) → first₀ ≡ isNone start → sign₀ ≡ prefixes start → Along X t n L (c .depth) f stop I until start s e x y cur stp num first sign)
+
+-- The bar is looked for behind an item only.
+abbrev ended : Option Node → Bool → Bool
+ended none b = false
+ended (some x) b = b
 
 -- one turn of the definition
-module _ (I : Input) (R : Readers) (until : Option Entry) (stop : Bool) (before : Option Node) (s u : State) where
-  turn-found : (f : ℕ) (x : Node) → atOpenClose (I .text) (I .es) until (s .pos) ≡ false → nextIntermediate (I .text) (I .es) true R (stopOf stop) (prefixes before) s ≡ (some x, u)
-      → intermediates (I .text) (I .es) true R (suc f) until (stopOf stop) before s
-      ≡ (let r = intermediates (I .text) (I .es) true R f until (stopOf stop) (some x) u in (spaced before (getElem? (I .es) (s .pos)) x (r .0), r .1))
-  unfolding intermediates
-  turn-found f x k h = bind _ _ s (at-here s) ∙ if-false _ _ s k ∙ bind _ _ s h ∙ bind _ _ u refl ∙ ret _ _
+module _ (I : Input) (d : ℕ) (until : Option Entry) (stop : Bool) (s u : State) where
+  turn-found : (before : Option Node) (f : ℕ) (x : Node) → ended before (atOpenClose (I .text) (I .es) until (s .pos)) ≡ false → nextIntermediate (I .text) (I .es) true (readers d I) (stopOf stop) (prefixes before) s ≡ (some x, u)
+      → itemsFrom d f until stop before I s ≡ (let r = itemsAt d f until stop (some x) I u in (spaced before (getElem? (I .es) (s .pos)) x (r .0), r .1))
+  unfolding intermediates spaced prefixes
+  turn-found none f x k h = bind _ _ s h ∙ bind _ _ u refl ∙ ret _ _
+  turn-found (some b) f x k h = bind _ _ s (at-here s) ∙ if-false _ _ s k ∙ bind _ _ s h ∙ bind _ _ u refl ∙ ret _ _
 
-  turn-nothing : (f : ℕ) → atOpenClose (I .text) (I .es) until (s .pos) ≡ false → nextIntermediate (I .text) (I .es) true R (stopOf stop) (prefixes before) s ≡ (none, u)
-      → intermediates (I .text) (I .es) true R (suc f) until (stopOf stop) before s ≡ (end, u)
-  unfolding intermediates
-  turn-nothing f k h = bind _ _ s (at-here s) ∙ if-false _ _ s k ∙ bind _ _ s h ∙ ret _ _
+  turn-nothing : (before : Option Node) (f : ℕ) → ended before (atOpenClose (I .text) (I .es) until (s .pos)) ≡ false → nextIntermediate (I .text) (I .es) true (readers d I) (stopOf stop) (prefixes before) s ≡ (none, u)
+      → itemsFrom d f until stop before I s ≡ (end, u)
+  unfolding intermediates prefixes
+  turn-nothing none f k h = bind _ _ s h ∙ ret _ _
+  turn-nothing (some b) f k h = bind _ _ s (at-here s) ∙ if-false _ _ s k ∙ bind _ _ s h ∙ ret _ _
 
-module _ (I : Input) (R : Readers) (until : Option Entry) (stop : Bool) (before : Option Node) (s : State) where
-  turn-met : (f : ℕ) → atOpenClose (I .text) (I .es) until (s .pos) ≡ true → intermediates (I .text) (I .es) true R (suc f) until (stopOf stop) before s ≡ (end, s)
+module _ (I : Input) (d : ℕ) (until : Option Entry) (stop : Bool) (s : State) where
+  turn-met : (before : Option Node) (f : ℕ) → ended before (atOpenClose (I .text) (I .es) until (s .pos)) ≡ true → itemsFrom d f until stop before I s ≡ (end, s)
   unfolding intermediates
-  turn-met f k = bind _ _ s (at-here s) ∙ if-true _ _ s k ∙ ret _ _
+  turn-met none f k = let z : _≡_ {A = ℕ} 0 1 = cc in absurd (omega arith)
+  turn-met (some b) f k = bind _ _ s (at-here s) ∙ if-true _ _ s k ∙ ret _ _
+
+-- the code's test
+ended-is : {X t : List ℕ} {n : ℕ} {K : List ℕ} (u : ℕ) (I : Input) (until : Option Entry) (before : Option Node) (p : ℕ) → Given X t n K I → Until n I u until → ended before (atOpenClose (I .text) (I .es) until p) ≡ barAt X t K n (pick (isNone before) n u) p
+ended-is {X} {t} {n} {K} u I until none p g h = sym (bar-none X t K n n p (omega arith))
+ended-is u I until (some b) p g h = until-is u I until p g h
 
 module _ {X t : List ℕ} {n : ℕ} {K : List ℕ} (u : ℕ) (stop first₀ sign₀ : Bool) (c : Cursor) (e : ℕ) (x : List ℕ) where
   pub along-none : c .pos ≤ n → Known X t n K → Inv X t n K K u stop first₀ sign₀ c e x x c e 0 first₀ sign₀
@@ -178,32 +190,33 @@ module _ {X t : List ℕ} {n : ℕ} {K : List ℕ} (u : ℕ) (stop first₀ sign
   along-none k kn = record {
     moves = record { within = k; on = omega arith; depth = refl; room = omega arith; long = refl; kept = kept-refl K; known = kn };
     few = omega arith;
-    along = λ I s at until hu start hf hs. record { left = length (I .es); acc = end; before = start; state = s; whole = refl; enough = omega (arith, at .given .size); at = at; tree = wrote-none x e; number = refl; isFirst = hf; isSign = hs; last = refl };
+    along = λ I s at f hn until hu start hf hs. record { left = f; acc = end; before = start; state = s; whole = refl; enough = hn; at = at; tree = wrote-none x e; number = refl; isFirst = hf; isSign = hs; last = refl };
   }
 
   module _ {L y y2 y3 : List ℕ} {cur : Cursor} {stp num : ℕ} {first sign : Bool} {g : Gap} (i : Inv X t n K L u stop first₀ sign₀ c e x y cur stp num first sign) (gp : Gapped t L n first (cur .pos) stp y y2 g)
-      (room : stp + 14 + 32 * (n - cur .pos) ≤ length y) (unmet : barAt X t L n u (cur .pos) ≡ false) where
+      (room : stp + 14 + 32 * (n - cur .pos) ≤ length y) (unmet : barAt X t L n (pick first n u) (cur .pos) ≡ false) where
     pub along-more : {J : List ℕ} {b : Cursor} {E : ℕ} {f : Bool} → Intermediate X t n L J stop sign cur (g .end) y2 y3 (Found b E f) → Inv X t n K J u stop first₀ sign₀ c e x y3 b E (num + (1 + g .items)) false (not f)
     unfolding encodeItems prefixes
     along-more {J} {b} {E} {f} p = record {
       moves = record { within = p .0 .within; on = omega (arith, p .0 .on, i .moves .on); depth = p .0 .depth ∙ i .moves .depth; room = omega (arith, p .0 .room, gp .short, i .moves .room); long = p .0 .long ∙ gp .tree .long ∙ i .moves .long; kept = kept-trans (i .moves .kept) (p .0 .kept); known = p .0 .known };
       few = omega (arith, i .few, gp .few, p .0 .on);
-      along = λ I s at until hu start hf hs.
-          let a = i .along I s at until hu start hf hs in
+      along = λ I s at f hn until hu start hf hs.
+          let a = i .along I s at f hn until hu start hf hs in
           let q = rw (i .moves .depth) at (p .1 I (a .state) (a .at)) in
           let k = spaces (cur .pos) (a .before) (a .at .given) in
           let run : nextIntermediate (I .text) (I .es) true (readers (c .depth) I) (stopOf stop) (prefixes (a .before)) (a .state) ≡ (some (q .node), q .state) = rw (a .isSign) at (q .runs) in
           let l1 : a .left ≡ suc (a .left - 1) = omega (arith, a .enough, p .0 .on, p .0 .within) in
-          let rest = intermediates (I .text) (I .es) true (readers (c .depth) I) (a .left) until (stopOf stop) (some (q .node)) (q .state) in
+          let rest = itemsAt (c .depth) (a .left) until stop (some (q .node)) I (q .state) in
+          let go : ended (a .before) (atOpenClose (I .text) (I .es) until (a .state .pos)) ≡ false = ap (λ (p : ℕ). ended (a .before) (atOpenClose (I .text) (I .es) until p)) (sym (a .at .pos)) ∙ ended-is u I until (a .before) (cur .pos) (a .at .given) hu ∙ ap (λ (b : Bool). barAt X t L n (pick b n u) (cur .pos)) (sym (a .isFirst)) ∙ unmet in
           record {
             left = a .left - 1;
             acc = a .acc ⧺ (k .nodes ⧺ (q .node ▸ end));
             before = some (q .node);
             state = q .state;
-            whole = a .whole ∙ ap (joined (a .acc)) (turn-found I (readers (c .depth) I) until stop (a .before) (a .state) (q .state) (a .left) (q .node) (ap (atOpenClose (I .text) (I .es) until) (sym (a .at .pos)) ∙ until-is u I until (cur .pos) (a .at .given) hu ∙ unmet) run)
+            whole = a .whole ∙ ap (joined (a .acc)) (turn-found I (c .depth) until stop (a .state) (q .state) (a .before) (a .left) (q .node) go run)
                 ∙ ap (λ (w : Nodes). (a .acc ⧺ w, rest .1)) (ap (λ (p : ℕ). spaced (a .before) (getElem? (I .es) p) (q .node) (rest .0)) (sym (a .at .pos)) ∙ k .put (q .node) (rest .0))
                 ∙ ap (λ (w : Nodes). (w, rest .1)) (rejoin (a .acc) (k .nodes) (q .node) (rest .0))
-                ∙ ap (λ (m : ℕ). joined (a .acc ⧺ (k .nodes ⧺ (q .node ▸ end))) (intermediates (I .text) (I .es) true (readers (c .depth) I) m until (stopOf stop) (some (q .node)) (q .state))) l1;
+                ∙ ap (λ (m : ℕ). joined (a .acc ⧺ (k .nodes ⧺ (q .node ▸ end))) (itemsAt (c .depth) m until stop (some (q .node)) I (q .state))) l1;
             enough = omega (arith, l1, a .enough, p .0 .on, p .0 .within);
             at = q .at;
             tree = rw (words-more (a .acc) (k .nodes) (q .node) (k .words ∙ ap (λ (b : Bool). gapWords t L n b (cur .pos)) (sym (a .isFirst)))) (seq (a .tree) (seq (gp .tree) (q .tree)));
@@ -218,31 +231,31 @@ module _ {X t : List ℕ} {n : ℕ} {K : List ℕ} (u : ℕ) (stop first₀ sign
     along-nothing {J} {b} p = record {
       moves = record { within = p .0 .within; on = omega (arith, p .0 .on, i .moves .on); depth = p .0 .depth ∙ i .moves .depth; room = omega (arith, p .0 .on, i .moves .room); long = p .0 .long ∙ gp .tree .long ∙ i .moves .long; kept = kept-trans (i .moves .kept) (p .0 .kept); known = p .0 .known };
       few = omega (arith, i .few, p .0 .on);
-      means = λ I s at until hu start hf hs.
-          let a = i .along I s at until hu start hf hs in
+      means = λ I s at f hn until hu start hf hs.
+          let a = i .along I s at f hn until hu start hf hs in
           let q = rw (i .moves .depth) at (p .1 I (a .state) (a .at)) in
           let run : nextIntermediate (I .text) (I .es) true (readers (c .depth) I) (stopOf stop) (prefixes (a .before)) (a .state) ≡ (none, q .state) = rw (a .isSign) at (q .runs) in
           record {
             answer = a .acc;
             state = q .state;
-            runs = a .whole ∙ ap (joined (a .acc)) (turn-nothing I (readers (c .depth) I) until stop (a .before) (a .state) (q .state) (a .left) (ap (atOpenClose (I .text) (I .es) until) (sym (a .at .pos)) ∙ until-is u I until (cur .pos) (a .at .given) hu ∙ unmet) run) ∙ ap (λ (w : Nodes). (w, q .state)) (nodes-nil (a .acc));
+            runs = a .whole ∙ ap (joined (a .acc)) (turn-nothing I (c .depth) until stop (a .state) (q .state) (a .before) (a .left) (ap (λ (p : ℕ). ended (a .before) (atOpenClose (I .text) (I .es) until p)) (sym (a .at .pos)) ∙ ended-is u I until (a .before) (cur .pos) (a .at .given) hu ∙ ap (λ (b : Bool). barAt X t L n (pick b n u) (cur .pos)) (sym (a .isFirst)) ∙ unmet) run) ∙ ap (λ (w : Nodes). (w, q .state)) (nodes-nil (a .acc));
             at = q .at;
             tree = rw append-nil at (seq (a .tree) (back stp (seq (gp .tree) (q .tree)) (omega arith) (omega (arith, gp .short))));
             besides = (a .number, a .isSign ∙ ap prefixes (a .last));
           };
     }
 
-  pub along-met : {L y : List ℕ} {cur : Cursor} {stp num : ℕ} {first sign : Bool} → Inv X t n K L u stop first₀ sign₀ c e x y cur stp num first sign → barAt X t L n u (cur .pos) ≡ true
+  pub along-met : {L y : List ℕ} {cur : Cursor} {stp num : ℕ} {first sign : Bool} → Inv X t n K L u stop first₀ sign₀ c e x y cur stp num first sign → barAt X t L n (pick first n u) (cur .pos) ≡ true
       → Intermediates X t n K L u stop first₀ sign₀ c e x y (record { cur = cur; end = stp; count = num; sign = sign })
-  along-met {L} {y} {cur} {stp} {num} i h = record {
+  along-met {L} {y} {cur} {stp} {num} {first} i h = record {
     moves = i .moves;
     few = i .few;
-    means = λ I s at until hu start hf hs.
-        let a = i .along I s at until hu start hf hs in
+    means = λ I s at f hn until hu start hf hs.
+        let a = i .along I s at f hn until hu start hf hs in
         record {
           answer = a .acc;
           state = a .state;
-          runs = a .whole ∙ ap (joined (a .acc)) (turn-met I (readers (c .depth) I) until stop (a .before) (a .state) (a .left) (ap (atOpenClose (I .text) (I .es) until) (sym (a .at .pos)) ∙ until-is u I until (cur .pos) (a .at .given) hu ∙ h)) ∙ ap (λ (w : Nodes). (w, a .state)) (nodes-nil (a .acc));
+          runs = a .whole ∙ ap (joined (a .acc)) (turn-met I (c .depth) until stop (a .state) (a .before) (a .left) (ap (λ (p : ℕ). ended (a .before) (atOpenClose (I .text) (I .es) until p)) (sym (a .at .pos)) ∙ ended-is u I until (a .before) (cur .pos) (a .at .given) hu ∙ ap (λ (b : Bool). barAt X t L n (pick b n u) (cur .pos)) (sym (a .isFirst)) ∙ h)) ∙ ap (λ (w : Nodes). (w, a .state)) (nodes-nil (a .acc));
           at = a .at;
           tree = a .tree;
           besides = (a .number, a .isSign ∙ ap prefixes (a .last));

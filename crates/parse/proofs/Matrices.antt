@@ -28,9 +28,11 @@ use Rattle.parse.proofs.Buffer.{fill, back, wrote-none}
 use Rattle.records.proofs.Places.{test-below}
 use Rattle.parse.proofs.Kit.{bind, ret, at-here, if-true, if-false, tick, at-tick, row-of, kept-refl, kept-trans, test-kind, same-is, past, at-some, at-none}
 use Rattle.parse.specs.declared.cursor.Cells.{Cells}
-use Rattle.parse.specs.Columns as columns
+use Rattle.columns.specs.declared.Split.{Split}
+use Rattle.columns.specs.Columns.{cellsEnd}
+use Rattle.columns.specs.Rows as columns
+use Rattle.parse.specs.Columns.{SplitReady, MatrixAt, Splits}
 use Rattle.parse.specs.Matrix.{Broke, Filled, Fails, HasMatrix, rowsAt}
-use Rattle.parse.specs.declared.columns.Split.{Split}
 use Rattle.parse.proofs.Attempts.{mark-is, set-kept, at-lost, known-lost, attempt-known, attempt-made, attempt-lost}
 use Rattle.parse.proofs.Cells.{took-any, cell-words}
 use Rattle.parse.proofs.Loop.{bar-is}
@@ -63,8 +65,8 @@ encodes-end = refl
 abbrev cellWords : Nodes → List ℕ
 cellWords l = 17 ∷ 0 ∷ 0 ∷ count l ∷ length (encodeItems l) ∷ 0 ∷ encodeItems l
 
-pub chain-of : {x₀ x : List ℕ} {e E k : ℕ} {l : Nodes} → columns.Cells k l → Wrote x₀ e x E (encodes l) → E ≤ length x → columns.cellsEnd x e k ≡ E
-unfolding columns.cellsEnd
+pub chain-of : {x₀ x : List ℕ} {e E k : ℕ} {l : Nodes} → columns.Cells k l → Wrote x₀ e x E (encodes l) → E ≤ length x → cellsEnd x e k ≡ E
+unfolding cellsEnd
 chain-of {e = e} columns.Cells.none p h = omega (arith, p .upto, ap length encodes-end)
 chain-of {x₀} {x} {e} {E} (columns.Cells.cell {l = l} {m = m} {n = n} c) p h =
     let cw : encodes (node Head.cell l ▸ m) ≡ cellWords l ++ encodes m = encodes-more (node Head.cell l) m ∙ ap (λ (v : List ℕ). v ++ encodes m) (cell-words l refl refl) in
@@ -72,7 +74,7 @@ chain-of {x₀} {x} {e} {E} (columns.Cells.cell {l = l} {m = m} {n = n} c) p h =
     let w4 : getD x (e + 4) 0 ≡ length (encodeItems l) = word-at 4 p2 h (omega (arith, length-append (cellWords l) (encodes m))) in
     let q : Wrote x (e + length (cellWords l)) x E (encodes m) = after (cellWords l) p2 h in
     let z : e + length (cellWords l) ≡ e + (6 + getD x (e + 4) 0) = omega (arith, w4) in
-    ap (λ (k : ℕ). columns.cellsEnd x k n) (sym z) ∙ chain-of c q h
+    ap (λ (k : ℕ). cellsEnd x k n) (sym z) ∙ chain-of c q h
 
 cells-append : {j k : ℕ} {l m : Nodes} → columns.Cells j l → columns.Cells k m → columns.Cells (j + k) (l ⧺ m)
 cells-append {k = k} {m = m} columns.Cells.none d = let z : k ≡ 0 + k = omega arith in subst (λ (i : ℕ). columns.Cells i m) z d
@@ -92,9 +94,9 @@ grid-cells {cols} (columns.Grid.row {r = r} {rs = rs} c g) =
     subst (λ (i : ℕ). columns.Cells i (r ⧺ columns.joined rs)) z (cells-append c (grid-cells g))
 
 pub split-ready : {X t : List ℕ} {n : ℕ} {L x y : List ℕ} {m : M (Option Rows)} {I : Input} {s : State} {e cols l k E : ℕ} {d : Cursor} → HasMatrix X t n L m I s e x y cols l k d E → 1 ≤ cols → cols ≤ k → k ≤ 4096 → E + k ≤ length y
-    → columns.SplitReady y e E k cols
+    → SplitReady y e E k cols
 split-ready {y = y} {e = e} {k = k} {E = E} w h1 h2 h3 h4 = record {
-  chain = ap (λ (j : ℕ). columns.cellsEnd y e j) (w .number) ∙ chain-of (grid-cells (w .all)) (w .tree) (omega arith);
+  chain = ap (λ (j : ℕ). cellsEnd y e j) (w .number) ∙ chain-of (grid-cells (w .all)) (w .tree) (omega arith);
   some = omega arith;
   few = omega arith;
   room = omega arith;
@@ -257,15 +259,15 @@ module _ {X t : List ℕ} {n : ℕ} {K : List ℕ} (i : ℕ) (c : Cursor) (e : �
       )
 
       module _ {cols l k E : ℕ} {d : Cursor} (z : List ℕ) (sp : Split) (f : Filled X t n K L c (e + 8) x y k d E) (few : cols ≤ k) (hl : l < n) (p : Each X t n K c (λ I s. HasMatrix X t n L (rowsAt X t n (c .depth) I) I s (e + 8) x y cols l k d E))
-          (sl : columns.Splits X y (e + 8) E k cols z sp) (lz : length z ≡ length y) where
+          (sl : Splits X y (e + 8) E k cols z sp) (lz : length z ≡ length y) where
         record Split-at (I : Input) (s : State) : Type 0 where
           pub has : HasMatrix X t n L (rowsAt X t n (c .depth) I) I s (e + 8) x y cols l k d E
-          pub mat : columns.MatrixAt (splitColumnLines (I .text) (I .es) (has .rows)) x (e + 8) z sp
+          pub mat : MatrixAt (splitColumnLines (I .text) (I .es) (has .rows)) x (e + 8) z sp
 
         split-at : (I : Input) (s : State) → At X t n K (c .pos) (c .takes) I s → Split-at I s
         split-at I s at =
             let q = p I s at in
-            record { has = q; mat = subst (λ (w : List ℕ). columns.MatrixAt (splitColumnLines w (I .es) (q .rows)) x (e + 8) z sp) (sym (at .given .text)) (sl .gives (I .es) (q .rows) x (q .all) (q .tree)) }
+            record { has = q; mat = subst (λ (w : List ℕ). MatrixAt (splitColumnLines w (I .es) (q .rows)) x (e + 8) z sp) (sym (at .given .text)) (sl .gives (I .es) (q .rows) x (q .all) (q .tree)) }
 
         pub try-unmade : {N : List ℕ} → makesAt X t L n i l (sp .cells) (d .pos) ≡ false → 4 * i + 3 < length L → N ≡ set L (4 * i + 3) (withMark (marksOf L i) 4) → TryMatrix X t n K N i c e x z (Nothing (rewound (c .pos) d))
         unfolding matrixBody

@@ -30,7 +30,7 @@ use Rattle.parse.specs.declared.cursor.Cells.{Cells}
 use Rattle.parse.specs.declared.cursor.Why.{Why}
 use Rattle.parse.specs.declared.cursor.Why.the-variants as why
 use Rattle.parse.specs.declared.cursor.Rows as rows
-use Rattle.parse.specs.Columns as columns
+use Rattle.columns.specs.Rows as columns
 use Rattle.parse.specs.Matrix.{Broke, Filled, Fails, HasRow, rowAt, MatrixRow, First, moreAt, MoreRows, MoreRows′, rowsAt, MatrixRows, MatrixRows′}
 use Rattle.parse.proofs.Cells.{took-any}
 use Rattle.parse.proofs.Loop.{nodes-assoc, nodes-nil, same-text}

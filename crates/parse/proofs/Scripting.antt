@@ -1,6 +1,6 @@
 -- What each way through a scripted part, a head, an item and a group shows.
 use Prim.Native.Nat.{ℕ, _+_, _*_, _-_, _≤_, _<_}
-use mathlib.Core.Path.{_≡_, refl, sym, ap, _∙_}
+use mathlib.Core.Path.{_≡_, refl, sym, ap, _∙_, subst}
 use mathlib.Core.List.{List, [], _∷_, _++_, append-nil, append-assoc}
 use mathlib.Core.Option.{Option, none, some}
 use mathlib.Core.Bool.{Bool, true, false}
@@ -24,8 +24,9 @@ use Rattle.parse.specs.Buffer.{Wrote}
 use Rattle.records.specs.Record.{startOf, lenOf}
 use Rattle.records.specs.Tests.{testAt, isKind, headsKind}
 use Rattle.nodes.specs.Nodes.{nodeWords, groupWords}
-use Rattle.parse.specs.Meet.{Input, Row, At, Known, readers, Finds, Simple, ScriptFunc, Intermediate, Operand, Scripts, Intermediates, Headed, OpenGroup, With, wordsOf, stopOf, scriptFuncAt, onward, seen, inner, atDepth}
+use Rattle.parse.specs.Meet.{Input, Row, At, Known, readers, Finds, Simple, ScriptFunc, Term, Intermediate, Operand, Scripts, Intermediates, Headed, OpenGroup, With, wordsOf, stopOf, scriptFuncAt, onward, seen, inner, atDepth}
 use Rattle.parse.proofs.Buffer.{fill, seq, back, wrote-none}
+use Rattle.parse.proofs.Whole.{whole-items}
 use Rattle.records.proofs.Places.{test-below}
 use Rattle.parse.proofs.Kit.{bind, ret, if-true, if-false, tick, at-tick, row-of, kept-refl, kept-trans, took, passed, same-is, same-heads, kind-is, level-scriptFunc, deep-simple, deep-scriptFunc}
 
@@ -75,36 +76,51 @@ pub found-of : {X t : List ℕ} {n : ℕ} {L : List ℕ} {m : M (Option Node)} {
 found-of none r at w bs = absurd bs
 found-of {u = u} (some a) r at w bs = record { node = a; state = u; runs = r; at = at; tree = w; besides = bs }
 
-module _ {X t : List ℕ} {n : ℕ} {K : List ℕ} (stop sg : Bool) {c : Cursor} {e : ℕ} {x : List ℕ} (deep : c .depth < 256) where
-  pub script-nothing : {L y : List ℕ} {b : Cursor} → testAt t K n (headsKind sg) (c .pos) ≡ false → e + 6 + 32 * (n - c .pos) ≤ length x
-      → Simple X t n K L stop sg (inner (seen n c)) (e + 6) x y (Nothing b) → ScriptFunc X t n K L stop sg c e x y (Nothing (atDepth (c .depth) b))
-  unfolding nextScriptFunc
-  script-nothing h k p = (
-    record { within = p .0 .within; on = p .0 .on; depth = refl; room = omega (arith, p .0 .on); long = p .0 .long; kept = p .0 .kept; known = p .0 .known },
-    λ I s at.
-        let r = passed (headsKind sg) at (same-heads sg) h in
-        let q = p .1 I (r .state) (r .at) in
-        record { state = q .state; runs = script-runs (c .depth) stop sg deep I s (bind _ _ s (r .runs) ∙ bind _ _ _ (q .runs) ∙ ret _ _); at = q .at; tree = back e (q .tree) (omega arith) (omega arith) },
+-- a simple expression and its scripts
+module _ {X t : List ℕ} {n : ℕ} {K : List ℕ} (stop sg : Bool) {c : Cursor} {e : ℕ} {x : List ℕ} where
+  pub term-nothing : {L y : List ℕ} {b : Cursor} → e + 6 + 32 * (n - c .pos) ≤ length x → Simple X t n K L stop sg c (e + 6) x y (Nothing b) → Term X t n K L stop sg c e x y (Nothing b)
+  term-nothing k p = (
+    record { within = p .0 .within; on = p .0 .on; depth = p .0 .depth; room = omega (arith, p .0 .on); long = p .0 .long; kept = p .0 .kept; known = p .0 .known },
+    λ I s at. let q = p .1 I s at in record { state = q .state; runs = bind _ _ s (q .runs) ∙ ret _ _; at = q .at; tree = back e (q .tree) (omega arith) (omega arith) },
   )
 
-  pub script-scripted : {L J y z w : List ℕ} {b : Cursor} {E : ℕ} {f : Bool} {g : code.Scripted} → testAt t K n (headsKind sg) (c .pos) ≡ false → e + 6 + 32 * (n - c .pos) ≤ length x
-      → Simple X t n K L stop sg (inner (seen n c)) (e + 6) x y (Found b E f) → Scripts X t n L J b E y z g
-      → w ≡ sets z e (13 ∷ 0 ∷ 0 ∷ g .script ∷ 0 ∷ 0 ∷ []) → ScriptFunc X t n K J stop sg c e x w (Found (atDepth (c .depth) (g .cur)) (g .end) f)
-  unfolding nextScriptFunc encode encodes endsOperand look endsFirst encodeItem
-  script-scripted {L} {J} {y} {z} {w} {b} {E} {f} {g} h k p p2 hw = (
-    record { within = p2 .moves .within; on = omega (arith, p .0 .on, p2 .moves .on); depth = refl; room = omega (arith, p .0 .room, p2 .moves .room); long = ap length hw ∙ length-sets z e (13 ∷ 0 ∷ 0 ∷ g .script ∷ 0 ∷ 0 ∷ []) ∙ p2 .moves .long ∙ p .0 .long; kept = kept-trans (p .0 .kept) (p2 .moves .kept); known = p2 .moves .known },
+  pub term-scripted : {L J y z w : List ℕ} {b : Cursor} {E : ℕ} {f : Bool} {g : code.Scripted} → e + 6 + 32 * (n - c .pos) ≤ length x
+      → Simple X t n K L stop sg c (e + 6) x y (Found b E f) → Scripts X t n L J b E y z g → w ≡ sets z e (13 ∷ 0 ∷ 0 ∷ g .script ∷ 0 ∷ 0 ∷ []) → Term X t n K J stop sg c e x w (Found (g .cur) (g .end) f)
+  unfolding encode encodes endsOperand look endsFirst encodeItem
+  term-scripted {L} {J} {y} {z} {w} {b} {E} {f} {g} k p p2 hw = (
+    record { within = p2 .moves .within; on = omega (arith, p .0 .on, p2 .moves .on); depth = p2 .moves .depth ∙ p .0 .depth; room = omega (arith, p .0 .room, p2 .moves .room); long = ap length hw ∙ length-sets z e (13 ∷ 0 ∷ 0 ∷ g .script ∷ 0 ∷ 0 ∷ []) ∙ p2 .moves .long ∙ p .0 .long; kept = kept-trans (p .0 .kept) (p2 .moves .kept); known = p2 .moves .known },
     λ I s at.
-        let r = passed (headsKind sg) at (same-heads sg) h in
-        let q = p .1 I (r .state) (r .at) in
+        let q = p .1 I s at in
         let q2 = rw (p .0 .depth) at (p2 .means I (q .state) (q .at)) in
         record {
           node = node (Head.simple (q2 .answer .0)) (q .node ▸ q2 .answer .1);
           state = q2 .state;
-          runs = script-runs (c .depth) stop sg deep I s (bind _ _ s (r .runs) ∙ bind _ _ _ (q .runs) ∙ bind _ _ _ (q2 .runs) ∙ ret _ _);
+          runs = bind _ _ s (q .runs) ∙ bind _ _ _ (q2 .runs) ∙ ret _ _;
           at = q2 .at;
           tree = rw (hw, append-nil, ← q2 .besides) (fill e (13 ∷ 0 ∷ 0 ∷ g .script ∷ 0 ∷ 0 ∷ []) (seq (q .tree) (q2 .tree)) refl (omega (arith, p .0 .room, p2 .moves .room)));
           besides = (q .besides, refl);
         },
+  )
+
+module _ {X t : List ℕ} {n : ℕ} {K : List ℕ} (stop sg : Bool) {c : Cursor} {e : ℕ} {x : List ℕ} (deep : c .depth < 256) where
+  pub script-nothing : {L y : List ℕ} {a b : Cursor} → a ≡ inner (seen n c) → testAt t K n (headsKind sg) (c .pos) ≡ false → Term X t n K L stop sg a e x y (Nothing b) → ScriptFunc X t n K L stop sg c e x y (Nothing (atDepth (c .depth) b))
+  unfolding nextScriptFunc
+  script-nothing {L} {y} {a} {b} ha h p₀ = let p = subst (λ (w : Cursor). Term X t n K L stop sg w e x y (Nothing b)) ha p₀ in (
+    record { within = p .0 .within; on = p .0 .on; depth = refl; room = omega (arith, p .0 .room); long = p .0 .long; kept = p .0 .kept; known = p .0 .known },
+    λ I s at.
+        let r = passed (headsKind sg) at (same-heads sg) h in
+        let q = p .1 I (r .state) (r .at) in
+        record { state = q .state; runs = script-runs (c .depth) stop sg deep I s (bind _ _ s (r .runs) ∙ q .runs); at = q .at; tree = q .tree },
+  )
+
+  pub script-term : {L y : List ℕ} {a b : Cursor} {E : ℕ} {f : Bool} → a ≡ inner (seen n c) → testAt t K n (headsKind sg) (c .pos) ≡ false → Term X t n K L stop sg a e x y (Found b E f) → ScriptFunc X t n K L stop sg c e x y (Found (atDepth (c .depth) b) E f)
+  unfolding nextScriptFunc
+  script-term {L} {y} {a} {b} {E} {f} ha h p₀ = let p = subst (λ (w : Cursor). Term X t n K L stop sg w e x y (Found b E f)) ha p₀ in (
+    record { within = p .0 .within; on = p .0 .on; depth = refl; room = p .0 .room; long = p .0 .long; kept = p .0 .kept; known = p .0 .known },
+    λ I s at.
+        let r = passed (headsKind sg) at (same-heads sg) h in
+        let q = p .1 I (r .state) (r .at) in
+        record { node = q .node; state = q .state; runs = script-runs (c .depth) stop sg deep I s (bind _ _ s (r .runs) ∙ q .runs); at = q .at; tree = q .tree; besides = q .besides },
   )
 
   pub script-headed : {L y : List ℕ} {g : Part} → testAt t K n (headsKind sg) (c .pos) ≡ true
@@ -241,7 +257,7 @@ module _ {X t : List ℕ} {n : ℕ} {K L : List ℕ} (i : ℕ) {c : Cursor} {e :
       record {
         moves = record { within = omega arith; on = omega (arith, p .moves .on); depth = p .moves .depth; room = omega (arith, p .moves .room); long = ap length hz ∙ length-sets y e (groupWords t L n i (g .cur .pos) (g .count)) ∙ p .moves .long; kept = p .moves .kept; known = p .moves .known };
         means = λ I s at en there.
-            let q = p .means I s at none (omega arith) none refl refl in
+            let q = whole-items p (omega arith) I s at none refl refl in
             let u = took (isKind 21) (q .at) (same-is token.CloseBracket) h in
             let r = row-of (q .at .given) inside there in
             record {
@@ -262,7 +278,7 @@ module _ {X t : List ℕ} {n : ℕ} {K L : List ℕ} (i : ℕ) {c : Cursor} {e :
       record {
         moves = record { within = p .moves .within; on = p .moves .on; depth = p .moves .depth; room = omega (arith, p .moves .room); long = ap length hz ∙ length-sets y e (groupWords t L n i n (g .count)) ∙ p .moves .long; kept = p .moves .kept; known = p .moves .known };
         means = λ I s at en there.
-            let q = p .means I s at none (omega arith) none refl refl in
+            let q = whole-items p (omega arith) I s at none refl refl in
             let u = passed (isKind 21) (q .at) (same-is token.CloseBracket) h in
             let r = row-of (q .at .given) inside there in
             record {

@@ -22,6 +22,7 @@ use Rattle.records.specs.Tests.{testAt, isKind}
 use Rattle.parse.specs.Entry.{Safe, Kept}
 use Rattle.parse.specs.Meet.{Input, Row, Given, Marks, At, Known, Intermediates, lastAfter, isNone, onward, seen}
 use Rattle.records.proofs.Places.{test-below}
+use Rattle.parse.proofs.Whole.{whole-items}
 use Rattle.parse.proofs.Kit.{bind, ret, tick, at-tick, same-kind, same-start, same-len, same-row, Places, safe-same, safe-kept, took, passed, test-kind, same-is}
 use Rattle.parse.specs.Top.{Wrap, Chained, wrapWords, wrapsWords, TopReady, Topped}
 use Rattle.parse.proofs.Scripting.{count-append}
@@ -255,7 +256,7 @@ module _ {X t : List ℕ} {n : ℕ} {K₀ K L x y y2 : List ℕ} {cur : Cursor} 
 
   turn : (I : Input) (a : Topping X t n K (i .list) I y cur stp num first sign wraps) → Turn I a
   turn I a =
-      let q = rw (i .depth) at (p .means I (a .state) (a .at) none (omega arith) (lastOf (a .acc)) (a .isFirst) (a .isSign)) in
+      let q = rw (i .depth) at (whole-items p (omega arith) I (a .state) (a .at) (lastOf (a .acc)) (a .isFirst) (a .isSign)) in
       record {
         l = q .answer;
         u = q .state;

@@ -29,7 +29,7 @@ pub record Kept (K L : List ℕ) : Type 0 where
 
 -- the takes after a look at the next token: a take, if there is one
 unfoldable pub looked : ℕ → ℕ → ℕ → ℕ
-looked n p u = pick (ltb p n) ((u + 1) % 2 ^ 64) u
+looked n p u = pick (ltb p n) ((u + 1) % 2 ^ 32) u
 
 abbrev pub bit : Bool → ℕ
 bit true = 1

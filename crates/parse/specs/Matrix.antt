@@ -18,7 +18,7 @@ use Rattle.parse.specs.declared.cursor.Why.the-variants as why
 use Rattle.parse.specs.declared.cursor.Rows as code
 use Rattle.parse.specs.Buffer.{Wrote}
 use Rattle.parse.specs.Entry.{Kept}
-use Rattle.parse.specs.Columns as columns
+use Rattle.columns.specs.Rows as columns
 use Rattle.parse.specs.Meet.{Input, At, Known, Each, readers}
 
 -- A failed reading of rows: where the code stands, and that nothing is written up to e.

@@ -70,12 +70,12 @@ pub record Marks (n : ℕ) (K : List ℕ) (m : List Bool) : Type 0 where
   pub held : length m ≡ 3 * n
   pub words : (i : ℕ) → i < n → marksOf K i ≡ marksWord (getD m (3 * i) false) (getD m (3 * i + 1) false) (getD m (3 * i + 2) false)
 
--- The words and the position stand where the definition does; takes are counted round 2^64.
+-- The words and the position stand where the definition does; takes are counted round 2^32.
 pub record At (X t : List ℕ) (n : ℕ) (K : List ℕ) (p u : ℕ) (I : Input) (s : State) : Type 0 where
   pub given : Given X t n K I
   pub marks : Marks n K (s .marks)
   pub pos : p ≡ s .pos
-  pub takes : u % 2 ^ 64 ≡ s .takes % 2 ^ 64
+  pub takes : u % 2 ^ 32 ≡ s .takes % 2 ^ 32
 
 -- The work words stand for some input and some marks.
 pub record Known (X t : List ℕ) (n : ℕ) (K : List ℕ) : Type 0 where
@@ -140,8 +140,25 @@ intermediateAt d stop sg I = nextIntermediate (I .text) (I .es) true (readers d 
 abbrev pub scriptAt : ℕ → Input → M Scripted
 scriptAt d I = nextScript (I .text) (I .es) true (readers d I)
 
-abbrev pub itemsAt : ℕ → Option Entry → Bool → Option Node → Input → M Nodes
-itemsAt d until stop before I = intermediates (I .text) (I .es) true (readers d I) (suc (length (I .es))) until (stopOf stop) before
+abbrev pub itemsAt : ℕ → ℕ → Option Entry → Bool → Option Node → Input → M Nodes
+itemsAt d f until stop before I = intermediates (I .text) (I .es) true (readers d I) f until (stopOf stop) before
+
+-- The same for the code, which looks for the bar behind an item only: with f turns behind the first item, if none stands before.
+abbrev pub itemsFrom : ℕ → ℕ → Option Entry → Bool → Option Node → Input → M Nodes
+itemsFrom d f until stop none I =
+    intermediateAt d stop true I >>= λ a. elim a [
+      | none ↦ return end
+      | some x ↦ itemsAt d f until stop (some x) I >>= λ l. return (x ▸ l)
+    ]
+itemsFrom d f until stop (some b) I = itemsAt d (suc f) until stop (some b) I
+
+-- next_script_func, behind the look for a head
+abbrev pub termAt : ℕ → Bool → Bool → Input → M (Option Node)
+termAt d stop sg I =
+    simpleAt d stop sg I >>= λ a. elim a [
+      | none ↦ return none
+      | some x ↦ scriptAt d I >>= λ q. return (some (node (Head.simple (q .0)) (x ▸ q .1)))
+    ]
 
 abbrev pub headedAt : ℕ → Bool → Input → Entry → M (Option Node)
 headedAt d stop I en =
@@ -161,6 +178,15 @@ abbrev pub barsAt : ℕ → Bool → ℕ → Input → Entry → M Node
 barsAt d stop i I o =
     attempt (I .text) (I .es) true (openMark (stopOf stop)) i (barBody (I .text) (I .es) true (readers d I) o (stopOf stop)) >>= λ g.
     return (orGlyph o g)
+
+-- What an opening bracket begins, or else a bar.
+abbrev pub bracketAt : Bool → ℕ → Bool → ℕ → Input → Entry → M Node
+bracketAt true d stop i I o = nextBracket (I .text) (I .es) true (readers d I) o i
+bracketAt false d stop i I o = nextOpenCloseGroup (I .text) (I .es) true (readers d I) o i (stopOf stop)
+
+-- the kinds of token that open a group
+abbrev pub opening : ℕ → Bool
+opening k = pick (eqb k 20) true (eqb k 22)
 
 abbrev pub prefixOf : ℕ → Prefix
 prefixOf k = pick (eqb k 9) Prefix.ssigned (pick (eqb k 10) Prefix.unary Prefix.sfunc)
@@ -230,6 +256,9 @@ module _ (X t : List ℕ) (n : ℕ) where
   abbrev pub ScriptFunc : List ℕ → List ℕ → Bool → Bool → Cursor → ℕ → List ℕ → List ℕ → Step → Type 0
   ScriptFunc K L stop sg c = Met K L 8 (scriptFuncAt (c .depth) stop sg) encode Scripting c
 
+  abbrev pub Term : List ℕ → List ℕ → Bool → Bool → Cursor → ℕ → List ℕ → List ℕ → Step → Type 0
+  Term K L stop sg c = Met K L 8 (termAt (c .depth) stop sg) encode Scripting c
+
   abbrev pub Intermediate : List ℕ → List ℕ → Bool → Bool → Cursor → ℕ → List ℕ → List ℕ → Step → Type 0
   Intermediate K L stop sg c = Met K L 7 (intermediateAt (c .depth) stop sg) encodeItem Ending c
 
@@ -242,12 +271,12 @@ module _ (X t : List ℕ) (n : ℕ) where
   abbrev pub Scripts : List ℕ → List ℕ → Cursor → ℕ → List ℕ → List ℕ → code.Scripted → Type 0
   Scripts K L c e x y g = Gave K L 0 0 0 (scriptAt (c .depth)) (λ q. encodes (q .1)) (λ q. g .script ≡ scriptNumber (q .0)) c e x y (g .cur) (g .end)
 
-  -- The items behind the item `before`, if there is one: the code knows of it whether it is there, and whether a sign behind it
-  -- prefixes.
+  -- The items behind the item `before`, if there is one, in turns enough: the code knows of it whether it is there, and whether a
+  -- sign behind it prefixes.
   pub record Intermediates (K L : List ℕ) (u : ℕ) (stop first sign : Bool) (c : Cursor) (e : ℕ) (x y : List ℕ) (g : Items) : Type 0 where
     pub moves : Moves X t 0 0 0 n K L c e x y (g .cur) (g .end)
     pub few : g .count + 2 * c .pos ≤ 2 * g .cur .pos
-    pub means : Each K c (λ I s. (until : Option Entry) → Until n I u until → (before : Option Node) → first ≡ isNone before → sign ≡ prefixes before → Gives L (itemsAt (c .depth) until stop before I) encodeItems (λ l. (g .count ≡ count l) × (g .sign ≡ prefixes (lastAfter before l))) I s e x y (g .cur) (g .end))
+    pub means : Each K c (λ I s. (f : ℕ) → n - c .pos ≤ f → (until : Option Entry) → Until n I u until → (before : Option Node) → first ≡ isNone before → sign ≡ prefixes before → Gives L (itemsFrom (c .depth) f until stop before I) encodeItems (λ l. (g .count ≡ count l) × (g .sign ≡ prefixes (lastAfter before l))) I s e x y (g .cur) (g .end))
 
   abbrev pub Headed : List ℕ → List ℕ → ℕ → Bool → Cursor → ℕ → List ℕ → List ℕ → Part → Type 0
   Headed K L i stop c e x y g = Began K L 18 i (headedAt (c .depth) stop) (λ en a. wordsOf a) (λ en. With Scripting (g .ends)) c e x y (g .cur) (g .end)
@@ -258,11 +287,8 @@ module _ (X t : List ℕ) (n : ℕ) where
   abbrev pub OpenGroup : List ℕ → List ℕ → ℕ → Cursor → ℕ → List ℕ → List ℕ → Part → Type 0
   OpenGroup K L i c e x y g = Began K L 6 i (λ I en. nextOpenGroup (I .text) (I .es) true (readers (c .depth) I) en) (λ en. encode) (λ en a. g .ends ≡ endsOperand a) c e x y (g .cur) (g .end)
 
-  abbrev pub Bracket : List ℕ → List ℕ → ℕ → Cursor → ℕ → List ℕ → List ℕ → Part → Type 0
-  Bracket K L i c e x y g = Began K L 8 i (λ I en. nextBracket (I .text) (I .es) true (readers (c .depth) I) en i) (λ en. encode) (λ en a. g .ends ≡ endsOperand a) c e x y (g .cur) (g .end)
-
-  abbrev pub OpenCloseGroup : List ℕ → List ℕ → ℕ → Bool → Cursor → ℕ → List ℕ → List ℕ → Part → Type 0
-  OpenCloseGroup K L i stop c e x y g = Began K L 8 i (λ I en. nextOpenCloseGroup (I .text) (I .es) true (readers (c .depth) I) en i (stopOf stop)) (λ en. encode) (λ en a. g .ends ≡ endsOperand a) c e x y (g .cur) (g .end)
+  abbrev pub Bracket : List ℕ → List ℕ → ℕ → ℕ → Bool → Cursor → ℕ → List ℕ → List ℕ → Part → Type 0
+  Bracket K L i k stop c e x y g = Began K L 8 i (bracketAt (eqb k 20) (c .depth) stop i) (λ en. encode) (λ en a. g .ends ≡ endsOperand a) c e x y (g .cur) (g .end)
 
   abbrev pub TryMatrix : List ℕ → List ℕ → ℕ → Cursor → ℕ → List ℕ → List ℕ → Step → Type 0
   TryMatrix K L i c = MetOf K L 8 i (λ I en. tryMatrix (I .text) (I .es) true (readers (c .depth) I) en i) c
@@ -285,7 +311,7 @@ pub record Gapped (t K : List ℕ) (n : ℕ) (first : Bool) (i e : ℕ) (x y : L
 
 -- The cursor's moves.
 abbrev pub onward : Cursor → Cursor
-onward c = record { pos = c .pos + 1; depth = c .depth; takes = (c .takes + 1) % 2 ^ 64 }
+onward c = record { pos = c .pos + 1; depth = c .depth; takes = (c .takes + 1) % 2 ^ 32 }
 
 abbrev pub seen : ℕ → Cursor → Cursor
 seen n c = record { pos = c .pos; depth = c .depth; takes = looked n (c .pos) (c .takes) }

@@ -50,7 +50,7 @@ pub record TopReady (n : ℕ) (X t K tree : List ℕ) : Type 0 where
 pub record Tops (X t : List ℕ) (L : List ℕ) (ws : List Wrap) (I : Input) (y : List ℕ) (g : Wrapped) : Type 0 where
   pub words : encodeItems ((parseEntries (I .text) (I .es) true) .0) ≡ wrapsWords t L ws ++ take (g .end) y
   pub number : g .count ≡ count ((parseEntries (I .text) (I .es) true) .0)
-  pub takes : g .cur .takes % 2 ^ 64 ≡ (parseEntries (I .text) (I .es) true) .1 .takes % 2 ^ 64
+  pub takes : g .cur .takes % 2 ^ 32 ≡ (parseEntries (I .text) (I .es) true) .1 .takes % 2 ^ 32
 
 pub record Topped (X t : List ℕ) (n : ℕ) (K L y : List ℕ) (g : Wrapped) : Type 0 where
   pub noted : Noted n t L (g .wraps) (g .last)

@@ -3,11 +3,14 @@ ghost use mathlib.Core.Path.{_≡_};
 ghost use Prim.Native.Nat.{_≤_, _<_};
 ghost use Rattle.parse.specs.Meet.{onward, seen, passing, inner, atDepth, rewound};
 
-// The position, the depth of the readers, and the takes so far, counted round 2^64.
+// Readers of that depth find nothing.
+pub(crate) const MAX_DEPTH: u16 = 256;
+
+// The position, the depth of the readers, and the takes so far, counted round 2^32.
 pub(crate) struct Cursor {
-    pub pos: usize,
-    pub depth: usize,
-    pub takes: u64,
+    pub pos: u16,
+    pub depth: u16,
+    pub takes: u32,
 }
 
 impl Cursor {
@@ -19,7 +22,7 @@ impl Cursor {
         Cursor {
             pos: self.pos + 1,
             depth: self.depth,
-            takes: std::num::wrapping_add_u64(self.takes, 1),
+            takes: std::num::wrapping_add_u32(self.takes, 1),
         }
     }
 
@@ -27,11 +30,11 @@ impl Cursor {
     pub(crate) fn look(self, n: usize) -> Cursor
         ensures { λ r. ⌜ r ≡ seen n self ⌝ }
     {
-        if self.pos < n {
+        if (self.pos as usize) < n {
             Cursor {
                 pos: self.pos,
                 depth: self.depth,
-                takes: std::num::wrapping_add_u64(self.takes, 1),
+                takes: std::num::wrapping_add_u32(self.takes, 1),
             }
         } else {
             self
@@ -43,7 +46,11 @@ impl Cursor {
         requires { ⌜ n ≤ 4096 ⌝ }
         ensures { λ r. ⌜ r ≡ passing n self ⌝ }
     {
-        if self.pos < n { self.next() } else { self }
+        if (self.pos as usize) < n {
+            self.next()
+        } else {
+            self
+        }
     }
 
     // One reader deeper.
@@ -59,7 +66,7 @@ impl Cursor {
     }
 
     // Back in the reader of that depth.
-    pub(crate) fn at_depth(self, depth: usize) -> Cursor
+    pub(crate) fn at_depth(self, depth: u16) -> Cursor
         ensures { λ r. ⌜ r ≡ atDepth depth self ⌝ }
     {
         Cursor {
@@ -70,7 +77,7 @@ impl Cursor {
     }
 
     // Back at the position `pos`, the takes being kept.
-    pub(crate) fn rewind(self, pos: usize) -> Cursor
+    pub(crate) fn rewind(self, pos: u16) -> Cursor
         ensures { λ r. ⌜ r ≡ rewound pos self ⌝ }
     {
         Cursor {

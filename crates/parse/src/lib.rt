@@ -1,8 +1,8 @@
 // The parser of asciimath-parser over a token list: parse.rs, and its calls on a text and on a token list.
-mod columns;
 mod cursor;
 mod plain;
 mod readers;
+mod tests;
 mod top;
 mod write;
 

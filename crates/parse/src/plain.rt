@@ -30,7 +30,7 @@ pub(crate) fn plain_item(
     ensures { λ r. ⌜ r ≡ record { cur = seen n (seen n (onward (seen n c))); end = e + 13; ends = leafEnds (kindOf (now (tok .entry)) (now (work .entry)) (c .pos)) } ⌝ }
     ensures { λ r. ⌜ now (tree .exit) ≡ sets (sets (sets (now (tree .entry)) (e + 7) (leafWords (now (tok .entry)) (now (work .entry)) (c .pos) (kindOf (now (tok .entry)) (now (work .entry)) (c .pos)))) (e + 1) (13 ∷ 0 ∷ 0 ∷ 0 ∷ 0 ∷ 0 ∷ [])) e (0 ∷ []) ⌝ }
 {
-    let i = c.pos;
+    let i = c.pos as usize;
     let k = kind_at(tok, work, i);
     put_plain(tok, work, tree, e, i, k);
     Part {

@@ -1,15 +1,17 @@
 // The readers of the Rust's parse.rs. They call one another back; 256 less the cursor's depth falls.
-use crate::columns::split_column_lines;
 use crate::cursor::Cells;
 use crate::cursor::Close;
 use crate::cursor::Cursor;
 use crate::cursor::Items;
+use crate::cursor::MAX_DEPTH;
 use crate::cursor::Part;
 use crate::cursor::Rows;
 use crate::cursor::Scripted;
 use crate::cursor::Step;
 use crate::cursor::Why;
 use crate::plain::plain_item;
+use crate::tests::bar_after;
+use crate::tests::opens;
 use crate::write::leaf;
 use crate::write::put_group;
 use crate::write::put_matrix;
@@ -17,6 +19,7 @@ use crate::write::put_node;
 use crate::write::put_space;
 use crate::write::put1;
 use crate::write::put6;
+use crate::write::split_column_lines;
 use brackets::bar_at;
 use brackets::could_be_matrix;
 use brackets::makes_matrix;
@@ -33,10 +36,11 @@ use records::tests::is_over;
 use records::tests::is_plain;
 use records::tests::marks_at;
 ghost use mathlib.Core.Path.{_≡_};
-ghost use mathlib.Core.Bool.{true};
+ghost use mathlib.Core.Bool.{true, false};
 ghost use Prim.Native.Nat.{_≤_, _<_};
+ghost use Rattle.records.specs.Record.{kindOf};
 ghost use Rattle.records.specs.Tests.{testAt, beginsKind};
-ghost use Rattle.parse.specs.Meet.{Ready, Simple, ScriptFunc, Intermediate, Argument, Operand, Scripts, Intermediates, Headed, Begun, OpenGroup, Bracket, OpenCloseGroup, TryMatrix, Bars, Unary, Binary, prefixOf};
+ghost use Rattle.parse.specs.Meet.{Ready, Simple, ScriptFunc, Intermediate, Argument, Operand, Scripts, Intermediates, Headed, Begun, OpenGroup, Bracket, TryMatrix, Bars, Unary, Binary, Term, prefixOf, opening};
 ghost use Rattle.tree.specs.Words.{prefixKind};
 ghost use Rattle.parse.specs.Matrix.{RowCells, MatrixRow, MoreRows, MatrixRows};
 
@@ -116,7 +120,7 @@ fn next_script(
     requires { ⌜ Ready 0 n (now text) (now tok) (now work) (now tree) c e ⌝ }
     ensures { λ r. ⌜ Scripts (now (text .entry)) (now (tok .entry)) n (now (work .entry)) (now (work .exit)) c e (now (tree .entry)) (now (tree .exit)) r ⌝ }
 {
-    let pos = c.pos;
+    let pos = c.pos as usize;
     if marks_at(tok, work, n, pos) {
         if is_at(tok, work, n, pos, 1) {
             let a = arg(text, tok, n, work, tree, c.next(), e, false);
@@ -129,7 +133,7 @@ fn next_script(
         } else {
             let a = arg(text, tok, n, work, tree, c.next(), e, false);
             let ac = a.cur;
-            let at = ac.pos;
+            let at = ac.pos as usize;
             if is_at(tok, work, n, at, 1) {
                 let b = arg(text, tok, n, work, tree, ac.next(), a.end, false);
                 let bc = b.cur;
@@ -171,33 +175,44 @@ fn next_script_func(
     ensures { λ r. ⌜ ScriptFunc (now (text .entry)) (now (tok .entry)) n (now (work .entry)) (now (work .exit)) stop sign c e (now (tree .entry)) (now (tree .exit)) r ⌝ }
 {
     let depth = c.depth;
-    if depth >= 256 {
+    if depth >= MAX_DEPTH {
         return Step::Nothing(c);
     }
-    let pos = c.pos;
+    let pos = c.pos as usize;
     if heads_at(tok, work, n, pos, sign) {
         let g = headed(text, tok, n, work, tree, c.next().deeper(), e, stop, pos);
         let gc = g.cur;
         Step::Found(gc.at_depth(depth), g.end, g.ends)
     } else {
-        match next_simple(
-            text,
-            tok,
-            n,
-            work,
-            tree,
-            c.look(n).deeper(),
-            e + 6,
-            stop,
-            sign,
-        ) {
+        match term(text, tok, n, work, tree, c.look(n).deeper(), e, stop, sign) {
             Step::Nothing(d) => Step::Nothing(d.at_depth(depth)),
-            Step::Found(d, e1, f) => {
-                let m = next_script(text, tok, n, work, tree, d, e1);
-                let mc = m.cur;
-                put6(tree, e, 13, 0, 0, m.script, 0, 0);
-                Step::Found(mc.at_depth(depth), m.end, f)
-            }
+            Step::Found(d, e1, f) => Step::Found(d.at_depth(depth), e1, f),
+        }
+    }
+}
+
+// A term: a simple expression with its scripts.
+fn term(
+    text: &[u8],
+    tok: &[u32],
+    n: usize,
+    work: &mut [u32],
+    tree: &mut [u32],
+    c: Cursor,
+    e: usize,
+    stop: bool,
+    sign: bool,
+) -> Step
+    requires { ⌜ Ready 6 n (now text) (now tok) (now work) (now tree) c e ⌝ }
+    ensures { λ r. ⌜ Term (now (text .entry)) (now (tok .entry)) n (now (work .entry)) (now (work .exit)) stop sign c e (now (tree .entry)) (now (tree .exit)) r ⌝ }
+{
+    match next_simple(text, tok, n, work, tree, c, e + 6, stop, sign) {
+        Step::Nothing(d) => Step::Nothing(d),
+        Step::Found(d, e1, f) => {
+            let m = next_script(text, tok, n, work, tree, d, e1);
+            let mc = m.cur;
+            put6(tree, e, 13, 0, 0, m.script, 0, 0);
+            Step::Found(mc, m.end, f)
         }
     }
 }
@@ -259,7 +274,7 @@ fn next_intermediate(
     match next_script_func(text, tok, n, work, tree, c, e + 1, stop, sign) {
         Step::Nothing(d) => Step::Nothing(d),
         Step::Found(d, e1, f) => {
-            let pos = d.pos;
+            let pos = d.pos as usize;
             if is_at(tok, work, n, pos, 0) {
                 put1(tree, e, 1);
                 let g = operand(text, tok, n, work, tree, d.next(), e1, false);
@@ -273,7 +288,7 @@ fn next_intermediate(
     }
 }
 
-// The items from the cursor on, up to a bar like that at `until`, if an entry is there. `first0`: none stands before them.
+// The items from the cursor on, up to a bar behind an item like that at `until`, if an entry is there. `first0`: none stands before them.
 pub(crate) fn extend(
     text: &[u8],
     tok: &[u32],
@@ -296,12 +311,13 @@ pub(crate) fn extend(
     let mut first = first0;
     let mut sign = sign0;
     'items: loop {
-        let pos = cur.pos;
-        if bar_at(text, tok, work, n, until, pos) {
+        let pos = cur.pos as usize;
+        let bar = bar_after(first, n, until);
+        if bar_at(text, tok, work, n, bar, pos) {
             break 'items;
         }
         let g = put_space(tok, work, n, tree, pos, end, first);
-        if is_plain(tok, work, n, cur.depth, pos) {
+        if is_plain(tok, work, n, cur.depth as usize, pos) {
             let p = plain_item(tok, work, n, tree, cur, g.end);
             cur = p.cur;
             end = p.end;
@@ -310,7 +326,7 @@ pub(crate) fn extend(
             sign = !p.ends;
             continue 'items;
         }
-        if is_over(tok, work, n, cur.depth, stop, pos) {
+        if is_over(tok, work, n, cur.depth as usize, stop, pos) {
             cur = cur.look(n).look(n);
             break 'items;
         }
@@ -356,7 +372,7 @@ fn row_cells(
         let at = end;
         let run = extend(text, tok, n, work, tree, cur, at + 6, n, true, true, true);
         let rc = run.cur;
-        let p = rc.pos;
+        let p = rc.pos as usize;
         end = run.end;
         put6(tree, at, 17, 0, 0, run.count, (end - at - 6) as u32, 0);
         count += 1;
@@ -388,7 +404,7 @@ fn next_row(
     requires { ⌜ Ready 0 n (now text) (now tok) (now work) (now tree) c e ⌝ }
     ensures { λ r. ⌜ MatrixRow (now (text .entry)) (now (tok .entry)) n (now (work .entry)) (now (work .exit)) c e (now (tree .entry)) (now (tree .exit)) r ⌝ }
 {
-    let pos = c.pos;
+    let pos = c.pos as usize;
     if is_at(tok, work, n, pos, 20) {
         row_cells(text, tok, n, work, tree, c.next(), e)
     } else {
@@ -424,7 +440,7 @@ fn more_rows(
     let mut end = e;
     let mut cells = cols;
     let why = 'rows: loop {
-        let p = cur.pos;
+        let p = cur.pos as usize;
         if is_at(tok, work, n, p, 3) {
             let row = next_row(text, tok, n, work, tree, cur.next(), end);
             cur = row.cur;
@@ -472,7 +488,7 @@ fn next_rows(
     requires { ⌜ Ready 0 n (now text) (now tok) (now work) (now tree) c e ⌝ }
     ensures { λ r. ⌜ MatrixRows (now (text .entry)) (now (tok .entry)) n (now (work .entry)) (now (work .exit)) c e (now (tree .entry)) (now (tree .exit)) r ⌝ }
 {
-    let left = c.pos;
+    let left = c.pos as usize;
     let row = next_row(text, tok, n, work, tree, c, e);
     let cur = row.cur;
     let end = row.end;
@@ -526,7 +542,7 @@ fn try_matrix(
         let from = c.pos;
         let rows = next_rows(text, tok, n, work, tree, c, e + 8);
         let cur = rows.cur;
-        let p = cur.pos;
+        let p = cur.pos as usize;
         let why = rows.why;
         match why {
             Why::Done => {
@@ -580,7 +596,7 @@ fn open_group(
 {
     let run = extend(text, tok, n, work, tree, c, e + 6, n, false, true, true);
     let cur = run.cur;
-    let at = cur.pos;
+    let at = cur.pos as usize;
     if is_at(tok, work, n, at, 21) {
         put_group(tok, work, n, tree, e, i, at, run.count);
         Part {
@@ -598,33 +614,8 @@ fn open_group(
     }
 }
 
-// The matrix or the group that the bracket at i opens.
+// The matrix or the group that the bracket of kind k at i opens, or a bar alone.
 fn bracket(
-    text: &[u8],
-    tok: &[u32],
-    n: usize,
-    work: &mut [u32],
-    tree: &mut [u32],
-    c: Cursor,
-    e: usize,
-    i: usize,
-) -> Part
-    requires { ⌜ Ready 20 n (now text) (now tok) (now work) (now tree) c e ⌝ }
-    requires { ⌜ i < n ⌝ }
-    ensures { λ r. ⌜ Bracket (now (text .entry)) (now (tok .entry)) n (now (work .entry)) (now (work .exit)) i c e (now (tree .entry)) (now (tree .exit)) r ⌝ }
-{
-    match try_matrix(text, tok, n, work, tree, c, e, i) {
-        Step::Found(d, e1, f) => Part {
-            cur: d,
-            end: e1,
-            ends: f,
-        },
-        Step::Nothing(d) => open_group(text, tok, n, work, tree, d, e, i),
-    }
-}
-
-// The matrix or the group that the bar at i opens, or the bar alone.
-fn bar_group(
     text: &[u8],
     tok: &[u32],
     n: usize,
@@ -634,10 +625,11 @@ fn bar_group(
     e: usize,
     stop: bool,
     i: usize,
+    k: u32,
 ) -> Part
     requires { ⌜ Ready 20 n (now text) (now tok) (now work) (now tree) c e ⌝ }
     requires { ⌜ i < n ⌝ }
-    ensures { λ r. ⌜ OpenCloseGroup (now (text .entry)) (now (tok .entry)) n (now (work .entry)) (now (work .exit)) i stop c e (now (tree .entry)) (now (tree .exit)) r ⌝ }
+    ensures { λ r. ⌜ Bracket (now (text .entry)) (now (tok .entry)) n (now (work .entry)) (now (work .exit)) i k stop c e (now (tree .entry)) (now (tree .exit)) r ⌝ }
 {
     match try_matrix(text, tok, n, work, tree, c, e, i) {
         Step::Found(d, e1, f) => Part {
@@ -645,7 +637,13 @@ fn bar_group(
             end: e1,
             ends: f,
         },
-        Step::Nothing(d) => bars(text, tok, n, work, tree, d, e, stop, i),
+        Step::Nothing(d) => {
+            if k == 20 {
+                open_group(text, tok, n, work, tree, d, e, i)
+            } else {
+                bars(text, tok, n, work, tree, d, e, stop, i)
+            }
+        }
     }
 }
 
@@ -670,24 +668,22 @@ fn bars(
     if failed_at(work, i, mark) {
         return leaf(tok, work, tree, c, e, i, 22);
     }
-    match next_intermediate(text, tok, n, work, tree, c, e + 6, stop, true) {
-        Step::Nothing(d) => leaf(tok, work, tree, d, e, i, 22),
-        Step::Found(d, e1, f) => {
-            let run = extend(text, tok, n, work, tree, d, e1, i, stop, false, !f);
-            let cur = run.cur;
-            let at = cur.pos;
-            if bar_at(text, tok, work, n, i, at) {
-                put_group(tok, work, n, tree, e, i, at, run.count + 1);
-                Part {
-                    cur: cur.next(),
-                    end: run.end,
-                    ends: true,
-                }
-            } else {
-                mark_failed(work, i, mark);
-                leaf(tok, work, tree, cur.rewind(from), e, i, 22)
-            }
+    let run = extend(text, tok, n, work, tree, c, e + 6, i, stop, true, true);
+    let cur = run.cur;
+    let at = cur.pos as usize;
+    let count = run.count;
+    if count == 0 {
+        leaf(tok, work, tree, cur, e, i, 22)
+    } else if bar_at(text, tok, work, n, i, at) {
+        put_group(tok, work, n, tree, e, i, at, count);
+        Part {
+            cur: cur.next(),
+            end: run.end,
+            ends: true,
         }
+    } else {
+        mark_failed(work, i, mark);
+        leaf(tok, work, tree, cur.rewind(from), e, i, 22)
     }
 }
 
@@ -746,6 +742,44 @@ fn binary(
     }
 }
 
+// What the entry i of another kind k, just taken, begins: an operation or a leaf.
+fn other(
+    text: &[u8],
+    tok: &[u32],
+    n: usize,
+    work: &mut [u32],
+    tree: &mut [u32],
+    c: Cursor,
+    e: usize,
+    stop: bool,
+    sign: bool,
+    i: usize,
+    k: u32,
+) -> Part
+    requires { ⌜ Ready 32 n (now text) (now tok) (now work) (now tree) c e ⌝ }
+    requires { ⌜ testAt (now tok) (now work) n (beginsKind stop) i ≡ true ⌝ }
+    requires { ⌜ i < n ⌝ }
+    requires { ⌜ k ≡ kindOf (now tok) (now work) i ⌝ }
+    requires { ⌜ opening k ≡ false ⌝ }
+    ensures { λ r. ⌜ Begun (now (text .entry)) (now (tok .entry)) n (now (work .entry)) (now (work .exit)) i stop sign c e (now (tree .entry)) (now (tree .exit)) r ⌝ }
+{
+    if k == 18 {
+        unary(text, tok, n, work, tree, c, e, false, i, 10)
+    } else if k == 17 {
+        unary(text, tok, n, work, tree, c, e, false, i, 11)
+    } else if k == 19 {
+        binary(text, tok, n, work, tree, c, e, i)
+    } else if k == 16 {
+        if sign {
+            unary(text, tok, n, work, tree, c, e, stop, i, 9)
+        } else {
+            leaf(tok, work, tree, c, e, i, k)
+        }
+    } else {
+        leaf(tok, work, tree, c, e, i, k)
+    }
+}
+
 // What the entry i, just taken, begins.
 fn begun(
     text: &[u8],
@@ -765,24 +799,10 @@ fn begun(
     ensures { λ r. ⌜ Begun (now (text .entry)) (now (tok .entry)) n (now (work .entry)) (now (work .exit)) i stop sign c e (now (tree .entry)) (now (tree .exit)) r ⌝ }
 {
     let k = kind_at(tok, work, i);
-    if k == 20 {
-        bracket(text, tok, n, work, tree, c, e, i)
-    } else if k == 22 {
-        bar_group(text, tok, n, work, tree, c, e, stop, i)
-    } else if k == 18 {
-        unary(text, tok, n, work, tree, c, e, false, i, 10)
-    } else if k == 17 {
-        unary(text, tok, n, work, tree, c, e, false, i, 11)
-    } else if k == 19 {
-        binary(text, tok, n, work, tree, c, e, i)
-    } else if k == 16 {
-        if sign {
-            unary(text, tok, n, work, tree, c, e, stop, i, 9)
-        } else {
-            leaf(tok, work, tree, c, e, i, k)
-        }
+    if opens(k) {
+        bracket(text, tok, n, work, tree, c, e, stop, i, k)
     } else {
-        leaf(tok, work, tree, c, e, i, k)
+        other(text, tok, n, work, tree, c, e, stop, sign, i, k)
     }
 }
 
@@ -802,10 +822,10 @@ fn next_simple(
     ensures { λ r. ⌜ Simple (now (text .entry)) (now (tok .entry)) n (now (work .entry)) (now (work .exit)) stop sign c e (now (tree .entry)) (now (tree .exit)) r ⌝ }
 {
     let depth = c.depth;
-    if depth >= 256 {
+    if depth >= MAX_DEPTH {
         return Step::Nothing(c);
     }
-    let pos = c.pos;
+    let pos = c.pos as usize;
     if begins_at(tok, work, n, pos, stop) {
         let g = begun(
             text,

@@ -65,7 +65,7 @@ fn read_items(text: &[u8], tok: &[u32], n: usize, work: &mut [u32], tree: &mut [
     'all: loop {
         let run = extend(text, tok, n, work, tree, cur, end, n, false, first, sign);
         let rc = run.cur;
-        let at = rc.pos;
+        let at = rc.pos as usize;
         end = run.end;
         count += run.count;
         first = false;
@@ -171,7 +171,7 @@ pub(crate) fn parse_entries(
     clear_from(tree, end);
     clear_from(work, 0);
     Reading {
-        takes: cur.takes,
+        takes: cur.takes as u64,
         end: end,
         items: run.count,
     }

@@ -2,6 +2,7 @@
 use crate::cursor::Cursor;
 use crate::cursor::Gap;
 use crate::cursor::Part;
+use columns::Split;
 use nodes::leaves::leaf_ends;
 use nodes::leaves::put_leaf;
 ghost use mathlib.Core.Path.{_≡_};
@@ -10,6 +11,7 @@ ghost use Prim.Native.Nat.{_+_, _≤_};
 ghost use lib.ListN.{length};
 ghost use lib.Seq.{sets};
 ghost use Rattle.nodes.specs.Nodes.{leafEnds, leafWords, nodeWords, groupWords, matrixWords};
+ghost use Rattle.parse.specs.Columns.{SplitReady, Splits};
 ghost use Rattle.parse.specs.Meet.{Gapped};
 
 pub(crate) fn put1(tree: &mut [u32], i: usize, a: u32)
@@ -120,4 +122,19 @@ pub(crate) fn put_space(
             items: 1,
         }
     }
+}
+
+// "become column lines, if some but not all columns are such": of the cells from `from` up to `end`, with the lines behind them.
+pub(crate) fn split_column_lines(
+    text: &[u8],
+    tree: &mut [u32],
+    from: usize,
+    end: usize,
+    cells: usize,
+    cols: usize,
+) -> Split
+    requires { ⌜ SplitReady (now tree) from end cells cols ⌝ }
+    ensures { λ r. ⌜ Splits (now (text .entry)) (now (tree .entry)) from end cells cols (now (tree .exit)) r ⌝ }
+{
+    columns::split_column_lines(text, tree, from, end, cells, cols)
 }

@@ -17,7 +17,7 @@ look-requires : tie.Need-look-requires
 look-requires c κs = search needs
 
 next-requires : tie.Need-next-requires
-next-requires c κs = omega (arith, ap (λ (r : Cursor). r .pos) (c .look .ensures), c .before .before .before .before .before .before .before .before .before .pre .0)
+next-requires c κs = omega (arith, ap (λ (r : Cursor). r .pos) (c .look .ensures), c .before .before .before .before .before .before .before .before .before .before .pre .0)
 
 look-requires-2 : tie.Need-look-requires-2
 look-requires-2 c κs = search needs
@@ -26,7 +26,7 @@ look-requires-3 : tie.Need-look-requires-3
 look-requires-3 c κs = search needs
 
 add-t16 : tie.Need-add-t16
-add-t16 c = omega (arith, c .before .before .before .before .before .before .before .before .before .before .before .before .pre .1, c .before .before .before .before .before .before .before .before .before .before .before .before .good .1 .1 .1 .0 .0)
+add-t16 c = omega (arith, c .before .before .before .before .before .before .before .before .before .before .before .before .before .pre .1, c .before .before .before .before .before .before .before .before .before .before .before .before .before .good .1 .1 .1 .0 .0)
 
 leaf-ends-requires : tie.Need-leaf-ends-requires
 leaf-ends-requires c κs = search needs
@@ -35,12 +35,16 @@ same-length : tie.Need-same-length
 same-length c = search needs
 
 returns : tie.Need-returns
-returns c = (plain-answer (c .before .before .before .before .before .before .before .before .before .before .before .before .before .args .n) (c .before .before .before .before .before .before .before .before .before .before .before .before .before .args .c) _ _ _ _ (c .before .before .before .before .before .before .before .before .before .before .before .before .before .args .e) _ _ _ (c .before .before .before .before .look .ensures) (c .before .before .before .next .ensures) (c .before .before .look2 .ensures) (c .before .look3 .ensures) (c .leaf-ends .ensures) (c .before .before .before .before .before .before .before .before .before .kind-at .ensures), plain-tree (c .before .before .before .before .before .before .before .before .before .before .before .before .before .args .tok .now) (c .before .before .before .before .before .before .before .before .before .before .before .before .before .args .work .now) (c .before .before .before .before .before .before .before .before .before .before .before .before .before .args .tree .now) (c .before .before .before .before .before .before .before .before .before .before .before .before .before .args .e) (c .before .before .before .before .before .before .before .before .before .before .before .before .before .args .c .pos) (c .before .before .before .before .before .before .before .before .before .kind-at .ensures) (c .before .before .before .before .before .before .before .before .before .before .before .before .before .pre .1) (c .before .before .before .before .before .before .before .put-plain .ensures))
+returns c = (plain-answer (c .before .before .before .before .before .before .before .before .before .before .before .before .before .before .args .n) (c .before .before .before .before .before .before .before .before .before .before .before .before .before .before .args .c) _ _ _ _ (c .before .before .before .before .before .before .before .before .before .before .before .before .before .before .args .e) _ _ _ (c .before .before .before .before .look .ensures) (c .before .before .before .next .ensures) (c .before .before .look2 .ensures) (c .before .look3 .ensures) (c .leaf-ends .ensures) (c .before .before .before .before .before .before .before .before .before .kind-at .ensures), plain-tree (c .before .before .before .before .before .before .before .before .before .before .before .before .before .before .args .tok .now) (c .before .before .before .before .before .before .before .before .before .before .before .before .before .before .args .work .now) (c .before .before .before .before .before .before .before .before .before .before .before .before .before .before .args .tree .now) (c .before .before .before .before .before .before .before .before .before .before .before .before .before .before .args .e) (c .before .before .before .before .before .before .before .before .before .before .before .before .before .before .args .c .pos) (c .before .before .before .before .before .before .before .before .before .kind-at .ensures) (c .before .before .before .before .before .before .before .before .before .before .before .before .before .before .pre .1) (c .before .before .before .before .before .before .before .put-plain .ensures))
+
+cast-i : tie.Need-cast-i
+cast-i c = search needs
 
 pub plain-item-spec : {M : Type 1} → statement M
 plain-item-spec =
     tie.close
     (tie.spec
+    cast-i
     kind-at-requires
     put-plain-requires
     look-requires

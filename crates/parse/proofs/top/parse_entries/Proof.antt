@@ -7,41 +7,35 @@ use borrow.Author.Needs.{needs}
 use Rattle.parse.proofs.top.parse_entries.Statement.{statement}
 use Rattle.parse.proofs.top.parse_entries.Tie as tie
 
--- src/top.rt:160:9
 read-items-requires : tie.Need-read-items-requires
 read-items-requires c κs = search needs
 
--- src/top.rt:162:5
 wrap-items-requires : tie.Need-wrap-items-requires
 wrap-items-requires c κs = search needs
 
--- src/top.rt:163:25
 mul-end : tie.Need-mul-end
 mul-end c = search needs
 
--- src/top.rt:163:15
 add-end : tie.Need-add-end
 add-end c = omega (arith, c .before .before .before .before .before .before .before .before .before .before .before .before .read-items .ensures .fits, c .before .before .before .before .before .before .before .before .before .before .before .before .read-items .kept .1 .1 .1 .1 .0, c .before .before .before .before .before .before .before .before .before .before .before .before .before .before .before .before .before .before .before .good .1 .1 .1 .1 .0 .0)
 
--- src/top.rt:164:5
 clear-from-requires : tie.Need-clear-from-requires
 clear-from-requires c κs = search needs
 
--- src/top.rt:165:5
 clear-from-requires-2 : tie.Need-clear-from-requires-2
 clear-from-requires-2 c κs = search needs
 
--- src/top.rt:155:1
 same-length : tie.Need-same-length
 same-length c = search needs
 
--- src/top.rt:155:1
 same-length-2 : tie.Need-same-length-2
 same-length-2 c = search needs
 
--- src/top.rt:155:1
 returns : tie.Need-returns
-returns c = let r = c .before .before .before .before .before .before .before .before .before .before .before .before .before .before .before .before .before .before .before .before .read-items .ensures in let hy = c .before .before .before .before .before .before .before .before .before .before .before .before .before .before .before .before .before .before .before .before .read-items .kept .1 .1 .1 .1 .0 in let z : length (c .before .before .before .before .before .before .before .before .before .before .before .before .before .before .before .before .before .before .before .before .read-items .last .1 .1 .1 .0) - 0 ≡ length (c .before .before .before .before .before .before .before .before .before .before .before .before .before .before .before .before .before .before .before .before .before .before .before .before .before .before .before .args .work .now) = omega (arith, c .before .before .before .before .before .before .before .before .before .before .before .before .before .before .before .before .before .before .before .before .read-items .kept .1 .1 .1 .0) in (parsed (c .before .before .before .before .before .before .before .before .before .before .before .before .wrap-items .last .1 .1 .1 .0) (c .before .before .before .before .before .before .before .before .before .before .before .before .before .before .before .before .before .before .before .before .before .before .before .before .before .before .before .pre .safe .few) (c .before .before .before .before .before .before .before .before .before .struct-known .given .0 .1 .1 .0 .fits) r refl (c .before .before .before .before .before .before .before .before .before .before .before .before .wrap-items .ensures (r .noted)) hy (c .before .before .before .before .before .before .before .before .before .before .before .before .wrap-items .kept .1 .1 .1 .0 ∙ hy) (c .before .before .before .before .before .before .clear-from .ensures), c .before .before .clear-from2 .ensures ∙ ap (λ (k : ℕ). replicate k 0) z)
+returns c = let r = c .before .before .before .before .before .before .before .before .before .before .before .before .before .before .before .before .before .before .before .before .before .read-items .ensures in let hy = c .before .before .before .before .before .before .before .before .before .before .before .before .before .before .before .before .before .before .before .before .before .read-items .kept .1 .1 .1 .1 .0 in let z : length (c .before .before .before .before .before .before .before .before .before .before .before .before .before .before .before .before .before .before .before .before .before .read-items .last .1 .1 .1 .0) - 0 ≡ length (c .before .before .before .before .before .before .before .before .before .before .before .before .before .before .before .before .before .before .before .before .before .before .before .before .before .before .before .before .args .work .now) = omega (arith, c .before .before .before .before .before .before .before .before .before .before .before .before .before .before .before .before .before .before .before .before .before .read-items .kept .1 .1 .1 .0) in (parsed (c .before .before .before .before .before .before .before .before .before .before .before .before .before .wrap-items .last .1 .1 .1 .0) (c .before .before .before .before .before .before .before .before .before .before .before .before .before .before .before .before .before .before .before .before .before .before .before .before .before .before .before .before .pre .safe .few) (c .before .before .before .before .before .before .before .before .before .before .struct-known .given .0 .1 .1 .0 .fits) r refl (c .before .before .before .before .before .before .before .before .before .before .before .before .before .wrap-items .ensures (r .noted)) hy (c .before .before .before .before .before .before .before .before .before .before .before .before .before .wrap-items .kept .1 .1 .1 .0 ∙ hy) (c .before .before .before .before .before .before .before .clear-from .ensures), c .before .before .before .clear-from2 .ensures ∙ ap (λ (k : ℕ). replicate k 0) z)
+
+cast-t23 : tie.Need-cast-t23
+cast-t23 c = search needs
 
 pub parse-entries-spec : {M : Type 1} → statement M
 parse-entries-spec =
@@ -53,6 +47,7 @@ parse-entries-spec =
     add-end
     clear-from-requires
     clear-from-requires-2
+    cast-t23
     same-length
     same-length-2
     returns)

@@ -14,65 +14,53 @@ Inv-all text tok n work₀ tree₀ cur₀ end₀ count₀ first₀ sign₀ wraps
 abbrev μ-all : tie.MeasureT-all
 μ-all text tok n work₀ tree₀ cur₀ end₀ count₀ first₀ sign₀ wraps₀ last₀ work tree cur end count first sign wraps last = n - cur .pos
 
--- src/top.rt:81:5
 all-holds : tie.Need-all-holds Inv-all μ-all
 all-holds c = round-none (c .before .before .before .before .args .text .now) (c .before .before .before .before .args .tok .now) (c .before .before .before .before .args .n) (c .before .before .before .before .args .tree .now) (c .before .before .before .before .pre)
 
--- src/top.rt:82:13
 extend-requires : tie.Need-extend-requires Inv-all μ-all
 extend-requires c κs = let v = c .before .before .all .inv in record { safe = v .safe; known = v .known; here = v .within; room = omega (arith, c .before .before .before .before .before .before .before .pre .room, v .room, v .long) }
 
--- src/top.rt:86:9
 add-count : tie.Need-add-count Inv-all μ-all
-add-count c = let v = c .before .before .before .before .before .before .before .before .before .all .inv in let m = c .before .before .before .before .before .before .extend .ensures .moves in omega (arith, v .few, c .before .before .before .before .before .before .extend .ensures .few, m .within, c .before .before .before .before .before .before .before .before .before .before .before .before .before .before .pre .safe .few)
+add-count c = let v = c .before .before .before .before .before .before .before .before .before .before .all .inv in let m = c .before .before .before .before .before .before .before .extend .ensures .moves in omega (arith, v .few, c .before .before .before .before .before .before .before .extend .ensures .few, m .within, c .before .before .before .before .before .before .before .before .before .before .before .before .before .before .before .pre .safe .few)
 
--- src/top.rt:89:12
 is-at-requires : tie.Need-is-at-requires Inv-all μ-all
 is-at-requires c κs = search needs
 
--- src/top.rt:90:13
 next-requires : tie.Need-next-requires Inv-all μ-all
-next-requires c κs = let b = test-below _ _ _ _ _ (sym (c .before .is-at .ensures) ∙ c .if1 .taken) in omega (arith, c .before .before .before .before .before .before .before .before .before .before .before .before .before .before .before .before .before .pre .safe .few)
+next-requires c κs = let b = test-below _ _ _ _ _ (sym (c .before .is-at .ensures) ∙ c .if1 .taken) in omega (arith, c .before .before .before .before .before .before .before .before .before .before .before .before .before .before .before .before .before .before .pre .safe .few)
 
--- src/top.rt:92:17
 note-wrap-requires : tie.Need-note-wrap-requires Inv-all μ-all
-note-wrap-requires c κs = let b = test-below _ _ _ _ _ (sym (c .before .before .before .before .is-at .ensures) ∙ c .before .before .before .if1 .taken) in let v = c .before .before .before .before .before .before .before .before .before .before .before .before .before .before .before .all .inv in let m = c .before .before .before .before .before .before .before .before .before .before .before .before .extend .ensures .moves in ((safe-kept (m .kept) (v .safe) .placed _ b) .fit, omega (arith, v .small, c .before .before .before .before .before .before .before .before .before .before .before .before .before .before .before .before .before .before .before .before .pre .safe .few))
+note-wrap-requires c κs = let b = test-below _ _ _ _ _ (sym (c .before .before .before .before .is-at .ensures) ∙ c .before .before .before .if1 .taken) in let v = c .before .before .before .before .before .before .before .before .before .before .before .before .before .before .before .before .all .inv in let m = c .before .before .before .before .before .before .before .before .before .before .before .before .before .extend .ensures .moves in ((safe-kept (m .kept) (v .safe) .placed _ b) .fit, omega (arith, v .small, c .before .before .before .before .before .before .before .before .before .before .before .before .before .before .before .before .before .before .before .before .before .pre .safe .few))
 
--- src/top.rt:96:17
 add-wraps : tie.Need-add-wraps Inv-all μ-all
 add-wraps c = omega (arith, c .before .before .before .before .if2 .taken)
 
--- src/top.rt:81:5
 all-less : tie.Need-all-less Inv-all μ-all
-all-less c = let b = test-below _ _ _ _ _ (sym (c .before .before .before .before .before .before .before .is-at .ensures) ∙ c .before .before .before .before .before .before .if1 .taken) in let v = c .before .before .before .before .before .before .before .before .before .before .before .before .before .before .before .before .before .before .all .inv in let m = c .before .before .before .before .before .before .before .before .before .before .before .before .before .before .before .extend .ensures .moves in let np : c .before .before .before .before .before .next .result .pos ≡ c .before .before .before .before .before .before .before .before .before .before .before .before .before .before .before .extend .result .cur .pos + 1 = rw (c .before .before .before .before .before .next .ensures) in omega (arith, m .on)
+all-less c = let b = test-below _ _ _ _ _ (sym (c .before .before .before .before .before .before .before .is-at .ensures) ∙ c .before .before .before .before .before .before .if1 .taken) in let v = c .before .before .before .before .before .before .before .before .before .before .before .before .before .before .before .before .before .before .before .all .inv in let m = c .before .before .before .before .before .before .before .before .before .before .before .before .before .before .before .before .extend .ensures .moves in let np : c .before .before .before .before .before .next .result .pos ≡ c .before .before .before .before .before .before .before .before .before .before .before .before .before .before .before .before .extend .result .cur .pos + 1 = rw (c .before .before .before .before .before .next .ensures) in omega (arith, m .on)
 
--- src/top.rt:81:5
 all-again : tie.Need-all-again Inv-all μ-all
-all-again c = rw (c .before .before .before .before .before .next .ensures) (round-wrap (c .before .before .before .before .before .before .before .before .before .before .before .before .before .before .before .before .before .before .all .inv) (c .before .before .before .before .before .before .before .before .before .before .before .before .before .before .before .extend .ensures) (c .before .before .before .before .before .before .before .before .before .before .before .before .before .before .before .before .before .before .before .before .before .before .before .pre .room) (sym (c .before .before .before .before .before .before .before .is-at .ensures) ∙ c .before .before .before .before .before .before .if1 .taken) (c .before .before .before .before .if2 .taken) (c .before .before .note-wrap .ensures))
+all-again c = rw (c .before .before .before .before .before .next .ensures) (round-wrap (c .before .before .before .before .before .before .before .before .before .before .before .before .before .before .before .before .before .before .before .all .inv) (c .before .before .before .before .before .before .before .before .before .before .before .before .before .before .before .before .extend .ensures) (c .before .before .before .before .before .before .before .before .before .before .before .before .before .before .before .before .before .before .before .before .before .before .before .before .pre .room) (sym (c .before .before .before .before .before .before .before .is-at .ensures) ∙ c .before .before .before .before .before .before .if1 .taken) (c .before .before .before .before .if2 .taken) (c .before .before .note-wrap .ensures))
 
--- src/top.rt:81:5
 all-less-2 : tie.Need-all-less-2 Inv-all μ-all
-all-less-2 c = let b = test-below _ _ _ _ _ (sym (c .before .before .before .is-at .ensures) ∙ c .before .before .if1 .taken) in let v = c .before .before .before .before .before .before .before .before .before .before .before .before .before .before .all .inv in let m = c .before .before .before .before .before .before .before .before .before .before .before .extend .ensures .moves in let np : c .before .next .result .pos ≡ c .before .before .before .before .before .before .before .before .before .before .before .extend .result .cur .pos + 1 = rw (c .before .next .ensures) in omega (arith, m .on)
+all-less-2 c = let b = test-below _ _ _ _ _ (sym (c .before .before .before .is-at .ensures) ∙ c .before .before .if1 .taken) in let v = c .before .before .before .before .before .before .before .before .before .before .before .before .before .before .before .all .inv in let m = c .before .before .before .before .before .before .before .before .before .before .before .before .extend .ensures .moves in let np : c .before .next .result .pos ≡ c .before .before .before .before .before .before .before .before .before .before .before .before .extend .result .cur .pos + 1 = rw (c .before .next .ensures) in omega (arith, m .on)
 
--- src/top.rt:81:5
 all-again-2 : tie.Need-all-again-2 Inv-all μ-all
-all-again-2 c = rw (c .before .next .ensures) (round-drop (c .before .before .before .before .before .before .before .before .before .before .before .before .before .before .all .inv) (c .before .before .before .before .before .before .before .before .before .before .before .extend .ensures) (c .before .before .before .before .before .before .before .before .before .before .before .before .before .before .before .before .before .before .before .pre .room) (sym (c .before .before .before .is-at .ensures) ∙ c .before .before .if1 .taken) (c .if2 .left))
+all-again-2 c = rw (c .before .next .ensures) (round-drop (c .before .before .before .before .before .before .before .before .before .before .before .before .before .before .before .all .inv) (c .before .before .before .before .before .before .before .before .before .before .before .before .extend .ensures) (c .before .before .before .before .before .before .before .before .before .before .before .before .before .before .before .before .before .before .before .before .pre .room) (sym (c .before .before .before .is-at .ensures) ∙ c .before .before .if1 .taken) (c .if2 .left))
 
--- src/top.rt:99:13
 look-requires : tie.Need-look-requires Inv-all μ-all
 look-requires c κs = search needs
 
--- src/top.rt:66:1
 same-length : tie.Need-same-length Inv-all μ-all
-same-length c = let v = c .before .before .before .before .before .before .before .before .before .before .before .before .before .all .inv in let m = c .before .before .before .before .before .before .before .before .before .before .extend .ensures .moves in m .kept .long ∙ v .held
+same-length c = let v = c .before .before .before .before .before .before .before .before .before .before .before .before .before .before .all .inv in let m = c .before .before .before .before .before .before .before .before .before .before .before .extend .ensures .moves in m .kept .long ∙ v .held
 
--- src/top.rt:66:1
 same-length-2 : tie.Need-same-length-2 Inv-all μ-all
-same-length-2 c = let v = c .before .before .before .before .before .before .before .before .before .before .before .before .before .all .inv in let m = c .before .before .before .before .before .before .before .before .before .before .extend .ensures .moves in m .long ∙ v .long
+same-length-2 c = let v = c .before .before .before .before .before .before .before .before .before .before .before .before .before .before .all .inv in let m = c .before .before .before .before .before .before .before .before .before .before .before .extend .ensures .moves in m .long ∙ v .long
 
--- src/top.rt:66:1
 returns : tie.Need-returns Inv-all μ-all
-returns c = rw (c .look .ensures) (round-open (c .before .before .before .before .before .before .before .before .before .before .before .before .before .all .inv) (c .before .before .before .before .before .before .before .before .before .before .extend .ensures) (c .before .before .before .before .before .before .before .before .before .before .before .before .before .before .before .before .before .before .pre .room) (sym (c .before .before .is-at .ensures) ∙ c .before .if1 .left))
+returns c = rw (c .look .ensures) (round-open (c .before .before .before .before .before .before .before .before .before .before .before .before .before .before .all .inv) (c .before .before .before .before .before .before .before .before .before .before .before .extend .ensures) (c .before .before .before .before .before .before .before .before .before .before .before .before .before .before .before .before .before .before .before .pre .room) (sym (c .before .before .is-at .ensures) ∙ c .before .if1 .left))
+
+cast-at : tie.Need-cast-at Inv-all μ-all
+cast-at c = search needs
 
 pub read-items-spec : {M : Type 1} → statement M
 read-items-spec =
@@ -82,6 +70,7 @@ read-items-spec =
     μ-all
     all-holds
     extend-requires
+    cast-at
     add-count
     is-at-requires
     next-requires

@@ -5,19 +5,19 @@ use borrow.Author.Needs.{needs}
 use Rattle.parse.proofs.cursor.Cursor.look.Statement.{statement}
 use Rattle.parse.proofs.cursor.Cursor.look.Tie as tie
 
--- src/cursor.rt:34:24
-wrapping-add-u64-requires : tie.Need-wrapping-add-u64-requires
-wrapping-add-u64-requires c κs = search needs
+cast-if1 : tie.Need-cast-if1
+cast-if1 c = search needs
 
--- src/cursor.rt:27:5
+wrapping-add-u32-requires : tie.Need-wrapping-add-u32-requires
+wrapping-add-u32-requires c κs = search needs
+
 returns : tie.Need-returns
 unfolding looked
-returns c = simp (c .wrapping-add-u64 .ensures, lt-ltb _ _ (c .before .if1 .taken))
+returns c = simp (c .wrapping-add-u32 .ensures, lt-ltb _ _ (c .before .if1 .taken))
 
--- src/cursor.rt:27:5
 returns-2 : tie.Need-returns-2
 unfolding looked
 returns-2 c = simp (le-ltb _ _ (c .if1 .left))
 
 pub look-spec : {M : Type 1} → statement M
-look-spec = tie.close (tie.spec wrapping-add-u64-requires returns returns-2)
+look-spec = tie.close (tie.spec cast-if1 wrapping-add-u32-requires returns returns-2)

@@ -5,19 +5,19 @@ use borrow.Author.Needs.{needs}
 use Rattle.parse.proofs.cursor.Cursor.over.Statement.{statement}
 use Rattle.parse.proofs.cursor.Cursor.over.Tie as tie
 
--- src/cursor.rt:46:27
+cast-if1 : tie.Need-cast-if1
+cast-if1 c = search needs
+
 next-requires : tie.Need-next-requires
 next-requires c κs = search needs
 
--- src/cursor.rt:42:5
 returns : tie.Need-returns
 unfolding passing
 returns c = simp (c .next .ensures, lt-ltb _ _ (c .before .if1 .taken))
 
--- src/cursor.rt:42:5
 returns-2 : tie.Need-returns-2
 unfolding passing
 returns-2 c = simp (le-ltb _ _ (c .if1 .left))
 
 pub over-spec : {M : Type 1} → statement M
-over-spec = tie.close (tie.spec next-requires returns returns-2)
+over-spec = tie.close (tie.spec cast-if1 next-requires returns returns-2)

@@ -1,0 +1,12 @@
+pub mod Buffer
+pub mod Cells
+pub mod Shape
+pub mod Bars
+pub mod Boundaries
+pub mod Marks
+pub mod Keeping
+pub mod Whole
+pub mod Laws
+pub mod Lines
+pub mod Grids
+pub mod Rows

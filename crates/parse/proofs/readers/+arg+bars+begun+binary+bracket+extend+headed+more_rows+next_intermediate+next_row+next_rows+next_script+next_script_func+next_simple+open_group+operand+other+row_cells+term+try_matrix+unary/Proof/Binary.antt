@@ -1,0 +1,40 @@
+-- binary: what each way through it shows.
+use Prim.Native.Nat.{ℕ}
+use Rattle.parse.proofs.readers.binary.Reads as binary
+use Rattle.parse.proofs.readers.arg.Reads as arg
+use Rattle.parse.proofs.write.put_node.Reads as put-node-reads
+use Rattle.parse.proofs.readers.+arg+bars+begun+binary+bracket+extend+headed+more_rows+next_intermediate+next_row+next_rows+next_script+next_script_func+next_simple+open_group+operand+other+row_cells+term+try_matrix+unary.Lts-binary as binary-lts
+use Rattle.parse.proofs.readers.+arg+bars+begun+binary+bracket+extend+headed+more_rows+next_intermediate+next_row+next_rows+next_script+next_script_func+next_simple+open_group+operand+other+row_cells+term+try_matrix+unary.Proof.Setting.{arg-below, binary-at}
+use native.Mathlib.Omega.{arith}
+use borrow.Author.Needs.{needs}
+use Rattle.parse.proofs.Kit.{safe-kept}
+use Rattle.parse.proofs.Arms.{binary-met}
+
+abbrev pub uses : ℕ → binary-lts.Claims
+uses t = (arg-below t, arg.Post, put-node-reads.Asked, put-node-reads.Learnt)
+
+pub add-arg : (t : ℕ) → binary-lts.Need-add-arg (uses t) (binary-at t) binary.Post
+add-arg t c = let S = c .before .before .before .before .before .before in
+    omega (arith, S .pre .1 .0 .room, S .good .1 .1 .1 .1 .0 .0)
+
+pub arg-requires : (t : ℕ) → binary-lts.Need-arg-requires (uses t) (binary-at t) binary.Post
+arg-requires t c κs = let S = c .before .before .before .before .before .before in
+    (omega (arith, S .pre .0), record { safe = S .pre .1 .0 .safe; known = S .pre .1 .0 .known; here = S .pre .1 .0 .here; room = omega (arith, S .pre .1 .0 .room) })
+
+pub arg-requires-2 : (t : ℕ) → binary-lts.Need-arg-requires-2 (uses t) (binary-at t) binary.Post
+arg-requires-2 t c κs = let S = c .before .before .before .before .before .before .before .before .before .before .before .before .before .before in
+    let m = c .before .before .before .before .before .before .before .arg .ensures .moves in (omega (arith, S .pre .0, m .depth), record { safe = safe-kept (m .kept) (S .pre .1 .0 .safe); known = m .known; here = m .within; room = omega (arith, S .pre .1 .0 .room, m .room, m .long) })
+
+pub put-node-requires : (t : ℕ) → binary-lts.Need-put-node-requires (uses t) (binary-at t) binary.Post
+put-node-requires t c κs = let S = c .before .before .before .before .before .before .before .before .before .before .before .before .before .before .before .before .before .before .before .before .before .before in
+    let m = c .before .before .before .before .before .before .before .before .before .before .before .before .before .before .before .arg .ensures .moves in let m2 = c .before .before .before .before .before .before .before .arg2 .ensures .moves in omega (arith, S .pre .1 .0 .room, m .long, m2 .long)
+
+pub same-length : (t : ℕ) → binary-lts.Need-same-length (uses t) (binary-at t) binary.Post
+same-length t c = search needs
+
+pub same-length-2 : (t : ℕ) → binary-lts.Need-same-length-2 (uses t) (binary-at t) binary.Post
+same-length-2 t c = search needs
+
+pub returns : (t : ℕ) → binary-lts.Need-returns (uses t) (binary-at t) binary.Post
+returns t c = let S = c .before .before .before .before .before .before .before .before .before .before .before .before .before .before .before .before .before .before .before .before .before .before .before .before .before in
+    binary-met (S .args .i) (S .pre .1 .1) (c .before .before .before .before .before .before .before .before .before .before .before .before .before .before .before .before .before .before .arg .ensures) (c .before .before .before .before .before .before .before .before .before .before .arg2 .ensures) (c .before .before .put-node .ensures) (S .pre .1 .0 .room)
