@@ -37,6 +37,7 @@ else
     echo "valgrind is not here: not run"
 fi
 corpus --families nested --count 500 --max-length 4096 | "$out/robust" stack
+"$here/frames.py" "$library"
 
 program=
 for place in "$root/read" "$root/target/bin/read"; do
