@@ -23,8 +23,9 @@
  * ## Threads and stack
  *
  * The library has no state: any number of threads may call it, each with its own buffers. Depth of
- * recursion is limited whatever the text. 370 KB of stack at most were measured (tools/robust); no
- * bound on it is proved.
+ * recursion is limited whatever the text, and 256 KiB of stack are enough: 240,504 bytes at most were
+ * measured, by any call, and 246,864 counted for a reading from the frames of the object code
+ * (tools/robust). Neither is proved.
  *
  * ## Example
  *
@@ -68,8 +69,8 @@ extern "C" {
 /* Words of work and of tree for n tokens other than Space. */
 #define ASCIIMATH_WORK_WORDS(n) (4 * ((size_t)(n) + 1))
 #define ASCIIMATH_TREE_WORDS(n) (32 * ((size_t)(n) + 1))
-/* Bytes that any print of n tokens other than Space fits in: a printed line has at most 12 bytes for
- * each word of its node, and the first line at most 64. (Counted, not proved: a shorter or a longer
+/* Bytes that any print of n tokens other than Space fits in: on the whole tree a print has at most
+ * 12 bytes for each word, and its first line at most 64. (Counted, not proved: a shorter or a longer
  * buffer is safe all the same.) */
 #define ASCIIMATH_PRINT_BYTES(n) (12 * ASCIIMATH_TREE_WORDS(n) + 64)
 

@@ -40,18 +40,21 @@ gateAt X t K n i =
     (pick (closesAt X t K n i (afterClose K (i + 1))) (eqb (sepWord K (i + 1)) 1) false)))
     false
 
--- the brackets of a first row; those of a row like another
+-- "Matrix rows are `(` `)` or `[` `]` by their text, so `left(` opens no row."
 unfoldable pub rowsAt : List ℕ → List ℕ → List ℕ → ℕ → ℕ → Bool
 rowsAt X t K l r =
     pick (byteAt X t K l 40) (byteAt X t K r 41) (pick (byteAt X t K l 91) (byteAt X t K r 93) false)
 
+-- the brackets of a row like the first: "the row loop is left at the first row that differs from the first"
 unfoldable pub likeAt : List ℕ → List ℕ → List ℕ → ℕ → ℕ → ℕ → ℕ → Bool
 likeAt X t K l r l′ r′ = pick (sameAt X t K l l′) (sameAt X t K r r′) false
 
--- try_matrix: rows that open at l, of k cells, with the entry p behind them, make a matrix of the bracket at i
+-- "Rows of `(` before text `}` make no matrix": rows that open at l, with the entry p behind them
 unfoldable pub setAt : List ℕ → List ℕ → List ℕ → ℕ → ℕ → Bool
 setAt X t K l p = pick (byteAt X t K l 40) (byteAt X t K p 125) false
 
+-- try_matrix: rows that open at l, of k cells, with the entry p behind them, make a matrix of the bracket at i. "One cell left after
+-- that is no matrix."
 unfoldable pub makesAt : List ℕ → List ℕ → List ℕ → ℕ → ℕ → ℕ → ℕ → ℕ → Bool
 makesAt X t K n i l k p =
     pick (ltb p n) (pick (setAt X t K l p) false (pick (ltb 1 k) (closesAt X t K n i p) false)) false

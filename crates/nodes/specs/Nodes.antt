@@ -7,7 +7,8 @@ use lib.Dec.{eqb, ltb}
 use Rattle.tree.specs.Words.{pick}
 use Rattle.records.specs.Record.{startOf, lenOf, spaceStart, spaceLen}
 
--- a leaf's node kind, its class, and whether it ends an operand, by the kind of its token
+-- a leaf's node kind (Number to Operator 1 to 4, Sign 5, any other token a symbol, 7), its class, and whether it ends an operand, by
+-- the kind of its token
 abbrev pub leafKind : ℕ → ℕ
 leafKind k = pick (ltb k 4) 7 (pick (ltb k 8) (k - 3) (pick (ltb k 16) 7 (pick (eqb k 16) 5 7)))
 
@@ -30,7 +31,8 @@ leafWords t K i k = nodeWords t K i (leafKind k) (leafClass k)
 abbrev pub plainWords : List ℕ → List ℕ → ℕ → ℕ → List ℕ
 plainWords t K i k = 0 ∷ 13 ∷ 0 ∷ 0 ∷ 0 ∷ 0 ∷ 0 ∷ leafWords t K i k
 
--- a group from the bracket i to the bracket j; to none, if j is no entry
+-- a group from the bracket i to the bracket j; to none, if j is no entry: "An empty bracket that stands for no token is start 0,
+-- length 0."
 unfoldable pub groupWords : List ℕ → List ℕ → ℕ → ℕ → ℕ → ℕ → List ℕ
 groupWords t K n i j k =
     15 ∷ startOf t K i ∷ lenOf t K i ∷ k ∷ pick (ltb j n) (startOf t K j) 0 ∷ pick (ltb j n) (lenOf t K j) 0 ∷ []

@@ -15,6 +15,7 @@ pub record Answered (text : List ℕ) (ts : List Lexeme) (takes items blankness 
   -- "The whole reading of any list is what this definition gives for it, takes and tree."
   pub whole-takes : takes ≡ readTokens text ts .takes
   pub whole-tree : decode items words ≡ readTokens text ts .tree
+  -- "blank": the root has no items
   pub whole-blank : blankness ≡ bit (blank text (decode items words))
   -- "the whole reading of condition 2 takes tokens at most 32 × (n + 1) × (n + 1) times, takes given back included"
   pub few-takes : takes ≤ 32 * ((countOthers ts + 1) * (countOthers ts + 1))

@@ -21,7 +21,7 @@ use Rattle.parse.specs.Entry.{Kept}
 use Rattle.columns.specs.Rows as columns
 use Rattle.parse.specs.Meet.{Input, At, Known, Each, readers}
 
--- A failed reading of rows: where the code stands, and that nothing is written up to e.
+-- Rows not read to their end: where the code stands, and what it leaves of the work words.
 pub record Broke (X t : List ℕ) (n : ℕ) (K L : List ℕ) (c : Cursor) (e : ℕ) (x y : List ℕ) (d : Cursor) : Type 0 where
   pub within : d .pos ≤ n
   pub depth : d .depth ≡ c .depth
@@ -29,7 +29,7 @@ pub record Broke (X t : List ℕ) (n : ℕ) (K L : List ℕ) (c : Cursor) (e : �
   pub kept : Kept K L
   pub known : Known X t n L
 
--- A reading of `k` cells, each paid with 26 words of the token behind it.
+-- A reading of `k` cells. Each leaves 26 of the 32 words of the Sep or bracket behind it; six are its own.
 pub record Filled (X t : List ℕ) (n : ℕ) (K L : List ℕ) (c : Cursor) (e : ℕ) (x y : List ℕ) (k : ℕ) (d : Cursor) (E : ℕ) : Type 0 where
   pub within : d .pos ≤ n
   pub on : c .pos + k ≤ d .pos

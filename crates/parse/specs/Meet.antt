@@ -249,7 +249,8 @@ module _ (X t : List ℕ) (n : ℕ) where
   MetOf K L more i m c e x y (Found d E f) = Moves X t 1 more 0 n K L c e x y d E × EachOf K i c (λ I s en. Finds L (m I en) encode Ending I s e x y d E f)
   MetOf K L more i m c e x y (Nothing d) = Moves X t 0 0 0 n K L c e x y d e × EachOf K i c (λ I s en. Misses L (m I en) I s e x y d)
 
-  -- The readers' contracts.
+  -- The readers' contracts. A simple expression leaves 14 of its tokens' words: 6 for the part around it, 1 for the item, 7 for a
+  -- Space before it; so a part leaves 8, an item 7. Missing has no token: 6 words, 12 as a part.
   abbrev pub Simple : List ℕ → List ℕ → Bool → Bool → Cursor → ℕ → List ℕ → List ℕ → Step → Type 0
   Simple K L stop sg c = Met K L 14 (simpleAt (c .depth) stop sg) encode Ending c
 

@@ -54,6 +54,7 @@ pub record Tops (X t : List ℕ) (L : List ℕ) (ws : List Wrap) (I : Input) (y 
 
 pub record Topped (X t : List ℕ) (n : ℕ) (K L y : List ℕ) (g : Wrapped) : Type 0 where
   pub noted : Noted n t L (g .wraps) (g .last)
+  -- "The 257th and later unmatched closers at top level are dropped."
   pub few : g .wraps ≤ 256
   pub fits : g .end + 13 * g .wraps ≤ length y
   pub means : (I : Input) → Given X t n K I → Tops X t L (noted .list) I y g

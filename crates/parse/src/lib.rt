@@ -1,5 +1,6 @@
 // The parser of asciimath-parser over a token list: parse.rs, and its calls on a text and on a token list.
 mod cursor;
+mod kinds;
 mod plain;
 mod readers;
 mod tests;

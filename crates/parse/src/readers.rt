@@ -9,6 +9,26 @@ use crate::cursor::Rows;
 use crate::cursor::Scripted;
 use crate::cursor::Step;
 use crate::cursor::Why;
+use crate::kinds::BINARY;
+use crate::kinds::CLOSE_BRACKET;
+use crate::kinds::FRAC;
+use crate::kinds::FUNCTION;
+use crate::kinds::MATRIX_MARK;
+use crate::kinds::NODE_BINARY;
+use crate::kinds::NODE_CELL;
+use crate::kinds::NODE_FUNC;
+use crate::kinds::NODE_MISSING;
+use crate::kinds::NODE_SFUNC;
+use crate::kinds::NODE_SIGNED;
+use crate::kinds::NODE_SIMPLE;
+use crate::kinds::NODE_SSIGNED;
+use crate::kinds::NODE_UNARY;
+use crate::kinds::OPEN_BRACKET;
+use crate::kinds::OPEN_CLOSE_BRACKET;
+use crate::kinds::SEP;
+use crate::kinds::SIGN;
+use crate::kinds::SUPER;
+use crate::kinds::UNARY;
 use crate::plain::plain_item;
 use crate::tests::bar_after;
 use crate::tests::opens;
@@ -65,7 +85,7 @@ fn arg(
             ends: f,
         },
         Step::Nothing(d) => {
-            put6(tree, e, 0, 0, 0, 0, 0, 0);
+            put6(tree, e, NODE_MISSING, 0, 0, 0, 0, 0);
             Part {
                 cur: d,
                 end: e + 6,
@@ -96,8 +116,8 @@ fn operand(
             ends: f,
         },
         Step::Nothing(d) => {
-            put6(tree, e, 13, 0, 0, 0, 0, 0);
-            put6(tree, e + 6, 0, 0, 0, 0, 0, 0);
+            put6(tree, e, NODE_SIMPLE, 0, 0, 0, 0, 0);
+            put6(tree, e + 6, NODE_MISSING, 0, 0, 0, 0, 0);
             Part {
                 cur: d,
                 end: e + 12,
@@ -122,7 +142,7 @@ fn next_script(
 {
     let pos = c.pos as usize;
     if marks_at(tok, work, n, pos) {
-        if is_at(tok, work, n, pos, 1) {
+        if is_at(tok, work, n, pos, SUPER) {
             let a = arg(text, tok, n, work, tree, c.next(), e, false);
             let ac = a.cur;
             Scripted {
@@ -134,7 +154,7 @@ fn next_script(
             let a = arg(text, tok, n, work, tree, c.next(), e, false);
             let ac = a.cur;
             let at = ac.pos as usize;
-            if is_at(tok, work, n, at, 1) {
+            if is_at(tok, work, n, at, SUPER) {
                 let b = arg(text, tok, n, work, tree, ac.next(), a.end, false);
                 let bc = b.cur;
                 Scripted {
@@ -211,7 +231,7 @@ fn term(
         Step::Found(d, e1, f) => {
             let m = next_script(text, tok, n, work, tree, d, e1);
             let mc = m.cur;
-            put6(tree, e, 13, 0, 0, m.script, 0, 0);
+            put6(tree, e, NODE_SIMPLE, 0, 0, m.script, 0, 0);
             Step::Found(mc, m.end, f)
         }
     }
@@ -233,12 +253,12 @@ fn headed(
     requires { ⌜ i < n ⌝ }
     ensures { λ r. ⌜ Headed (now (text .entry)) (now (tok .entry)) n (now (work .entry)) (now (work .exit)) i stop c e (now (tree .entry)) (now (tree .exit)) r ⌝ }
 {
-    if is_at(tok, work, n, i, 17) {
+    if is_at(tok, work, n, i, FUNCTION) {
         let m = next_script(text, tok, n, work, tree, c, e + 6);
         let mc = m.cur;
         let g = operand(text, tok, n, work, tree, mc, m.end, false);
         let gc = g.cur;
-        put_node(tok, work, tree, e, 14, i, m.script);
+        put_node(tok, work, tree, e, NODE_FUNC, i, m.script);
         Part {
             cur: gc,
             end: g.end,
@@ -247,7 +267,7 @@ fn headed(
     } else {
         let g = operand(text, tok, n, work, tree, c, e + 6, stop);
         let gc = g.cur;
-        put_node(tok, work, tree, e, 8, i, 0);
+        put_node(tok, work, tree, e, NODE_SIGNED, i, 0);
         Part {
             cur: gc,
             end: g.end,
@@ -275,7 +295,7 @@ fn next_intermediate(
         Step::Nothing(d) => Step::Nothing(d),
         Step::Found(d, e1, f) => {
             let pos = d.pos as usize;
-            if is_at(tok, work, n, pos, 0) {
+            if is_at(tok, work, n, pos, FRAC) {
                 put1(tree, e, 1);
                 let g = operand(text, tok, n, work, tree, d.next(), e1, false);
                 let gc = g.cur;
@@ -374,10 +394,19 @@ fn row_cells(
         let rc = run.cur;
         let p = rc.pos as usize;
         end = run.end;
-        put6(tree, at, 17, 0, 0, run.count, (end - at - 6) as u32, 0);
+        put6(
+            tree,
+            at,
+            NODE_CELL,
+            0,
+            0,
+            run.count,
+            (end - at - 6) as u32,
+            0,
+        );
         count += 1;
         cur = rc.over(n);
-        if is_at(tok, work, n, p, 3) {} else if is_at(tok, work, n, p, 21) {
+        if is_at(tok, work, n, p, SEP) {} else if is_at(tok, work, n, p, CLOSE_BRACKET) {
             break 'cells Close::At(p);
         } else {
             break 'cells Close::Broken;
@@ -405,7 +434,7 @@ fn next_row(
     ensures { λ r. ⌜ MatrixRow (now (text .entry)) (now (tok .entry)) n (now (work .entry)) (now (work .exit)) c e (now (tree .entry)) (now (tree .exit)) r ⌝ }
 {
     let pos = c.pos as usize;
-    if is_at(tok, work, n, pos, 20) {
+    if is_at(tok, work, n, pos, OPEN_BRACKET) {
         row_cells(text, tok, n, work, tree, c.next(), e)
     } else {
         Cells {
@@ -441,7 +470,7 @@ fn more_rows(
     let mut cells = cols;
     let why = 'rows: loop {
         let p = cur.pos as usize;
-        if is_at(tok, work, n, p, 3) {
+        if is_at(tok, work, n, p, SEP) {
             let row = next_row(text, tok, n, work, tree, cur.next(), end);
             cur = row.cur;
             end = row.end;
@@ -536,7 +565,7 @@ fn try_matrix(
     ensures { λ r. ⌜ TryMatrix (now (text .entry)) (now (tok .entry)) n (now (work .entry)) (now (work .exit)) i c e (now (tree .entry)) (now (tree .exit)) r ⌝ }
 {
     if could_be_matrix(text, tok, work, n, i) {
-        if failed_at(work, i, 4) {
+        if failed_at(work, i, MATRIX_MARK) {
             return Step::Nothing(c);
         }
         let from = c.pos;
@@ -561,16 +590,16 @@ fn try_matrix(
                     );
                     Step::Found(cur.next(), split.end, true)
                 } else {
-                    mark_failed(work, i, 4);
+                    mark_failed(work, i, MATRIX_MARK);
                     Step::Nothing(cur.rewind(from))
                 }
             }
             Why::Differs => {
-                mark_failed(work, i, 4);
+                mark_failed(work, i, MATRIX_MARK);
                 Step::Nothing(cur.rewind(from))
             }
             Why::Broken => {
-                mark_failed(work, i, 4);
+                mark_failed(work, i, MATRIX_MARK);
                 Step::Nothing(cur.rewind(from))
             }
         }
@@ -597,7 +626,7 @@ fn open_group(
     let run = extend(text, tok, n, work, tree, c, e + 6, n, false, true, true);
     let cur = run.cur;
     let at = cur.pos as usize;
-    if is_at(tok, work, n, at, 21) {
+    if is_at(tok, work, n, at, CLOSE_BRACKET) {
         put_group(tok, work, n, tree, e, i, at, run.count);
         Part {
             cur: cur.next(),
@@ -638,7 +667,7 @@ fn bracket(
             ends: f,
         },
         Step::Nothing(d) => {
-            if k == 20 {
+            if k == OPEN_BRACKET {
                 open_group(text, tok, n, work, tree, d, e, i)
             } else {
                 bars(text, tok, n, work, tree, d, e, stop, i)
@@ -666,14 +695,14 @@ fn bars(
     let from = c.pos;
     let mark = open_mark(stop);
     if failed_at(work, i, mark) {
-        return leaf(tok, work, tree, c, e, i, 22);
+        return leaf(tok, work, tree, c, e, i, OPEN_CLOSE_BRACKET);
     }
     let run = extend(text, tok, n, work, tree, c, e + 6, i, stop, true, true);
     let cur = run.cur;
     let at = cur.pos as usize;
     let count = run.count;
     if count == 0 {
-        leaf(tok, work, tree, cur, e, i, 22)
+        leaf(tok, work, tree, cur, e, i, OPEN_CLOSE_BRACKET)
     } else if bar_at(text, tok, work, n, i, at) {
         put_group(tok, work, n, tree, e, i, at, count);
         Part {
@@ -683,7 +712,7 @@ fn bars(
         }
     } else {
         mark_failed(work, i, mark);
-        leaf(tok, work, tree, cur.rewind(from), e, i, 22)
+        leaf(tok, work, tree, cur.rewind(from), e, i, OPEN_CLOSE_BRACKET)
     }
 }
 
@@ -734,7 +763,7 @@ fn binary(
     let gc = g.cur;
     let h = arg(text, tok, n, work, tree, gc, g.end, false);
     let hc = h.cur;
-    put_node(tok, work, tree, e, 12, i, 0);
+    put_node(tok, work, tree, e, NODE_BINARY, i, 0);
     Part {
         cur: hc,
         end: h.end,
@@ -763,15 +792,15 @@ fn other(
     requires { ⌜ opening k ≡ false ⌝ }
     ensures { λ r. ⌜ Begun (now (text .entry)) (now (tok .entry)) n (now (work .entry)) (now (work .exit)) i stop sign c e (now (tree .entry)) (now (tree .exit)) r ⌝ }
 {
-    if k == 18 {
-        unary(text, tok, n, work, tree, c, e, false, i, 10)
-    } else if k == 17 {
-        unary(text, tok, n, work, tree, c, e, false, i, 11)
-    } else if k == 19 {
+    if k == UNARY {
+        unary(text, tok, n, work, tree, c, e, false, i, NODE_UNARY)
+    } else if k == FUNCTION {
+        unary(text, tok, n, work, tree, c, e, false, i, NODE_SFUNC)
+    } else if k == BINARY {
         binary(text, tok, n, work, tree, c, e, i)
-    } else if k == 16 {
+    } else if k == SIGN {
         if sign {
-            unary(text, tok, n, work, tree, c, e, stop, i, 9)
+            unary(text, tok, n, work, tree, c, e, stop, i, NODE_SSIGNED)
         } else {
             leaf(tok, work, tree, c, e, i, k)
         }

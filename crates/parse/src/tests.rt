@@ -1,4 +1,6 @@
 // Small choices of the readers.
+use crate::kinds::OPEN_BRACKET;
+use crate::kinds::OPEN_CLOSE_BRACKET;
 ghost use mathlib.Core.Path.{_≡_};
 ghost use Rattle.tree.specs.Words.{pick};
 ghost use Rattle.parse.specs.Meet.{opening};
@@ -7,7 +9,11 @@ ghost use Rattle.parse.specs.Meet.{opening};
 pub(crate) fn opens(k: u32) -> bool
     ensures { λ r. ⌜ r ≡ opening k ⌝ }
 {
-    if k == 20 { true } else { k == 22 }
+    if k == OPEN_BRACKET {
+        true
+    } else {
+        k == OPEN_CLOSE_BRACKET
+    }
 }
 
 // The bar that items end at: none before the first of them.

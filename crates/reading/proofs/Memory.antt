@@ -19,7 +19,7 @@ use Rattle.reading.specs.Stop.{Stop}
 use Rattle.reading.specs.Entries.{Entry, is, entries}
 use Rattle.reading.specs.Reading.{State, M, return, _>>=_, here, Mark, openMark, matrixMark, slot, Try, made, lost, nought, Readers, stops, isAt, isBar, advance, failed, giveUp, attempt, argument, nextScript, nextScriptFunc, nextIntermediate, intermediates, atOpenClose, Row, Rows, nextMatrixRow, rowCells, moreRows, nextMatrixRows, matrixBody, tryMatrix, nextOpenGroup, barBody, nextOpenCloseGroup, nextBracket, begun, nextSimple, step, level, parse, parseEntries, lastOf, orGlyph, couldBeMatrix, alike, rowBrackets, closes, splitColumnLines, isByte, prefixes, spaced, orMissing, orMissingPart, any, marksScript, heads, begins, if_then_else_, makesMatrix, Scripted, readingBy, unscripted}
 
--- For at most 127 entries the reading with its memory and the one without give the same tree. Assumes Stop.none.
+-- For at most 127 entries the reading with its memory and the one without give the same tree. Nothing is assumed.
 
 no-some : {A X : Type 0} (x : X) → none ≡ some x → A
 no-some x e = let z : _≡_ {A = ℕ} 0 1 = cc in absurd (omega arith)
@@ -254,7 +254,7 @@ module _ (text : List ℕ) (es : List Entry) where
           rw (q .0, q .1, v) (new r (omega (arith, q .1)) t (place ∙ ap suc (q .1)))
       go (no d) = sound m i (sym (getD-set-other l (slot n j) (slot m i) true false d) ∙ set) o has r en t place
 
-  -- The same from behind the nextBracket at i alone.
+  -- The same from behind the bracket at i alone.
   pub record AgreeAt {A : Type 0} (i : ℕ) (m : M A) (p : ℕ → M A) : Type 0 where
     pub run : (r : ℕ) → 2 * length es + 1 ≤ r + 2 * suc i → (s t : State) → s .pos ≡ suc i → t .pos ≡ suc i → Sound (s .marks) → Same (suc i) (m s) (p r t)
 
@@ -458,7 +458,7 @@ module _ (text : List ℕ) (es : List Entry) where
     headed-agree : (e : Entry) → Agree 1 (suc (s .pos)) (headed true R e) (λ r. headed false (level text es false r) e)
     headed-agree e = both-ways _ (bind (nextScript-agree (suc (s .pos)) R like) λ q. bind (like .nextScriptFunc-agree Stop.none true) λ a. ret _) (bind (like .nextScriptFunc-agree stop true) λ a. ret _)
 
-    -- No function and no prefixing sign: a nextSimple one, and its nextScript.
+    -- No function and no prefixing sign: a simple one, and its script.
     plainly : (s₁ t₁ : State) → s₁ .pos ≡ s .pos → s₁ .pos ≡ t₁ .pos → Sound (s₁ .marks) → Same (s .pos) ((R .simple stop sg >>= scripted true R) s₁) (((level text es false r) .simple stop sg >>= scripted false (level text es false r)) t₁)
     unfolding _>>=_
     plainly s₁ t₁ p d so = go ((R .simple stop sg s₁) .0) ((level text es false r .simple stop sg t₁) .0) refl (w .same .value)
@@ -487,7 +487,7 @@ module _ (text : List ℕ) (es : List Entry) where
     unfolding nextScriptFunc _>>=_
     nextScriptFunc-step = gone ((advance text es (heads sg) s) .0) ((advance text es (heads sg) t) .0) refl (advance-same {b = 0} (heads sg) s t eq (omega arith) sound .value)
 
-  -- Behind the last entry there is Stop.none, at any level.
+  -- Behind the last entry there is nothing, at any level.
   advance-end : (ok : Entry → Bool) (s : State) → length es ≤ s .pos → advance text es ok s ≡ (none, s)
   unfolding advance
   advance-end ok s h = rw (outside es (s .pos) h, advance)
@@ -564,7 +564,7 @@ module _ (text : List ℕ) (es : List Entry) where
   levels zero = ((λ stop sg s t r eq sound h g. ended-simple zero r stop sg s t eq sound (omega arith)), (λ stop sg s t r eq sound h g. ended-script zero r stop sg s t eq sound (omega arith)))
   levels (suc k) = (simply k (levels k .0) (levels k .1), scriptly k (levels k .0) (levels k .1))
 
-  -- The parse, at level 256 on Script.subsuper sides, for at most 127 entries.
+  -- The parse, at level 256 on both sides, for at most 127 entries.
   module _ (short : length es ≤ 127) where
     parse-like : Like 0 (level text es true 256)
     parse-like = like-at 256 0 (levels 256 .0) (levels 256 .1) (omega arith)

@@ -19,7 +19,7 @@ use Rattle.reading.specs.Stop.{Stop}
 use Rattle.reading.specs.Entries.{Entry, is, entries}
 use Rattle.reading.specs.Reading.{State, M, return, _>>=_, here, Mark, openMark, matrixMark, slot, Try, made, lost, nought, Readers, stops, isAt, isBar, advance, failed, giveUp, attempt, argument, nextScript, nextScriptFunc, nextIntermediate, intermediates, atOpenClose, Row, Rows, nextMatrixRow, rowCells, moreRows, nextMatrixRows, matrixBody, tryMatrix, nextOpenGroup, barBody, nextOpenCloseGroup, nextBracket, begun, nextSimple, step, level, parse, parseEntries, lastOf, orGlyph, couldBeMatrix, alike, rowBrackets, closes, splitColumnLines, isByte, prefixes, spaced, orMissing, orMissingPart, any, marksScript, heads, begins, if_then_else_, makesMatrix, Scripted, readingBy}
 
--- The takes are bounded: every reader pays for what it takes. Assumes Stop.none.
+-- The takes are bounded: every reader pays for what it takes. Nothing is assumed.
 
 -- What is left of the marks, each unset one worth the price.
 unfoldable pub bank : ℕ → List Bool → ℕ
@@ -92,7 +92,7 @@ module _ (text : List ℕ) (es : List Entry) (price : ℕ) (fee : (m : Mark) (i 
     pub kept : (j : ℕ) → j < 3 * b → getD (t .marks) j false ≡ getD (s .marks) j false
     pub cost : t .takes + bank price (t .marks) + 7 * s .pos + d ≤ s .takes + bank price (s .marks) + 7 * t .pos + c
 
-  -- A reader that is given c leaves d, beside 7 for each token that it moves on Script.super.
+  -- A reader that is given c leaves d, beside 7 for each token that it moves over.
   pub record Pays {A : Type 0} (a b c : ℕ) (m : M A) (d : A → ℕ) : Type 0 where
     pub run : (s : State) → Ok s → a ≤ s .pos → Paid a b c (d ((m s) .0)) s ((m s) .1)
 
@@ -153,7 +153,7 @@ module _ (text : List ℕ) (es : List Entry) (price : ℕ) (fee : (m : Mark) (i 
   lower : {A : Type 0} {a b c : ℕ} {m : M A} {d : A → ℕ} → b ≤ a → Pays a a c m d → Pays a b c m d
   lower h p = record { run = λ s o base. let q = p .run s o base in record { ok = q .ok; base = q .base; kept = λ j l. q .kept j (omega arith); cost = q .cost } }
 
-  -- An attempt costs Stop.none: what a failed one took is paid by its mark.
+  -- An attempt costs nothing: what a failed one took is paid by its mark.
   abbrev tries : ℕ → Try → ℕ
   tries z (made x) = z
   tries z lost = 0
