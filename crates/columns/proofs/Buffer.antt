@@ -76,14 +76,14 @@ wrote-moved x to at n t h =
       body = take-paste x to (drop at x) n (omega arith) (omega arith);
     }
 
--- one more 1, and one more word moved left
-pub ones-more : (x y : List ℕ) (at n k : ℕ) → at + n ≤ length x → k < n → y ≡ paste x at (replicate n 1) k
-    → set y (at + k) 1 ≡ paste x at (replicate n 1) (k + 1)
-ones-more x y at n k h q e =
-    ap (λ (r : List ℕ). set r (at + k) 1) e
-    ∙ ap (λ (v : ℕ). set (paste x at (replicate n 1) k) (at + k) v) (sym (getD-replicate n k 1 0 q))
-    ∙ paste-suc x at (replicate n 1) k 0 (omega arith) (omega (arith, length-replicate {A = ℕ} n 1))
-    ∙ ap (λ (m : ℕ). paste x at (replicate n 1) m) (sym (add-one k))
+-- one more word filled, and one more moved left
+pub fill-more : (x y : List ℕ) (at n v k : ℕ) → at + n ≤ length x → k < n → y ≡ paste x at (replicate n v) k
+    → set y (at + k) v ≡ paste x at (replicate n v) (k + 1)
+fill-more x y at n v k h q e =
+    ap (λ (r : List ℕ). set r (at + k) v) e
+    ∙ ap (λ (w : ℕ). set (paste x at (replicate n v) k) (at + k) w) (sym (getD-replicate n k v 0 q))
+    ∙ paste-suc x at (replicate n v) k 0 (omega arith) (omega (arith, length-replicate {A = ℕ} n v))
+    ∙ ap (λ (m : ℕ). paste x at (replicate n v) m) (sym (add-one k))
 
 pub moved-more : (x y : List ℕ) (to at n k : ℕ) → to ≤ at → at + n ≤ length x → k < n → y ≡ paste x to (drop at x) k
     → set y (to + k) (getD y (at + k) 0) ≡ paste x to (drop at x) (k + 1)

@@ -9,7 +9,7 @@ use lib.Seq.{paste, drop-paste, length-paste}
 use lib.Dec.{eqb}
 use Rattle.tree.specs.Words.{pick}
 use Rattle.columns.specs.Columns.{cellLen, cellsEnd, cellsFrom, otherCells, joinWords, next}
-use Rattle.columns.specs.Steps.{Wrote, flags, bit, bits, Stand, Keeps}
+use Rattle.columns.specs.Steps.{Wrote, flags, bit, bits, CellsStand, KeptCells}
 use Rattle.columns.proofs.Buffer.{same-drop, drop-more, seq, wrote-none, wrote-moved}
 use Rattle.columns.proofs.Cells.{cells-le, next-below}
 use Rattle.columns.proofs.Boundaries.{flag-at, one-most}
@@ -82,7 +82,7 @@ module _ {x : List ℕ} {from cells cols : ℕ} {y : List ℕ} {at to c j left :
   }
   upto-cell false g = record { done = u .done; wrote = u .wrote; same = cell-same false g; counted = omega (arith, u .counted) }
 
-module _ {x : List ℕ} {from e cells cols : ℕ} (ready : Stand x from e cells cols) where
+module _ {x : List ℕ} {from e cells cols : ℕ} (ready : CellsStand x from e cells cols) where
   pub keeping-none : Keeping x from e cells cols x from from 0 0 0
   unfolding joinWords
   keeping-none = record {
@@ -145,11 +145,11 @@ module _ {x : List ℕ} {from e cells cols : ℕ} (ready : Stand x from e cells 
         go zero s d o = absurd (omega arith)
         go (suc l) s d o = rw (a, b, g, k, u, keeping-len) (keeping-step (eqb w 0) l s d o h (ap (λ (q : ℕ). eqb q 0) (sym f)))
 
-    pub keeping-done : cells ≤ i → Keeps x from e cells cols y (record { end = to; cells = c })
+    pub keeping-done : cells ≤ i → KeptCells x from e cells cols y (record { end = to; cells = c })
     unfolding cellsEnd cellsFrom otherCells
     keeping-done h = go (p .left) (p .sum) (p .chain) (p .gives)
       where
-        go : (l : ℕ) → i + l ≡ cells → cellsEnd x at l ≡ e → ((m : List Bool) → flags e cols x ≡ bits m → Upto x from cells cols y at to c j l m) → Keeps x from e cells cols y (record { end = to; cells = c })
+        go : (l : ℕ) → i + l ≡ cells → cellsEnd x at l ≡ e → ((m : List Bool) → flags e cols x ≡ bits m → Upto x from cells cols y at to c j l m) → KeptCells x from e cells cols y (record { end = to; cells = c })
         go (suc l) s d o = absurd (omega arith)
         go zero s d o = record {
           within = omega (arith, p .behind);

@@ -7,6 +7,7 @@ pub mod Marks
 pub mod Keeping
 pub mod Whole
 pub mod Laws
+pub mod Cleared
 pub mod Lines
 pub mod Grids
 pub mod Rows

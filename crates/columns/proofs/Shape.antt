@@ -10,7 +10,7 @@ use borrow.Author.Tests.{ltb-true, leb-true, leb-false, eqb-true, lt-ltb, le-ltb
 use Rattle.tree.specs.Words.{pick}
 use Rattle.columns.specs.Columns.{cellLen, cellsEnd, hasRoom, areCells}
 
-and-true : (a b : Bool) → (a && b) ≡ true → (a ≡ true) × (b ≡ true)
+pub and-true : (a b : Bool) → (a && b) ≡ true → (a ≡ true) × (b ≡ true)
 and-true true b e = (refl, e)
 and-true false b e = let z : _≡_ {A = ℕ} 0 1 = cc in absurd (omega arith)
 
@@ -69,10 +69,10 @@ module _ (x : List ℕ) (from e cells cols : ℕ) where
   unfolding areCells hasRoom
   cells-stand a b c d = rw (lt-ltb 0 cols a, le-leb cols 4096 b, le-leb (e + cols) (length x) c, eq-eqb (cellsEnd x from cells) e d) refl
 
-  pub cells-told : (b t : Bool) → b ≡ hasRoom (length x) e cols → b ≡ true → t ≡ eqb (cellsEnd x from cells) e → t ≡ areCells x from e cells cols
+  pub cells-told : (t : Bool) → hasRoom (length x) e cols ≡ true → t ≡ eqb (cellsEnd x from cells) e → t ≡ areCells x from e cells cols
   unfolding areCells
-  cells-told b t u h v = v ∙ ap (λ (r : Bool). r && eqb (cellsEnd x from cells) e) (sym (sym u ∙ h))
+  cells-told t h v = v ∙ ap (λ (r : Bool). r && eqb (cellsEnd x from cells) e) (sym h)
 
-  pub cells-untold : (b : Bool) → b ≡ hasRoom (length x) e cols → b ≡ false → areCells x from e cells cols ≡ false
+  pub cells-untold : hasRoom (length x) e cols ≡ false → areCells x from e cells cols ≡ false
   unfolding areCells
-  cells-untold b u h = ap (λ (r : Bool). r && eqb (cellsEnd x from cells) e) (sym u ∙ h)
+  cells-untold h = ap (λ (r : Bool). r && eqb (cellsEnd x from cells) e) h

@@ -10,45 +10,35 @@ use Rattle.tree.specs.Words.{pick}
 use Rattle.reading.specs.Reading.{keptCols, columnLines}
 use Rattle.columns.specs.declared.moves.Kept.{Kept}
 use Rattle.columns.specs.Columns.{cellsEnd, cellsFrom, hasRoom, areCells, joinWords, mask, left, isSplit, splitWords, splitOf}
-use Rattle.columns.specs.Steps.{Wrote, Marked, Counted, Judged, Stand, Keeps, Lines}
+use Rattle.columns.specs.Steps.{Wrote, Marked, Counted, KeptCount, CellsStand, KeptCells, Lines}
 use Rattle.columns.proofs.Buffer.{same-take, take-less, drop-more, seq}
 use Rattle.columns.proofs.Cells.{cells-le, cells-same, from-same}
-use Rattle.columns.proofs.Shape.{room-parts, cells-parts, cells-told, cells-untold}
+use Rattle.columns.proofs.Shape.{room-parts, cells-parts, cells-told}
 
 differ : {A : Type 0} → true ≡ false → A
 differ e = let z : _≡_ {A = ℕ} 0 1 = cc in absurd (omega arith)
 
 module _ (X x : List ℕ) (from e cells cols : ℕ) where
   -- what count_kept answers, by its tests
-  module _ {b : Bool} (u : b ≡ hasRoom (length x) e cols) where
-    pub judged-none : b ≡ false → Judged X x from e cells cols x 0
-    judged-none h =
-        let n = cells-untold x from e cells cols b u h in
-        record {
-          beside = record { long = refl; front = refl; after = refl };
-          tells = sym (ap (λ (t : Bool). pick t (keptCols (mask X x from e cells cols)) 0) n);
-          flag = λ g. differ (sym g ∙ n);
-        }
+  module _ {y : List ℕ} {t : Bool} (h : hasRoom (length x) e cols ≡ true) (p : Marked X x from e cells cols y t) where
+    are : t ≡ areCells x from e cells cols
+    are = cells-told x from e cells cols t h (p .tells)
 
-    module _ {y : List ℕ} {t : Bool} (h : b ≡ true) (p : Marked X x from e cells cols y t) where
-      are : t ≡ areCells x from e cells cols
-      are = cells-told x from e cells cols b t u h (p .tells)
+    pub count-not : t ≡ false → KeptCount X x from e cells cols y 0
+    count-not q = record {
+      beside = p .beside;
+      tells = sym (ap (λ (s : Bool). pick s (keptCols (mask X x from e cells cols)) 0) (sym are ∙ q));
+      flag = λ g. differ (sym g ∙ sym are ∙ q);
+    }
 
-      pub judged-not : t ≡ false → Judged X x from e cells cols y 0
-      judged-not q = record {
-        beside = p .beside;
-        tells = sym (ap (λ (s : Bool). pick s (keptCols (mask X x from e cells cols)) 0) (sym are ∙ q));
-        flag = λ g. differ (sym g ∙ sym are ∙ q);
-      }
+    pub count-some : {r : ℕ} → t ≡ true → Counted y e cols r → KeptCount X x from e cells cols y r
+    count-some q n = record {
+      beside = p .beside;
+      tells = n (mask X x from e cells cols) (p .flag q) ∙ sym (ap (λ (s : Bool). pick s (keptCols (mask X x from e cells cols)) 0) (sym are ∙ q));
+      flag = λ g. p .flag q;
+    }
 
-      pub judged-some : {r : ℕ} → t ≡ true → Counted y e cols r → Judged X x from e cells cols y r
-      judged-some q n = record {
-        beside = p .beside;
-        tells = n (mask X x from e cells cols) (p .flag q) ∙ sym (ap (λ (s : Bool). pick s (keptCols (mask X x from e cells cols)) 0) (sym are ∙ q));
-        flag = λ g. p .flag q;
-      }
-
-  module _ {y : List ℕ} {k : ℕ} {w : Bool} (p : Judged X x from e cells cols y k) (u : w ≡ (eqb k 0 || eqb k cols)) where
+  module _ {y : List ℕ} {k : ℕ} {w : Bool} (p : KeptCount X x from e cells cols y k) (u : w ≡ (eqb k 0 || eqb k cols)) where
     split-told : isSplit X x from e cells cols ≡ not w
     unfolding isSplit
     split-told = go (areCells x from e cells cols) refl (p .tells)
@@ -80,7 +70,7 @@ module _ (X x : List ℕ) (from e cells cols : ℕ) where
       ends : cellsEnd x from cells ≡ e
       ends = cells-parts x from e cells cols are-cells .1
 
-      pub stand : Stand y from e cells cols
+      pub stand : CellsStand y from e cells cols
       stand = record {
         chain = cells-same x y e cells from (same-take x y from e (p .beside .front)) ends;
         some = fits-in .0;
@@ -90,7 +80,7 @@ module _ (X x : List ℕ) (from e cells cols : ℕ) where
       cells-are : cellsFrom y from cells ≡ cellsFrom x from cells
       cells-are = from-same x y e cells from (same-take x y from e (p .beside .front)) (omega (arith, fits-in .2, p .beside .long)) (p .beside .long) ends
 
-      pub split : {z z′ : List ℕ} {out : ℕ} {r : Kept} → Keeps y from e cells cols z r → Lines z (r .end) e cols z′ out
+      pub split : {z z′ : List ℕ} {out : ℕ} {r : Kept} → KeptCells y from e cells cols z r → Lines z (r .end) e cols z′ out
           → (record { end = out; cols = k; cells = r .cells; lines = out - r .end } ≡ splitOf X x from e cells cols)
           × ((take out z′ ≡ splitWords X x from e cells cols) × (drop (e + cols) z′ ≡ drop (e + cols) x))
       unfolding splitOf splitWords left

@@ -1,6 +1,6 @@
 -- The split of column lines over the words of a tree. X is the text, x are the words: `cells` cells stand in them from `from` up to
 -- `end`, row after row, `cols` in a row. A word that is not there is read as 0.
-use Prim.Native.Nat.{ℕ, zero, suc, _+_}
+use Prim.Native.Nat.{ℕ, zero, suc, _+_, _-_}
 use mathlib.Core.List.{List, [], _∷_, _++_}
 use mathlib.Core.Bool.{Bool, true, false, not, _&&_, _||_}
 use lib.ListN.{length, getD, take, drop, set, replicate}
@@ -34,7 +34,7 @@ abbrev pub loneSymbol : ℕ → ℕ → ℕ → ℕ → ℕ → Bool
 loneSymbol items frac kind script below =
     eqb items 1 && (eqb frac 0 && (eqb kind 13 && (eqb script 0 && eqb below 7)))
 
--- is_column_line, of a cell with the words w: a lone symbol, and its text is `|`
+-- is_column_line, of a cell with the words w: "a lone unscripted `|` symbol"
 unfoldable pub isLine : List ℕ → List ℕ → Bool
 isLine X w =
     loneSymbol (getD w 3 0) (getD w 6 0) (getD w 7 0) (getD w 10 0) (getD w 13 0)
@@ -44,7 +44,8 @@ isLine X w =
 abbrev pub next : ℕ → ℕ → ℕ
 next cols j = pick (eqb (j + 1) cols) 0 (j + 1)
 
--- Which columns have column lines only. m tells it of the cells before these, the first of which is in the column j.
+-- "Columns whose every cell is" such a line: which of them are. m tells it of the cells before these, the first of which is in the
+-- column j.
 unfoldable pub onlyLines : List ℕ → ℕ → List Bool → ℕ → List (List ℕ) → List Bool
 onlyLines X cols m j [] = m
 onlyLines X cols m j (w ∷ ws) = onlyLines X cols (pick (isLine X w) m (set m j false)) (next cols j) ws
@@ -87,3 +88,11 @@ module _ (X x : List ℕ) (from end cells cols : ℕ) where
         lines = length (columnLines 0 mask);
       })
       (record { end = end; cols = cols; cells = cells; lines = 0 })
+
+  -- All the words after the call: those up to the new end, zeros up to end + cols, and those past that as they were. If there is no
+  -- room past the cells, all as it was.
+  unfoldable pub splitTree : List ℕ
+  splitTree =
+      pick (hasRoom (length x) end cols)
+      (splitWords ++ (replicate (end + cols - splitOf .end) 0 ++ drop (end + cols) x))
+      x

@@ -44,19 +44,19 @@ abbrev pub Counted : List ℕ → ℕ → ℕ → ℕ → Type 0
 Counted x end cols r = (m : List Bool) → flags end cols x ≡ bits m → r ≡ keptCols m
 
 -- What count_kept leaves and answers.
-pub record Judged (X x : List ℕ) (from end cells cols : ℕ) (y : List ℕ) (r : ℕ) : Type 0 where
+pub record KeptCount (X x : List ℕ) (from end cells cols : ℕ) (y : List ℕ) (r : ℕ) : Type 0 where
   pub beside : Beside x end cols y
   pub tells : r ≡ pick (areCells x from end cells cols) (keptCols (mask X x from end cells cols)) 0
   pub flag : areCells x from end cells cols ≡ true → flags end cols y ≡ bits (mask X x from end cells cols)
 
 -- What keep_cells asks: the cells stand there, and past them the flags.
-pub record Stand (x : List ℕ) (from end cells cols : ℕ) : Type 0 where
+pub record CellsStand (x : List ℕ) (from end cells cols : ℕ) : Type 0 where
   pub chain : cellsEnd x from cells ≡ end
   pub some : 0 < cols
   pub room : end + cols ≤ length x
 
 -- What keep_cells leaves: the cells that are kept from `from` on, and the flags as they were.
-pub record Keeps (x : List ℕ) (from end cells cols : ℕ) (y : List ℕ) (r : Kept) : Type 0 where
+pub record KeptCells (x : List ℕ) (from end cells cols : ℕ) (y : List ℕ) (r : Kept) : Type 0 where
   pub within : r .end ≤ end
   pub after : drop end y ≡ drop end x
   pub gives : (m : List Bool) → flags end cols x ≡ bits m

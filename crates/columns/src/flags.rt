@@ -4,13 +4,14 @@ use crate::line::fits;
 use crate::line::is_column_line;
 use crate::line::word;
 ghost use mathlib.Core.Path.{_≡_};
+ghost use mathlib.Core.Bool.{true};
 ghost use Prim.Native.Nat.{_+_, _≤_, _<_};
 ghost use lib.ListN.{length, set, replicate};
 ghost use lib.Seq.{paste};
 ghost use lib.Dec.{eqb};
 ghost use Rattle.tree.specs.Words.{pick};
 ghost use Rattle.columns.specs.Columns.{next, hasRoom};
-ghost use Rattle.columns.specs.Steps.{Marked, Counted, Judged, Lines};
+ghost use Rattle.columns.specs.Steps.{Marked, Counted, KeptCount, Lines};
 
 pub(crate) fn next_col(j: usize, cols: usize) -> usize
     requires { ⌜ j < cols ⌝ }
@@ -20,14 +21,14 @@ pub(crate) fn next_col(j: usize, cols: usize) -> usize
     if k == cols { 0 } else { k }
 }
 
-// n ones from `at` on
-fn set_ones(tree: &mut [u32], at: usize, n: usize)
+// n words from `at` on, each `value`
+pub(crate) fn fill(tree: &mut [u32], at: usize, n: usize, value: u32)
     requires { ⌜ at + n ≤ length (now tree) ⌝ }
-    ensures { λ _. ⌜ now (tree .exit) ≡ paste (now (tree .entry)) at (replicate n 1) n ⌝ }
+    ensures { λ _. ⌜ now (tree .exit) ≡ paste (now (tree .entry)) at (replicate n value) n ⌝ }
 {
     let mut k = 0;
     while k < n {
-        tree[at + k] = 1;
+        tree[at + k] = value;
         k += 1;
     }
 }
@@ -54,7 +55,7 @@ fn mark_columns(
     requires { ⌜ end + cols ≤ length (now tree) ⌝ }
     ensures { λ r. ⌜ Marked (now (text .entry)) (now (tree .entry)) from end cells cols (now (tree .exit)) r ⌝ }
 {
-    set_ones(tree, end, cols);
+    fill(tree, end, cols, 1);
     let mut at = from;
     let mut j = 0;
     let mut i = 0;
@@ -92,7 +93,7 @@ fn kept_columns(tree: &[u32], end: usize, cols: usize) -> usize
 }
 
 // Whether there are columns, at most 4,096, and past `end` a word for each.
-fn has_room(len: usize, end: usize, cols: usize) -> bool
+pub(crate) fn has_room(len: usize, end: usize, cols: usize) -> bool
     ensures { λ r. ⌜ r ≡ hasRoom len end cols ⌝ }
 {
     if cols == 0 {
@@ -113,14 +114,11 @@ pub(crate) fn count_kept(
     cells: usize,
     cols: usize,
 ) -> usize
-    ensures { λ r. ⌜ Judged (now (text .entry)) (now (tree .entry)) from end cells cols (now (tree .exit)) r ⌝ }
+    requires { ⌜ hasRoom (length (now tree)) end cols ≡ true ⌝ }
+    ensures { λ r. ⌜ KeptCount (now (text .entry)) (now (tree .entry)) from end cells cols (now (tree .exit)) r ⌝ }
 {
-    if has_room(tree.len(), end, cols) {
-        if mark_columns(text, tree, from, end, cells, cols) {
-            kept_columns(tree, end, cols)
-        } else {
-            0
-        }
+    if mark_columns(text, tree, from, end, cells, cols) {
+        kept_columns(tree, end, cols)
     } else {
         0
     }

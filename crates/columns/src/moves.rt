@@ -9,7 +9,7 @@ ghost use lib.ListN.{length, drop};
 ghost use lib.Seq.{paste};
 ghost use lib.Dec.{eqb};
 ghost use Rattle.tree.specs.Words.{pick};
-ghost use Rattle.columns.specs.Steps.{Stand, Keeps};
+ghost use Rattle.columns.specs.Steps.{CellsStand, KeptCells};
 
 // Where the cells that are kept end, and how many they are.
 pub(crate) struct Kept {
@@ -52,8 +52,8 @@ pub(crate) fn keep_cells(
     cells: usize,
     cols: usize,
 ) -> Kept
-    requires { ⌜ Stand (now tree) from end cells cols ⌝ }
-    ensures { λ r. ⌜ Keeps (now (tree .entry)) from end cells cols (now (tree .exit)) r ⌝ }
+    requires { ⌜ CellsStand (now tree) from end cells cols ⌝ }
+    ensures { λ r. ⌜ KeptCells (now (tree .entry)) from end cells cols (now (tree .exit)) r ⌝ }
 {
     let mut at = from;
     let mut to = from;

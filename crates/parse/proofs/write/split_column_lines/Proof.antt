@@ -8,9 +8,10 @@ use lib.ListN.{length, take}
 use lib.Seq.{length-take-le, take-take}
 use Rattle.reading.specs.Reading.{splitColumnLines}
 use Rattle.columns.specs.declared.Split.{Split}
-use Rattle.columns.specs.Columns.{areCells, splitOf, splitWords}
+use Rattle.columns.specs.Columns.{areCells, splitOf, splitWords, splitTree}
 use Rattle.columns.specs.Rows.{Bounds, MatrixOf}
-use Rattle.columns.proofs.Shape.{cells-stand}
+use Rattle.columns.proofs.Shape.{cells-stand, cells-parts}
+use Rattle.columns.proofs.Cleared.{tree-front}
 use Rattle.columns.proofs.Laws.{split-bounds}
 use Rattle.columns.proofs.Rows.{split-rows}
 use Rattle.parse.specs.Columns.{SplitReady, Splits}
@@ -19,9 +20,10 @@ use Rattle.parse.proofs.write.split_column_lines.Statement.{statement}
 use Rattle.parse.proofs.write.split_column_lines.Tie as tie
 
 split-is : {X x y : List ℕ} {from e cells cols : ℕ} {r : Split} → SplitReady x from e cells cols → length y ≡ length x
-    → r ≡ splitOf X x from e cells cols → take (r .end) y ≡ splitWords X x from e cells cols → Splits X x from e cells cols y r
-split-is {X} {x} {y} {from} {e} {cells} {cols} {r} p l s w =
+    → r ≡ splitOf X x from e cells cols → y ≡ splitTree X x from e cells cols → Splits X x from e cells cols y r
+split-is {X} {x} {y} {from} {e} {cells} {cols} {r} p l s t =
     let are : areCells x from e cells cols ≡ true = cells-stand x from e cells cols (p .some) (p .few) (p .room) (p .chain) in
+    let w : take (r .end) y ≡ splitWords X x from e cells cols = rw (s, t) (tree-front X x from e cells cols (cells-parts x from e cells cols are .0)) in
     let b : Bounds x from e cells cols (splitWords X x from e cells cols) r = rw s (split-bounds X x from e cells cols are) in
     record {
       front = sym (take-take from (r .end) y (b .on)) ∙ ap (take from) w ∙ b .front;
@@ -51,7 +53,7 @@ same-length : tie.Need-same-length
 same-length c = search needs
 
 returns : tie.Need-returns
-returns c = split-is (c .before .before .before .before .before .before .pre) (search needs) (c .before .before .split-column-lines .ensures .0) (c .before .before .split-column-lines .ensures .1 .0)
+returns c = split-is (c .before .before .before .before .before .before .pre) (search needs) (c .before .before .split-column-lines .ensures .0) (c .before .before .split-column-lines .ensures .1)
 
 pub split-column-lines-spec : {M : Type 1} → statement M
 split-column-lines-spec = tie.close (tie.spec split-column-lines-requires same-length returns)
