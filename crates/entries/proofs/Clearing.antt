@@ -1,12 +1,11 @@
 -- The brackets that are left open, cleared one after the other.
-use Prim.Native.Nat.{ℕ, suc, _+_, _*_, _≤_, _<_}
+use Prim.Native.Nat.{ℕ, suc, _+_, _≤_, _<_}
 use mathlib.Core.Path.{_≡_, _∙_}
 use mathlib.Core.List.{List}
 use native.Mathlib.Omega.{arith}
 use native.Mathlib.Numerals.{add-one}
-use lib.ListN.{set}
-use lib.Seq.{getD-set-other}
-use Rattle.records.specs.Record.{afterClose}
+use Rattle.records.specs.Record.{afterClose, withClose}
+use Rattle.records.proofs.Stores.{close-other}
 use Rattle.entries.specs.Open.{Chain, clearAll}
 use Rattle.entries.proofs.Matching.{chain-top, chain-none, chain-kept, Popped, popped}
 
@@ -31,12 +30,11 @@ module _ {J st K : List ℕ} {top last : ℕ} (q : Clearing J st K top last) whe
     pub clearing-low : afterClose K o ≤ o
     clearing-low = chain-top (last-open .chain)
 
-    pub clearing-next : Clearing J st (set K (4 * o + 1) 0) (afterClose K o) last
-    unfolding afterClose
+    pub clearing-next : Clearing J st (withClose K o 0) (afterClose K o) last
     clearing-next =
         record {
           stack = last-open .rest;
-          chain = chain-kept (λ i l. getD-set-other K (4 * o + 1) (4 * i + 1) 0 0 (λ z. omega (arith, clearing-low))) (chain-narrow (last-open .chain));
+          chain = chain-kept (λ i l. close-other K o 0 i (λ z. omega (arith, clearing-low))) (chain-narrow (last-open .chain));
           words = rw (last-open .whole) at (q .words);
           low = omega (arith, clearing-low, q .low);
         }

@@ -20,7 +20,8 @@ use Rattle.tokens.proofs.TokenList.{kind-space, kind-other, count-space, count-
 use Rattle.tree.specs.Tree.{nowhere}
 use Rattle.tree.specs.Words.{pick}
 use Rattle.reading.specs.Entries.{Entry, is, entries, closeAfter, hasSep}
-use Rattle.records.specs.Record.{placeOf, afterClose, sepWord, marksOf}
+use Rattle.records.specs.Record.{placeOf, afterClose, sepWord, marksOf, withRecord}
+use Rattle.records.proofs.Stores.{record-whole}
 use Rattle.entries.specs.Prepared.{places, closeFrom, ofBracket, records, workWords}
 use Rattle.entries.specs.Open.{Link, Filled, clearAll}
 use Rattle.entries.proofs.Words.{sets-before, sets-behind, sets-at, Stored, stored, unstored, close-stored, close-kept, sep-kept, sep-stored, sep-beside, close-beside, length-clear, clear-other, clear-close}
@@ -101,7 +102,7 @@ module _ (count : ℕ) (table J : List ℕ) where
 
     -- a token other than Space: its record K₁, matched to L
     module _ {K₁ L : List ℕ} {r : ℕ} (k : getD table (3 * i + 2) 0 < 23) (room : 4 * countOthers (tokenList count table) ≤ length J)
-        (put : K₁ ≡ sets K (4 * n) (i ∷ 0 ∷ 0 ∷ 0 ∷ [])) (q : Link n (getD table (3 * i + 2) 0) top K₁ L r)
+        (made : K₁ ≡ withRecord K n i) (q : Link n (getD table (3 * i + 2) 0) top K₁ L r)
       where
         abbrev words : List ℕ
         words = workWords (tokenList count table)
@@ -153,6 +154,9 @@ module _ (count : ℕ) (table J : List ℕ) where
         fits : 4 * n + 4 ≤ length K
         fits = omega (arith, f .counted, f .long, others-more count table i h k)
 
+        put : K₁ ≡ sets K (4 * n) (i ∷ 0 ∷ 0 ∷ 0 ∷ [])
+        put = made ∙ record-whole K n i (omega (arith, fits))
+
         before : (x : ℕ) → x < 4 * n → getD K₁ x 0 ≡ getD K x 0
         before x l = rw put (sets-before (i ∷ 0 ∷ 0 ∷ 0 ∷ []) K (4 * n) x l)
 
@@ -194,7 +198,7 @@ module _ (count : ℕ) (table J : List ℕ) where
         abbrev Linked : Type 0
         Linked = Matching (afterClose words) (sepWord words) (afterClose L) (sepWord L) (n + 1) r later × Stored n K₁ L
 
-        there : (j : ℕ) → j ≤ n → 4 * j + 2 < length K₁
+        there : (j : ℕ) → j ≤ n → 4 * j + 3 < length K₁
         there j l = omega (arith, fits, put-length)
 
         linked : Link n (getD table (3 * i + 2) 0) top K₁ L r → Linked
@@ -300,7 +304,7 @@ module _ (count : ℕ) (table J K : List ℕ) (n top i : ℕ) (f : Filling count
   unfolding entries
   no-entries = rw (tokens-none count table i h)
 
-  all-counted : countOthers (tokenList count table) ≡ n
+  pub all-counted : countOthers (tokenList count table) ≡ n
   unfolding countOthers
   all-counted = omega (arith, f .counted, ap countOthers (tokens-none count table i h))
 

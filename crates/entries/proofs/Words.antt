@@ -7,7 +7,8 @@ use lib.ListN.{length, getD, set, length-set}
 use lib.Seq.{sets, getD-set-same, getD-set-other}
 use borrow.Author.Tests.{eq-eqb, ne-eqb}
 use Rattle.tokens.proofs.Cases.{by-eq}
-use Rattle.records.specs.Record.{placeOf, afterClose, sepWord, marksOf}
+use Rattle.records.specs.Record.{placeOf, afterClose, sepWord, marksOf, withField, withClose, withSep}
+use Rattle.records.proofs.Stores.{field-length, field-other, field-place, field-marks, close-same, close-other, sep-same, sep-other, close-of-sep, sep-of-close}
 use Rattle.entries.specs.Open.{Chain, clearAll}
 use Rattle.entries.proofs.Matching.{comes}
 
@@ -36,50 +37,43 @@ pub record Stored (n : ℕ) (K L : List ℕ) : Type 0 where
   pub marks : (j : ℕ) → marksOf L j ≡ marksOf K j
   pub beyond : (x : ℕ) → 4 * n + 4 ≤ x → getD L x 0 ≡ getD K x 0
 
-pub stored : {n : ℕ} {K L : List ℕ} (j k v : ℕ) → j ≤ n → 1 ≤ k → k ≤ 2 → L ≡ set K (4 * j + k) v → Stored n K L
-unfolding placeOf marksOf
+pub stored : {n : ℕ} {K L : List ℕ} (j k v : ℕ) → j ≤ n → 1 ≤ k → k ≤ 2 → L ≡ withField K j k v → Stored n K L
 stored {n} {K} j k v h a b e =
     rw e
     record {
-      long = length-set K (4 * j + k) v;
-      place = λ i. getD-set-other K (4 * j + k) (4 * i) v 0 (λ z. omega arith);
-      marks = λ i. getD-set-other K (4 * j + k) (4 * i + 3) v 0 (λ z. omega arith);
-      beyond = λ x l. getD-set-other K (4 * j + k) x v 0 (λ z. omega arith);
+      long = field-length K j k v;
+      place = λ i. field-place K j k v a b i;
+      marks = λ i. field-marks K j k v a b i;
+      beyond = λ x l. field-other K j k v x (λ z. omega arith);
     }
 
 module _ (K L : List ℕ) (j v : ℕ) where
-  module _ (a : L ≡ set K (4 * j + 1) v) where
-    pub close-stored : 4 * j + 2 < length K → afterClose L j ≡ v
-    unfolding afterClose
-    close-stored h = rw a (getD-set-same K (4 * j + 1) v 0 (omega arith))
+  module _ (a : L ≡ withClose K j v) where
+    pub close-stored : 4 * j + 3 < length K → afterClose L j ≡ v
+    close-stored h = rw a (close-same K j v h)
 
     pub close-kept : (x : ℕ) → (x ≡ j → ⊥) → afterClose L x ≡ afterClose K x
-    unfolding afterClose
-    close-kept x d = rw a (getD-set-other K (4 * j + 1) (4 * x + 1) v 0 (λ z. d (omega arith)))
+    close-kept x d = rw a (close-other K j v x d)
 
     pub sep-kept : (x : ℕ) → sepWord L x ≡ sepWord K x
-    unfolding sepWord
-    sep-kept x = rw a (getD-set-other K (4 * j + 1) (4 * x + 2) v 0 (λ z. omega arith))
+    sep-kept x = rw a (sep-of-close K j v x)
 
-  module _ (a : L ≡ set K (4 * j + 2) v) where
-    pub sep-stored : 4 * j + 2 < length K → sepWord L j ≡ v
-    unfolding sepWord
-    sep-stored h = rw a (getD-set-same K (4 * j + 2) v 0 h)
+  module _ (a : L ≡ withSep K j v) where
+    pub sep-stored : 4 * j + 3 < length K → sepWord L j ≡ v
+    sep-stored h = rw a (sep-same K j v h)
 
     pub sep-beside : (x : ℕ) → (x ≡ j → ⊥) → sepWord L x ≡ sepWord K x
-    unfolding sepWord
-    sep-beside x d = rw a (getD-set-other K (4 * j + 2) (4 * x + 2) v 0 (λ z. d (omega arith)))
+    sep-beside x d = rw a (sep-other K j v x d)
 
     pub close-beside : (x : ℕ) → afterClose L x ≡ afterClose K x
-    unfolding afterClose
-    close-beside x = rw a (getD-set-other K (4 * j + 2) (4 * x + 1) v 0 (λ z. omega arith))
+    close-beside x = rw a (close-of-sep K j v x)
 
 pub unstored : {n : ℕ} {K L : List ℕ} → L ≡ K → Stored n K L
 unstored e = rw e record { long = refl; place = λ i. refl; marks = λ i. refl; beyond = λ x l. refl }
 
 pub length-clear : (st K : List ℕ) → length (clearAll st K) ≡ length K
 length-clear [] K = refl
-length-clear (s ∷ st) K = length-clear st (set K (4 * s + 1) 0) ∙ length-set K (4 * s + 1) 0
+length-clear (s ∷ st) K = length-clear st (withClose K s 0) ∙ field-length K s 1 0
 
 abbrev nought : ℕ → ℕ → ℕ
 nought d w = 0
@@ -92,13 +86,12 @@ module _ {c : ℕ → ℕ} where
   pub clear-other : (K : List ℕ) (x : ℕ) {b top : ℕ} {st : List ℕ} → Chain c b st top → ((s : ℕ) → s < b → x ≡ 4 * s + 1 → ⊥) → getD (clearAll st K) x 0 ≡ getD K x 0
   clear-other K x Chain.none h = refl
   clear-other K x (Chain.more {s = s} l p) h =
-      clear-other (set K (4 * s + 1) 0) x p (λ i k. h i (omega arith)) ∙ getD-set-other K (4 * s + 1) x 0 0 (h s l)
+      clear-other (withClose K s 0) x p (λ i k. h i (omega arith)) ∙ field-other K s 1 0 x (h s l)
 
   pub clear-close : (K : List ℕ) (d j : ℕ) {b top : ℕ} {st : List ℕ} → Chain c b st top → 4 * b ≤ length K → afterClose (clearAll st K) j ≡ comes nought d st j (afterClose K j)
-  unfolding afterClose
   clear-close K d j Chain.none r = refl
   clear-close K d j (Chain.more {s = s} {st = st} l p) r =
-      clear-close (set K (4 * s + 1) 0) (suc d) j p (rw length-set (omega arith))
+      clear-close (withClose K s 0) (suc d) j p (rw (field-length K s 1 0) (omega arith))
       ∙ by-eq j s
-      (λ e. rw (eq-eqb j s e, e, getD-set-same K (4 * s + 1) 0 0 (omega arith)) (comes-nought (suc d) s st))
-      (λ e. rw (ne-eqb j s e, getD-set-other K (4 * s + 1) (4 * j + 1) 0 0 (λ z. e (omega arith))))
+      (λ e. rw (eq-eqb j s e, e, close-same K s 0 (omega arith)) (comes-nought (suc d) s st))
+      (λ e. rw (ne-eqb j s e, close-other K s 0 j e))

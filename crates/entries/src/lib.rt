@@ -1,9 +1,13 @@
-// Parser::new of parse.rs over lent words: a record of four words for each token other than Space.
+// Parser::new of parse.rs over lent words: a record for each token other than Space.
+use records::record::after_close;
+use records::store::put_record;
+use records::store::set_close;
+use records::store::set_sep;
 ghost use mathlib.Core.Path.{_≡_};
-ghost use mathlib.Core.List.{List, [], _∷_};
-ghost use Prim.Native.Nat.{ℕ, _+_, _*_, _≤_, _<_};
+ghost use mathlib.Core.List.{List};
+ghost use Prim.Native.Nat.{ℕ, _+_, _*_, _≤_};
+ghost use lib.Dec.{ltb};
 ghost use lib.ListN.{length};
-ghost use lib.Seq.{sets};
 ghost use Rattle.tokens.specs.Table.{tokenList, countOthers};
 ghost use Rattle.records.specs.Record.{afterClose};
 ghost use Rattle.entries.specs.Prepared.{prepared};
@@ -14,6 +18,12 @@ pub enum Prepared {
     Entries(usize),
     // The refusal's number, 3 or 8.
     Refused(u8),
+}
+
+// How many entries there are, and the number behind the last bracket that is left open, or 0.
+struct Matched {
+    entries: usize,
+    last: usize,
 }
 
 // How many tokens are other than Space.
@@ -33,28 +43,27 @@ fn count_entries(table: &[u32], count: usize) -> usize
     n
 }
 
-// The record of the entry i at this place of the table, with no bracket matched and no mark set.
-fn put_record(work: &mut [u32], i: usize, place: usize)
-    requires { ⌜ i ≤ 4096 ⌝ }
-    requires { ⌜ place ≤ 4096 ⌝ }
-    requires { ⌜ 4 * i + 3 < length (now work) ⌝ }
-    ensures { λ _. ⌜ now (work .exit) ≡ sets (now (work .entry)) (4 * i) (place ∷ 0 ∷ 0 ∷ 0 ∷ []) ⌝ }
+// Whether so many work words are too few. Where there is a record for each token, nothing is counted.
+fn is_short(table: &[u32], count: usize, words: usize) -> bool
+    requires { ⌜ count ≤ 4096 ⌝ }
+    requires { ⌜ 3 * count ≤ length (now table) ⌝ }
+    ensures { λ r. ⌜ r ≡ ltb words (4 * (countOthers (tokenList count (now (table .entry))) + 1)) ⌝ }
 {
-    work[4 * i] = place as u32;
-    work[4 * i + 1] = 0;
-    work[4 * i + 2] = 0;
-    work[4 * i + 3] = 0;
+    if count < words / 4 {
+        return false;
+    }
+    let n = count_entries(table, count);
+    words < 4 * (n + 1)
 }
 
 // Matches the entry i with the open brackets before it. Each open one's close word leads to the one around it.
 fn link(work: &mut [u32], i: usize, kind: u32, top: usize) -> usize
     requires { ⌜ i ≤ 4096 ⌝ }
     requires { ⌜ top ≤ i ⌝ }
-    requires { ⌜ 4 * i + 3 < length (now work) ⌝ }
     ensures { λ r. ⌜ Link i kind top (now (work .entry)) (now (work .exit)) r ⌝ }
 {
     if kind == 20 {
-        work[4 * i + 1] = top as u32;
+        set_close(work, i, top as u32);
         return i + 1;
     }
     if top == 0 {
@@ -62,22 +71,23 @@ fn link(work: &mut [u32], i: usize, kind: u32, top: usize) -> usize
     }
     let bracket = top - 1;
     if kind == 21 {
-        let outer = work[4 * bracket + 1] as usize;
-        work[4 * bracket + 1] = (i + 1) as u32;
+        let outer = after_close(work, bracket);
+        set_close(work, bracket, (i + 1) as u32);
         return outer;
     }
     if kind == 3 {
-        work[4 * bracket + 2] = 1;
+        set_sep(work, bracket, 1);
     }
     top
 }
 
-// The records of the entries, but for the brackets that are left open; the number behind the last of those, or 0.
-fn fill(table: &[u32], count: usize, work: &mut [u32]) -> usize
+// The records of the entries, but for the brackets that are left open.
+fn fill(table: &[u32], count: usize, work: &mut [u32]) -> Matched
     requires { ⌜ count ≤ 4096 ⌝ }
     requires { ⌜ 3 * count ≤ length (now table) ⌝ }
     requires { ⌜ 4 * countOthers (tokenList count (now table)) ≤ length (now work) ⌝ }
-    ensures { λ r. ⌜ Filled (tokenList count (now (table .entry))) (now (work .entry)) (now (work .exit)) r ⌝ }
+    ensures { λ r. ⌜ Filled (tokenList count (now (table .entry))) (now (work .entry)) (now (work .exit)) (r .last) ⌝ }
+    ensures { λ r. ⌜ r .entries ≡ countOthers (tokenList count (now (table .entry))) ⌝ }
 {
     let mut n = 0;
     let mut top = 0;
@@ -85,13 +95,16 @@ fn fill(table: &[u32], count: usize, work: &mut [u32]) -> usize
     while i < count {
         let kind = table[3 * i + 2];
         if kind < 23 {
-            put_record(work, n, i);
+            put_record(work, n, i as u32);
             top = link(work, n, kind, top);
             n += 1;
         }
         i += 1;
     }
-    top
+    Matched {
+        entries: n,
+        last: top,
+    }
 }
 
 // Clears the close words of the brackets that nothing closes.
@@ -102,8 +115,8 @@ fn clear_open(work: &mut [u32], last: usize)
     let mut top = last;
     while 0 < top {
         let bracket = top - 1;
-        top = work[4 * bracket + 1] as usize;
-        work[4 * bracket + 1] = 0;
+        top = after_close(work, bracket);
+        set_close(work, bracket, 0);
     }
 }
 
@@ -117,11 +130,10 @@ pub fn prepare(table: &[u32], count: usize, work: &mut [u32]) -> Prepared
     if table.len() < 3 * count {
         return Prepared::Refused(3);
     }
-    let n = count_entries(table, count);
-    if work.len() < 4 * (n + 1) {
+    if is_short(table, count, work.len()) {
         return Prepared::Refused(8);
     }
-    let last = fill(table, count, work);
-    clear_open(work, last);
-    Prepared::Entries(n)
+    let done = fill(table, count, work);
+    clear_open(work, done.last);
+    Prepared::Entries(done.entries)
 }

@@ -5,8 +5,7 @@ use mathlib.Core.List.{List, [], _∷_, _++_, append-nil, append-assoc}
 use mathlib.Core.Option.{Option, none, some}
 use mathlib.Core.Bool.{Bool, true, false}
 use native.Mathlib.Omega.{arith}
-use lib.ListN.{length, getD, set, take, replicate, length-replicate, length-set}
-use lib.Seq.{sets, length-sets, getD-set-same, getD-set-other}
+use lib.ListN.{length, getD, take, replicate, length-replicate}
 use borrow.Author.Tests.{eqb-true}
 use Rattle.tokens.specs.declared.token.Token.the-variants as token
 use Rattle.tokens.specs.Lexeme.{Span}
@@ -17,11 +16,12 @@ use Rattle.reading.specs.Entries.{Entry, is}
 use Rattle.reading.specs.Reading.{State, advance, level, intermediates, unscripted, endsOperand, endsFirst, look, prefixes, parse, parseEntries, lastOf}
 use Rattle.parse.specs.declared.cursor.Cursor.{Cursor}
 use Rattle.parse.specs.declared.cursor.Items.{Items}
-use Rattle.records.specs.Record.{placeOf, afterClose, sepWord, marksOf, kindOf, startOf, lenOf}
+use Rattle.records.specs.Record.{placeOf, afterClose, sepWord, marksOf, kindOf, startOf, lenOf, withClose, withSep}
 use Rattle.records.specs.Tests.{testAt, isKind}
 use Rattle.parse.specs.Entry.{Safe, Kept}
 use Rattle.parse.specs.Meet.{Input, Row, Given, Marks, At, Known, Intermediates, lastAfter, isNone, onward, seen}
 use Rattle.records.proofs.Places.{test-below}
+use Rattle.records.proofs.Stores.{field-length, field-place, field-marks, close-same, close-other, sep-same, sep-other, close-of-sep, sep-of-close}
 use Rattle.parse.proofs.Whole.{whole-items}
 use Rattle.parse.proofs.Kit.{bind, ret, tick, at-tick, same-kind, same-start, same-len, same-row, Places, safe-same, safe-kept, took, passed, test-kind, same-is}
 use Rattle.parse.specs.Top.{Wrap, Chained, wrapWords, wrapsWords, TopReady, Topped}
@@ -30,43 +30,35 @@ use Rattle.parse.proofs.Loop.{encodeItems-append, last-append}
 
 -- A wrap noted: only two words of its closing bracket change.
 module _ (K : List ℕ) (i a k : ℕ) (fit : 4 * i + 3 < length K) where
-  abbrev noted : List ℕ
-  noted = sets K (4 * i + 1) (a ∷ k ∷ [])
+  abbrev closed : List ℕ
+  closed = withClose K i a
 
-  noted-other : (j : ℕ) → (j ≡ 4 * i + 1 → ⊥) → (j ≡ 4 * i + 2 → ⊥) → getD noted j 0 ≡ getD K j 0
-  noted-other j h h2 = getD-set-other (set K (4 * i + 1) a) (suc (4 * i + 1)) j k 0 (λ z. h2 (omega arith)) ∙ getD-set-other K (4 * i + 1) j a 0 h
+  abbrev noted : List ℕ
+  noted = withSep closed i k
 
   noted-long : length noted ≡ length K
-  noted-long = length-sets K (4 * i + 1) (a ∷ k ∷ [])
+  noted-long = field-length closed i 2 k ∙ field-length K i 1 a
 
   noted-place : (j : ℕ) → placeOf noted j ≡ placeOf K j
-  unfolding placeOf
-  noted-place j = noted-other (4 * j) (λ z. omega arith) (λ z. omega arith)
+  noted-place j = field-place closed i 2 k (omega arith) (omega arith) j ∙ field-place K i 1 a (omega arith) (omega arith) j
 
   pub noted-places : Places K noted
   noted-places = record { long = noted-long; place = noted-place }
 
   noted-marks : (j : ℕ) → marksOf noted j ≡ marksOf K j
-  unfolding marksOf
-  noted-marks j = noted-other (4 * j + 3) (λ z. omega arith) (λ z. omega arith)
+  noted-marks j = field-marks closed i 2 k (omega arith) (omega arith) j ∙ field-marks K i 1 a (omega arith) (omega arith) j
 
   noted-close : (j : ℕ) → (j ≡ i → ⊥) → afterClose noted j ≡ afterClose K j
-  unfolding afterClose
-  noted-close j h = noted-other (4 * j + 1) (λ z. h (omega arith)) (λ z. omega arith)
+  noted-close j h = close-of-sep closed i k j ∙ close-other K i a j h
 
   noted-sep : (j : ℕ) → (j ≡ i → ⊥) → sepWord noted j ≡ sepWord K j
-  unfolding sepWord
-  noted-sep j h = noted-other (4 * j + 2) (λ z. omega arith) (λ z. h (omega arith))
+  noted-sep j h = sep-other closed i k j h ∙ sep-of-close K i a j
 
   own-close : afterClose noted i ≡ a
-  unfolding afterClose
-  own-close = getD-set-other (set K (4 * i + 1) a) (suc (4 * i + 1)) (4 * i + 1) k 0 (λ z. omega arith) ∙ getD-set-same K (4 * i + 1) a 0 (omega arith)
+  own-close = close-of-sep closed i k i ∙ close-same K i a fit
 
   own-sep : sepWord noted i ≡ k
-  unfolding sepWord
-  own-sep =
-      let z : suc (4 * i + 1) ≡ 4 * i + 2 = omega arith in
-      ap (λ (p : ℕ). getD (set (set K (4 * i + 1) a) p k) (4 * i + 2) 0) z ∙ getD-set-same (set K (4 * i + 1) a) (4 * i + 2) k 0 (omega (arith, length-set K (4 * i + 1) a))
+  own-sep = sep-same closed i k (omega (arith, field-length K i 1 a, fit))
 
   pub given-noted : {X t : List ℕ} {n : ℕ} {I : Input} → kindOf t K i ≡ 21 → Given X t n K I → Given X t n noted I
   given-noted {X} {t} kd q = record {
@@ -328,7 +320,7 @@ module _ {X t : List ℕ} {n : ℕ} {K₀ K L x y y2 : List ℕ} {cur : Cursor} 
         not-first false e o k = sym k ∙ e
         not-first true e o k = absurd (omega (arith, i .started e))
 
-    pub round-wrap : {J : List ℕ} → wraps < 256 → J ≡ sets L (4 * g .cur .pos + 1) (last ∷ (num + g .count) ∷ []) → Round X t n K₀ J x y2 (onward (g .cur)) (g .end) 1 false false (wraps + 1) (g .cur .pos)
+    pub round-wrap : {J : List ℕ} → wraps < 256 → J ≡ withSep (withClose L (g .cur .pos) last) (g .cur .pos) (num + g .count) → Round X t n K₀ J x y2 (onward (g .cur)) (g .end) 1 false false (wraps + 1) (g .cur .pos)
     unfolding wrapsWords
     round-wrap hw hj = rw hj (
         let b = inside in

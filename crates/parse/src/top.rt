@@ -9,14 +9,15 @@ use records::record::after_close;
 use records::record::len_at;
 use records::record::sep_word;
 use records::record::start_at;
+use records::store::set_close;
+use records::store::set_sep;
 use records::tests::is_at;
 ghost use mathlib.Core.Path.{_≡_};
-ghost use mathlib.Core.List.{List, [], _∷_, _++_};
-ghost use Prim.Native.Nat.{ℕ, _+_, _-_, _*_, _≤_, _<_};
+ghost use mathlib.Core.List.{_++_};
+ghost use Prim.Native.Nat.{_+_, _*_, _≤_};
 ghost use lib.ListN.{length, take, replicate};
 ghost use lib.Seq.{sets};
-ghost use Rattle.parse.specs.Buffer.{Wrote};
-ghost use Rattle.records.specs.Record.{sepWord, startOf, lenOf};
+ghost use Rattle.records.specs.Record.{sepWord, startOf, lenOf, withClose, withSep};
 ghost use Rattle.parse.specs.Entry.{Placed};
 ghost use Rattle.parse.specs.Meet.{Input, Given};
 ghost use Rattle.parse.specs.Top.{Noted, wrapWords, wrapsWords, TopReady, Topped, Reads};
@@ -38,12 +39,11 @@ pub(crate) struct Wrapped {
 
 // Notes the wrap of `count` items that the closing bracket at i makes; the one before it is `last`.
 fn note_wrap(work: &mut [u32], i: usize, last: usize, count: u32)
-    requires { ⌜ 4 * i + 3 < length (now work) ⌝ }
     requires { ⌜ last ≤ 4096 ⌝ }
-    ensures { λ _. ⌜ now (work .exit) ≡ sets (now (work .entry)) (4 * i + 1) (last ∷ count ∷ []) ⌝ }
+    ensures { λ _. ⌜ now (work .exit) ≡ withSep (withClose (now (work .entry)) i last) i count ⌝ }
 {
-    work[4 * i + 1] = last as u32;
-    work[4 * i + 2] = count;
+    set_close(work, i, last as u32);
+    set_sep(work, i, count);
 }
 
 // All items; a closing bracket that nothing opened closes all before it, 256 times at most.

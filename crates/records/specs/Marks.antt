@@ -1,4 +1,5 @@
--- The marks of an entry in one word: 1 and 2 for a failed open with the stops none and Sep, 4 for a failed matrix.
+-- The marks of an entry in one word: 1 and 2 for a failed open with the stops none and Sep, 4 for a failed matrix. "An open mark is
+-- separate for the stops "none" and Sep."
 use Prim.Native.Nat.{ℕ, _+_, _/_, _%_, _^_}
 use mathlib.Core.Bool.{Bool}
 use lib.Dec.{eqb}

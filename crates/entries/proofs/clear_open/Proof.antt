@@ -1,9 +1,10 @@
 -- `clear_open`: the brackets still open are cleared, one after the other.
-use Prim.Native.Nat.{ℕ, _+_, _*_, _-_}
-use mathlib.Core.Path.{_≡_, refl}
+use Prim.Native.Nat.{ℕ, _-_}
+use mathlib.Core.Path.{_≡_, refl, _∙_}
 use mathlib.Core.List.{List}
 use native.Mathlib.Omega.{arith}
-use lib.ListN.{length, length-set}
+use borrow.Author.Needs.{needs}
+use lib.ListN.{length}
 use Rattle.records.specs.Record.{afterClose}
 use Rattle.entries.specs.Open.{Chain}
 use Rattle.entries.proofs.Clearing.{Clearing, clearing-next, clearing-done, clearing-low}
@@ -22,51 +23,20 @@ loop-holds c = (refl, λ st p. record { stack = st; chain = p; words = refl; low
 sub-bracket : tie.Need-sub-bracket Inv-loop μ-loop
 sub-bracket c = omega arith
 
-mul-top : tie.Need-mul-top Inv-loop μ-loop
-mul-top c = let p = c .before .loop .inv .1 (c .before .before .pre .stack) (c .before .before .pre .chain) in
-    omega (arith, p .low, c .before .before .pre .fit, c .before .loop .inv .0)
+after-close-requires : tie.Need-after-close-requires Inv-loop μ-loop
+after-close-requires c κs = search needs
 
-add-top : tie.Need-add-top Inv-loop μ-loop
-add-top c = let p = c .before .loop .inv .1 (c .before .before .pre .stack) (c .before .before .pre .chain) in
-    omega (arith, p .low, c .before .before .pre .fit, c .before .loop .inv .0)
-
-mul-top-2 : tie.Need-mul-top-2 Inv-loop μ-loop
-mul-top-2 c = let p = c .before .loop .inv .1 (c .before .before .pre .stack) (c .before .before .pre .chain) in
-    omega (arith, p .low, c .before .before .pre .fit, c .before .loop .inv .0)
-
-slice-read-top : tie.Need-slice-read-top Inv-loop μ-loop
-slice-read-top c = let p = c .before .before .loop .inv .1 (c .before .before .before .pre .stack) (c .before .before .before .pre .chain) in
-    omega (arith, p .low, c .before .before .before .pre .fit, c .before .before .loop .inv .0)
-
-cast-top : tie.Need-cast-top Inv-loop μ-loop
-cast-top c = omega (arith, c .slice-known .given (4 * (c .before .before .loop .top - 1) + 1))
-
-mul-work : tie.Need-mul-work Inv-loop μ-loop
-mul-work c = let p = c .before .before .loop .inv .1 (c .before .before .before .pre .stack) (c .before .before .before .pre .chain) in
-    omega (arith, p .low, c .before .before .before .pre .fit, c .before .before .loop .inv .0)
-
-add-work : tie.Need-add-work Inv-loop μ-loop
-add-work c = let p = c .before .before .loop .inv .1 (c .before .before .before .pre .stack) (c .before .before .before .pre .chain) in
-    omega (arith, p .low, c .before .before .before .pre .fit, c .before .before .loop .inv .0)
-
-mul-work-2 : tie.Need-mul-work-2 Inv-loop μ-loop
-mul-work-2 c = let p = c .before .before .loop .inv .1 (c .before .before .before .pre .stack) (c .before .before .before .pre .chain) in
-    omega (arith, p .low, c .before .before .before .pre .fit, c .before .before .loop .inv .0)
-
-slice-write-work : tie.Need-slice-write-work Inv-loop μ-loop
-slice-write-work c = let p = c .before .before .loop .inv .1 (c .before .before .before .pre .stack) (c .before .before .before .pre .chain) in
-    omega (arith, p .low, c .before .before .before .pre .fit, c .before .before .loop .inv .0)
+set-close-requires : tie.Need-set-close-requires Inv-loop μ-loop
+set-close-requires c κs = search needs
 
 loop-less : tie.Need-loop-less Inv-loop μ-loop
-unfolding afterClose
-loop-less c = let p = c .before .before .loop .inv .1 (c .before .before .before .pre .stack) (c .before .before .before .pre .chain) in
-    omega (arith, clearing-low p (c .before .before .loop .top - 1) (omega (arith, c .before .loop-test .taken)))
+loop-less c = let p = c .before .before .before .before .before .before .before .loop .inv .1 (c .before .before .before .before .before .before .before .before .before .pre .stack) (c .before .before .before .before .before .before .before .before .before .pre .chain) in
+    omega (arith, c .before .before .before .before .after-close .ensures, clearing-low p (c .before .before .before .before .before .before .before .loop .top - 1) (omega (arith, c .before .before .before .before .before .before .loop-test .taken)))
 
 loop-again : tie.Need-loop-again Inv-loop μ-loop
-unfolding afterClose
 loop-again c = (
-  simp length-set (c .before .before .loop .inv .0),
-  λ st p. clearing-next (c .before .before .loop .inv .1 st p) (c .before .before .loop .top - 1) (omega (arith, c .before .loop-test .taken)),
+  c .before .before .set-close .kept .0 ∙ c .before .before .before .before .before .before .before .loop .inv .0,
+  λ st p. rw (c .before .before .set-close .ensures, c .before .before .before .before .after-close .ensures) (clearing-next (c .before .before .before .before .before .before .before .loop .inv .1 st p) (c .before .before .before .before .before .before .before .loop .top - 1) (omega (arith, c .before .before .before .before .before .before .loop-test .taken))),
 )
 
 same-length : tie.Need-same-length Inv-loop μ-loop
@@ -83,15 +53,8 @@ clear-open-spec =
     μ-loop
     loop-holds
     sub-bracket
-    mul-top
-    add-top
-    mul-top-2
-    slice-read-top
-    cast-top
-    mul-work
-    add-work
-    mul-work-2
-    slice-write-work
+    after-close-requires
+    set-close-requires
     loop-less
     loop-again
     same-length

@@ -1,10 +1,11 @@
 -- `fill`: the records of the first i tokens.
 use Prim.Native.Nat.{_-_}
+use mathlib.Core.Path.{sym}
 use mathlib.Core.Logic.{⊎-elim}
 use native.Mathlib.Omega.{arith}
-use Rattle.tokens.proofs.TokenList.{others-more}
+use borrow.Author.Needs.{needs}
 use Rattle.entries.proofs.Matching.{chain-top}
-use Rattle.entries.proofs.Filling.{Filling, filling-none, filling-space, filling-entry, filling-done}
+use Rattle.entries.proofs.Filling.{Filling, filling-none, filling-space, filling-entry, filling-done, all-counted}
 use Rattle.entries.proofs.fill.Statement.{statement}
 use Rattle.entries.proofs.fill.Tie as tie
 
@@ -30,29 +31,15 @@ mul-kind-2 c = omega arith
 shared-slice-read-kind : tie.Need-shared-slice-read-kind Inv-loop μ-loop
 shared-slice-read-kind c = omega arith
 
+cast-put-record : tie.Need-cast-put-record Inv-loop μ-loop
+cast-put-record c = omega (arith, c .before .before .before .before .loop .inv .within, c .before .before .before .before .before .before .before .pre .0)
+
 put-record-requires : tie.Need-put-record-requires Inv-loop μ-loop
-put-record-requires c κs = let a = c .before .before .before .before .before .before .before .args in
-    let p = c .before .before .before .before .loop in
-    let f = p .inv in
-    let l = others-more (a .count) (a .table .now) (p .i) (c .before .before .before .loop-test .taken) (c .before .if1 .taken) in (
-      omega (arith, f .few, f .within, c .before .before .before .before .before .before .before .pre .0),
-      (
-        omega (arith, f .within, c .before .before .before .before .before .before .before .pre .0),
-        omega (arith, l, f .counted, f .long, c .before .before .before .before .before .before .before .pre .1 .1),
-      ),
-    )
+put-record-requires c κs = search needs
 
 link-requires : tie.Need-link-requires Inv-loop μ-loop
-link-requires c κs = let a = c .before .before .before .before .before .before .before .before .before .before .before .args in
-    let p = c .before .before .before .before .before .before .before .before .loop in
-    let f = p .inv in
-    let l = others-more (a .count) (a .table .now) (p .i) (c .before .before .before .before .before .before .before .loop-test .taken) (c .before .before .before .before .before .if1 .taken) in (
-      omega (arith, f .few, f .within, c .before .before .before .before .before .before .before .before .before .before .before .pre .0),
-      (
-        chain-top (f .matching .chain),
-        omega (arith, l, f .counted, f .long, c .before .before .before .before .before .before .before .before .before .before .before .pre .1 .1, c .before .before .before .put-record .kept .0),
-      ),
-    )
+link-requires c κs = let f = c .before .before .before .before .before .before .before .before .loop .inv in
+    (omega (arith, f .few, f .within, c .before .before .before .before .before .before .before .before .before .before .before .pre .0), chain-top (f .matching .chain))
 
 add-n : tie.Need-add-n Inv-loop μ-loop
 add-n c = omega (arith, c .before .before .before .before .before .before .before .before .before .before .before .loop .inv .few, c .before .before .before .before .before .before .before .before .before .before .before .loop .inv .within, c .before .before .before .before .before .before .before .before .before .before .before .before .before .before .pre .0)
@@ -78,7 +65,10 @@ same-length c = c .before .loop .inv .long
 returns : tie.Need-returns Inv-loop μ-loop
 returns c = let a = c .before .before .before .before .args in
     let p = c .before .loop in
-    filling-done (a .count) (a .table .now) (a .work .now) (p .work) (p .n) (p .top) (p .i) (p .inv) (c .loop-test .left) (c .before .before .before .before .pre .1 .1)
+    let room = c .before .before .before .before .pre .1 .1 in (
+      filling-done (a .count) (a .table .now) (a .work .now) (p .work) (p .n) (p .top) (p .i) (p .inv) (c .loop-test .left) room,
+      sym (all-counted (a .count) (a .table .now) (a .work .now) (p .work) (p .n) (p .top) (p .i) (p .inv) (c .loop-test .left) room),
+    )
 
 pub fill-spec : {M : Type 1} → statement M
 fill-spec =
@@ -91,6 +81,7 @@ fill-spec =
     add-kind
     mul-kind-2
     shared-slice-read-kind
+    cast-put-record
     put-record-requires
     link-requires
     add-n

@@ -1,6 +1,5 @@
 use Rattle.parse.proofs.Tops.{Round, round-none, round-open, round-drop, round-wrap}
 use Rattle.records.proofs.Places.{test-below}
-use Rattle.parse.proofs.Kit.{safe-kept}
 use borrow.Author.Needs.{needs}
 use Prim.Native.Nat.{_+_, _-_}
 use native.Mathlib.Omega.{arith}
@@ -30,7 +29,7 @@ next-requires : tie.Need-next-requires Inv-all μ-all
 next-requires c κs = let b = test-below _ _ _ _ _ (sym (c .before .is-at .ensures) ∙ c .if1 .taken) in omega (arith, c .before .before .before .before .before .before .before .before .before .before .before .before .before .before .before .before .before .before .pre .safe .few)
 
 note-wrap-requires : tie.Need-note-wrap-requires Inv-all μ-all
-note-wrap-requires c κs = let b = test-below _ _ _ _ _ (sym (c .before .before .before .before .is-at .ensures) ∙ c .before .before .before .if1 .taken) in let v = c .before .before .before .before .before .before .before .before .before .before .before .before .before .before .before .before .all .inv in let m = c .before .before .before .before .before .before .before .before .before .before .before .before .before .extend .ensures .moves in ((safe-kept (m .kept) (v .safe) .placed _ b) .fit, omega (arith, v .small, c .before .before .before .before .before .before .before .before .before .before .before .before .before .before .before .before .before .before .before .before .before .pre .safe .few))
+note-wrap-requires c κs = let v = c .before .before .before .before .before .before .before .before .before .before .before .before .before .before .before .before .all .inv in omega (arith, v .small, c .before .before .before .before .before .before .before .before .before .before .before .before .before .before .before .before .before .before .before .before .before .pre .safe .few)
 
 add-wraps : tie.Need-add-wraps Inv-all μ-all
 add-wraps c = omega (arith, c .before .before .before .before .if2 .taken)

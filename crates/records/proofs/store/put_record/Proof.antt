@@ -1,13 +1,12 @@
--- `put_record`: four stores, one after the other.
+-- `store::put_record`: four stores, one after the other, and none where the record is not whole.
+use mathlib.Core.Path.{sym}
 use native.Mathlib.Numerals.{unary-clauses}
 use native.Mathlib.Omega.{arith}
 use lib.ListN.{length-set}
 use borrow.Author.Needs.{needs}
-use Rattle.entries.proofs.put_record.Statement.{statement}
-use Rattle.entries.proofs.put_record.Tie as tie
-
-cast-work : tie.Need-cast-work
-cast-work c = search needs
+use Rattle.records.proofs.Stores.{record-whole, record-short}
+use Rattle.records.proofs.store.put_record.Statement.{statement}
+use Rattle.records.proofs.store.put_record.Tie as tie
 
 mul-work : tie.Need-mul-work
 mul-work c = search needs
@@ -58,13 +57,16 @@ same-length : tie.Need-same-length
 same-length c = simp length-set
 
 returns : tie.Need-returns
-returns c = simp unary-clauses
+returns c = let a = c .before .args in
+    rw (record-whole (a .work .now) (a .i) (a .place) (omega arith)) (simp unary-clauses)
+
+returns-2 : tie.Need-returns-2
+returns-2 c = sym (record-short _ _ _ (omega arith))
 
 pub put-record-spec : {M : Type 1} → statement M
 put-record-spec =
     tie.close
     (tie.spec
-    cast-work
     mul-work
     mul-work-2
     slice-write-work
@@ -81,4 +83,5 @@ put-record-spec =
     mul-work-8
     slice-write-work-4
     same-length
-    returns)
+    returns
+    returns-2)
