@@ -93,6 +93,14 @@ def random_list(rng):
     return text, out
 
 
+def crates_below(name):
+    """A crate and those that it depends on, with what each depends on, by crates.txt."""
+    with open(os.path.join(ROOT, "crates.txt")) as f:
+        lines = [line.split("#")[0].split(":") for line in f if ":" in line.split("#")[0]]
+    deps = {crate.strip(): below.split() for crate, below in lines}
+    return {crate: deps[crate] for crate in deps[name] + [name]}
+
+
 def main():
     args = argparse.ArgumentParser(description=__doc__, formatter_class=argparse.RawDescriptionHelpFormatter)
     args.add_argument("oracle")
@@ -118,10 +126,12 @@ def main():
 
     repo = opts.keep or tempfile.mkdtemp()
     os.makedirs(repo, exist_ok=True)
-    for crate in ("tokenizer", "tree", "reading"):
+    below = crates_below("reading")
+    for crate in below:
         shutil.copytree(os.path.join(ROOT, "crates", crate), os.path.join(repo, "crates", crate), dirs_exist_ok=True)
     with open(os.path.join(repo, "crates.txt"), "w") as f:
-        f.write("tokenizer:\ntree: tokenizer\nreading: tokenizer tree\ncompare: tokenizer tree reading\n")
+        f.writelines(f"{crate}: {' '.join(deps)}\n" for crate, deps in below.items())
+        f.write(f"compare: {' '.join(below)}\n")
     base = os.path.join(repo, "crates", "compare")
     os.makedirs(os.path.join(base, "src"), exist_ok=True)
     os.makedirs(os.path.join(base, "specs"), exist_ok=True)

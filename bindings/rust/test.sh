@@ -1,12 +1,14 @@
 #!/usr/bin/env bash
-# Build the bindings and test them; the library is proved and built first if it isn't there.
+# Build the bindings and test them.
 #
 #   test.sh
 #
-# ASCIIMATH_LIB_DIR is the folder of libasciimath.a; without it target/staticlib of the repository.
+# ASCIIMATH_LIB_DIR is the folder of libasciimath.a; without it the archive is proved and built.
 set -euo pipefail
 cd "$(dirname "$0")"
-root=$(cd ../.. && pwd)
-export ASCIIMATH_LIB_DIR=${ASCIIMATH_LIB_DIR:-$root/target/staticlib}
-[ -f "$ASCIIMATH_LIB_DIR/libasciimath.a" ] || (cd "$root" && rt staticlib asciimath)
+source ../../tools/library.sh
+if [ -z "${ASCIIMATH_LIB_DIR:-}" ]; then
+    library=$(archive)
+    export ASCIIMATH_LIB_DIR=${library%/*}
+fi
 cargo test --offline --quiet

@@ -4,33 +4,32 @@
 #   callgrind.sh SRC [LIB]
 #
 # SRC and LIB as for run.sh. Each text of a group is read once, after it was read once uncounted. The
-# calls are `tokens` and `parse` with buffers cut to size, and `parse_tokens` on what no text gives.
+# calls are those of main.rs, but for `any` and the crate's tokens. Long clears and copies go by
+# vector instructions here: of a `rep stos` or `rep movs` valgrind would count each byte.
 set -euo pipefail
 [ $# -eq 1 ] || [ $# -eq 2 ] || { echo "usage: callgrind.sh SRC [LIB]" >&2; exit 2; }
 here=$(cd "$(dirname "$0")" && pwd)
 src=$(cd "$1" && pwd)
-if [ $# -eq 2 ]; then
-    library=$(realpath "$2")
-else
-    root=$(cd "$here/../.." && pwd)
-    (cd "$root" && rt staticlib asciimath >&2)
-    library=$root/target/staticlib/libasciimath.a
-fi
+source "$here/../library.sh"
+library=$(archive "${2:-}")
 out=$(mktemp -d)
 trap 'rm -rf "$out"' EXIT
-"$here/build.sh" "$src" "$library" "$out"
+"$here/../build.sh" bench "$src" "$library" "$out"
+export GLIBC_TUNABLES=glibc.cpu.x86_rep_stosb_threshold=1000000000:glibc.cpu.x86_rep_movsb_threshold=1000000000
 
 # instructions CALL GROUP SIDE
 instructions() {
     valgrind --tool=callgrind --toggle-collect=collected --callgrind-out-file=/dev/null \
         "$out/bench" "$here/texts.txt" "$@" 2>&1 | sed -n 's/.*Collected : \([0-9]*\).*/\1/p'
 }
+declare -A original # by what is called, as `parse` by several calls, and the group
 {
     printf 'call\tgroup\tbytes\trust/B\tours/B\tratio\n'
-    "$out/bench" "$here/texts.txt" names | grep -e '^tokens' -e '^parse, cut' -e 'own bars' | while IFS=$'\t' read -r call group bytes; do
-        original=$(instructions "$call" "$group" original)
+    while IFS=$'\t' read -r call group bytes; do
+        key="${call%%,*} $group"
+        [ -n "${original[$key]:-}" ] || original[$key]=$(instructions "$call" "$group" original)
         ours=$(instructions "$call" "$group" ours)
-        awk -v call="$call" -v group="$group" -v bytes="$bytes" -v original="$original" -v ours="$ours" \
+        awk -v call="$call" -v group="$group" -v bytes="$bytes" -v original="${original[$key]}" -v ours="$ours" \
             'BEGIN { printf "%s\t%s\t%d\t%.1f\t%.1f\t%.2f\n", call, group, bytes, original / bytes, ours / bytes, ours / original }'
-    done
+    done < <("$out/bench" "$here/texts.txt" names | grep -v -e '^parse, any' -e '^tokens, crate')
 } | column -t -s "$(printf '\t')"

@@ -12,8 +12,9 @@ import math
 import sys
 from xml.sax.saxutils import escape
 
-COLOURS = ["#1b6ca8", "#c8553d", "#e0a030", "#4f8a4f", "#7a5aa6"]
-LEFT, WIDTH, TOP, STEP, GAP = 200, 560, 96, 9, 12
+COLOURS = ["#1b6ca8", "#c8553d", "#e0a030", "#4f8a4f", "#7a5aa6", "#2aa198", "#d33682", "#666666"]
+LEFT, WIDTH, TOP, STEP, GAP = 200, 560, 112, 8, 12
+LEGEND = 4  # calls on a line
 LOW, HIGH = 0.01, 20
 TICKS = [0.01, 0.02, 0.05, 0.1, 0.2, 0.5, 1, 2, 5, 10, 20]
 
@@ -51,8 +52,8 @@ def main():
         frame.append(f'<line x1="{x(tick):.1f}" x2="{x(tick):.1f}" y1="{TOP - 8}" y2="{bottom}" stroke="{colour_of_line}"/>')
         frame.append(f'<text x="{x(tick):.1f}" y="{bottom + 16}" text-anchor="middle">{tick:g}</text>')
     for place, call in enumerate(calls):
-        at = 24 + place * 150
-        frame.append(f'<circle cx="{at}" cy="56" r="5" fill="{colour[call]}"/><text x="{at + 10}" y="60">{escape(call)}</text>')
+        at, y = 24 + place % LEGEND * 190, 52 + place // LEGEND * 20
+        frame.append(f'<circle cx="{at}" cy="{y}" r="5" fill="{colour[call]}"/><text x="{at + 10}" y="{y + 4}">{escape(call)}</text>')
     print(
         f'<svg xmlns="http://www.w3.org/2000/svg" width="{LEFT + WIDTH + 30}" height="{bottom + 44:.0f}" '
         'font-family="sans-serif" font-size="12">\n<rect width="100%" height="100%" fill="#fff"/>\n'

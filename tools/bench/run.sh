@@ -10,16 +10,12 @@ set -euo pipefail
 here=$(cd "$(dirname "$0")" && pwd)
 root=$(cd "$here/../.." && pwd)
 src=$(cd "$1" && pwd)
-if [ $# -eq 2 ]; then
-    library=$(realpath "$2")
-else
-    (cd "$root" && rt staticlib asciimath >&2)
-    library=$root/target/staticlib/libasciimath.a
-fi
+source "$root/tools/library.sh"
+library=$(archive "${2:-}")
 out=$(mktemp -d)
 trap 'rm -rf "$out"' EXIT
 
-"$here/build.sh" "$src" "$library" "$out"
+"$here/../build.sh" bench "$src" "$library" "$out"
 "$out/bench" "$here/texts.txt" > "$out/table"
 column -t -s "$(printf '\t')" "$out/table"
 "$here/plot.py" < "$out/table" > "$root/docs/bench.svg"

@@ -32,7 +32,7 @@ pub type Checked = Result<(), String>;
 /// How often the calls answered 0 and each refusal.
 pub type Tally = [u64; 11];
 
-fn expect(holds: bool, what: &str) -> Checked {
+pub fn expect(holds: bool, what: &str) -> Checked {
     if holds { Ok(()) } else { Err(what.into()) }
 }
 
@@ -60,7 +60,7 @@ pub fn known(case: &Case) -> Result<Option<Answer>, String> {
 }
 
 /// Whether every token has a kind and a span of the text.
-fn all_fit(text: &str, table: &[u32]) -> bool {
+pub fn all_fit(text: &str, table: &[u32]) -> bool {
     table.chunks_exact(3).all(|token| {
         let end = u64::from(token[0]) + u64::from(token[1]);
         token[2] < 24 && end <= text.len() as u64
@@ -150,7 +150,7 @@ impl Room {
     }
 }
 
-fn same_lines(ours: &str, original: &str) -> Checked {
+pub fn same_lines(ours: &str, original: &str) -> Checked {
     if ours == original {
         return Ok(());
     }

@@ -4,7 +4,8 @@
 //!
 //! TEXTS has a text in hex on each line; LISTS has a text in hex and a token list, as tools/corpus.py
 //! writes them. Each is read in a few situations: buffers just long enough, longer, and too short;
-//! and with damage that is to be refused. Everything is decided by the seed.
+//! by the bindings' own functions; and with damage that is to be refused. Everything is decided by
+//! the seed.
 
 mod check;
 mod guarded;
@@ -58,6 +59,9 @@ impl Run {
                 return None;
             }
         };
+        if let Err(difference) = ours::check(case, answer.as_ref()) {
+            self.differs(case, &vary::plain(0), &difference);
+        }
         for situation in vary::situations(case, answer.as_ref(), &mut self.random) {
             let checked = Check {
                 case,
@@ -102,6 +106,7 @@ impl Run {
 
 fn check_alone(case: &Case, situation: &Situation) -> Checked {
     let answer = known(case)?;
+    ours::check(case, answer.as_ref())?;
     Check {
         case,
         answer: answer.as_ref(),

@@ -1,17 +1,13 @@
-//! Our tree in print: its words are decoded by the bindings and printed as the original's tree is.
+//! The bindings' side: their tree in print, as the original's is printed, and their own functions.
 
+use crate::check::{Case, Checked, all_fit, expect, same_lines};
 use crate::kinds;
+use crate::original::Answer;
+use crate::predict::{self, Lent};
+use asciimath::borrowed::tree;
+use asciimath::{Reading, Refusal, Token, Tokenizer, borrowed};
 #[path = "../oracle/print.rs"]
 mod print;
-
-/// The bindings' tree, which holds parts of the text as the original's does.
-mod tree {
-    pub type Expression<'a> = asciimath::tree::Expression<&'a str>;
-    pub type Intermediate<'a> = asciimath::tree::Intermediate<&'a str>;
-    pub type Script<'a> = asciimath::tree::Script<&'a str>;
-    pub type ScriptFunc<'a> = asciimath::tree::ScriptFunc<&'a str>;
-    pub type Simple<'a> = asciimath::tree::Simple<&'a str>;
-}
 
 /// The print and the number of the tree's words; none if the words are no tree.
 pub fn printed(
@@ -23,4 +19,87 @@ pub fn printed(
 ) -> Option<(String, usize)> {
     let (root, end) = asciimath::decode(text, words, items)?;
     Some((print::printed(text, tokens, takes, &root), end))
+}
+
+/// Compares the bindings' own functions, which lend buffers of their own. What can't be said in Rust
+/// is passed over: a text that is no `str`, and a kind or a span that is none.
+pub fn check(case: &Case, answer: Option<&Answer>) -> Checked {
+    let Ok(text) = str::from_utf8(&case.text) else {
+        return Ok(());
+    };
+    let Some((words, count)) = &case.list else {
+        let refusal = predict::text(&case.text, 0, 0, 0, &Lent::default());
+        let (owned, tree) = (asciimath::read(text), borrowed::parse(text));
+        same_reading(text, refusal, owned, tree, answer)?;
+        return same_beside(text, refusal, answer);
+    };
+    let Some(table) = words.get(..3 * count).filter(|table| all_fit(text, table)) else {
+        return Ok(());
+    };
+    let refusal = predict::list(&case.text, words, *count, &Lent::default());
+    let tokens = table.chunks_exact(3).map(|word| {
+        let part = &text[word[0] as usize..][..word[1] as usize];
+        (part, Token::of_number(word[2]).expect("a kind"))
+    });
+    let owned = asciimath::read_tokens(text, tokens.clone());
+    let tree = borrowed::parse_tokens(text, tokens);
+    same_reading(text, refusal, owned, tree, answer)
+}
+
+/// The refusal of an answer, or 0.
+fn number<X>(answer: &Result<X, Refusal>) -> u32 {
+    answer
+        .as_ref()
+        .map_or_else(|refusal| refusal.number(), |_| 0)
+}
+
+/// The owned and the borrowed reading are the original's, or have the refusal.
+fn same_reading(
+    text: &str,
+    refusal: u32,
+    owned: Result<Reading, Refusal>,
+    tree: Result<tree::Expression, Refusal>,
+    answer: Option<&Answer>,
+) -> Checked {
+    let numbers = (number(&owned), number(&tree));
+    if numbers != (refusal, refusal) {
+        return Err(format!("the bindings refuse by {numbers:?}, not {refusal}"));
+    }
+    let (Ok(owned), Ok(tree), Some(answer)) = (owned, tree, answer) else {
+        return Ok(());
+    };
+    let beside = (owned.tokens, owned.takes, owned.blank);
+    let right = (answer.table.len() / 3, answer.takes, answer.items == 0);
+    if beside != right {
+        return Err(format!("the bindings answer {beside:?}, not {right:?}"));
+    }
+    let printed = print::printed(text, owned.tokens, owned.takes, &tree);
+    same_lines(&printed, &answer.printed)?;
+    // the same tree, with its own parts of the text
+    let same = text.len() > 200 || format!("{:?}", owned.tree) == format!("{tree:?}");
+    expect(
+        same,
+        "the bindings' owned tree is another than the borrowed",
+    )
+}
+
+/// The tokens and the print of a text.
+fn same_beside(text: &str, refusal: u32, answer: Option<&Answer>) -> Checked {
+    let (tokens, printed) = (Tokenizer::new(text), asciimath::print(text));
+    let numbers = (number(&tokens), number(&printed));
+    if numbers != (refusal, refusal) {
+        return Err(format!("the bindings refuse by {numbers:?}, not {refusal}"));
+    }
+    let (Ok(tokens), Ok(printed), Some(answer)) = (tokens, printed, answer) else {
+        return Ok(());
+    };
+    let table = tokens.flat_map(|(part, token)| {
+        let start = kinds::start(text, part);
+        [start as u32, part.len() as u32, token.number()]
+    });
+    expect(
+        table.eq(answer.table.iter().copied()),
+        "the bindings' tokens",
+    )?;
+    same_lines(&printed, &answer.printed)
 }

@@ -15,7 +15,7 @@ shift
 library='' seed=1 texts=20000 lists=10000
 while [ $# -ge 2 ]; do
     case $1 in
-        --library) library=$(realpath "$2") ;;
+        --library) library=$2 ;;
         --seed) seed=$2 ;;
         --texts) texts=$2 ;;
         --lists) lists=$2 ;;
@@ -24,14 +24,11 @@ while [ $# -ge 2 ]; do
     shift 2
 done
 [ $# -eq 0 ] || usage
-if [ -z "$library" ]; then
-    root=$(cd "$here/../.." && pwd)
-    (cd "$root" && rt staticlib asciimath >&2)
-    library=$root/target/staticlib/libasciimath.a
-fi
+source "$here/../library.sh"
+library=$(archive "$library")
 out=$(mktemp -d)
 trap 'rm -rf "$out"' EXIT
-"$here/build.sh" "$src" "$library" "$out"
+"$here/../build.sh" compare "$src" "$library" "$out"
 
 corpus() { python3 "$here/../corpus.py" "$src/tokenizer.rs" --seed "$seed" "$@"; }
 short=spellings,blanks,numbers,quotes,commands,bytes,soup,matrices,expressions,short,deep,all,answers,takes

@@ -5,17 +5,13 @@
 #
 # LIB is the project's archive; without it the archive is proved and built here. Buffers stand between
 # closed pages; a part runs again under valgrind, with buffers that nothing was written to; stack is
-# measured on the deepest texts. Then the program `read`, if there is one, gets strange input.
+# measured on the deepest texts. Then the program `read`, if it is built, gets strange input.
 set -euo pipefail
 [ $# -le 1 ] || { echo "usage: run.sh [LIB]" >&2; exit 2; }
 here=$(cd "$(dirname "$0")" && pwd)
 root=$(cd "$here/../.." && pwd)
-if [ $# -eq 1 ]; then
-    library=$(realpath "$1")
-else
-    (cd "$root" && rt staticlib asciimath >&2)
-    library=$root/target/staticlib/libasciimath.a
-fi
+source "$root/tools/library.sh"
+library=$(archive "${1:-}")
 out=$(mktemp -d)
 trap 'rm -rf "$out"' EXIT
 gcc -std=c11 -O2 -g -Wall -Wextra "$here/robust.c" "$library" -pthread -o "$out/robust"
@@ -39,38 +35,42 @@ fi
 corpus --families nested --count 500 --max-length 4096 | "$out/robust" stack
 "$here/frames.py" "$library"
 
-program=
-for place in "$root/read" "$root/target/bin/read"; do
-    [ -x "$place" ] && program=$place
-done
-[ -n "$program" ] || { echo "there is no program read: not run"; exit 0; }
+program=$root/target/bin/read
+[ -x "$program" ] || { echo "the program read is not built: not run"; exit 0; }
 
-# said NAME STATUS: how the program ended, and the first line that it printed
+# said NAME STATUS LINE: the program must have ended with status 0 and printed this line first
 said() {
-    echo "read, $1: status $2, $(cat "$out/got" "$out/err" | head -c 60 | head -n 1 | tr -c '[:print:]\n' '?')"
+    local line
+    line=$(cat "$out/got" "$out/err" | head -c 60 | head -n 1 | tr -c '[:print:]\n' '?')
+    echo "read, $1: status $2, $line"
+    if [ "$2" -ne 0 ] || [ "$line" != "$3" ]; then
+        echo "read, $1: not status 0, $3" >&2
+        exit 1
+    fi
 }
-# run NAME: the program on its standard input
+# run NAME LINE: the program on its standard input
 run() {
     local status=0
     timeout 60 "$program" > "$out/got" 2> "$out/err" || status=$?
-    said "$1" $status
+    said "$1" $status "$2"
 }
-run "no bytes" < /dev/null
-printf 'x^2/3' | run "x^2/3"
-{ printf 'x^'; sleep 0.2; printf '2/3'; } | run "x^2/3 in two pieces"
-printf '%0500d' 0 | run "500 bytes"
-printf '%0501d' 0 | run "501 bytes"
-head -c 400 "$program" | run "binary"
-{ head -c 100000000 /dev/zero || true; } | run "100 million bytes"
-printf '%0.s(' {1..500} | run "500 brackets"
-run "a folder" < "$out"
+blank='text=0 tokens=0 takes=0 items=0'
+run "no bytes" "$blank" < /dev/null
+printf 'x^2/3' | run "x^2/3" 'text=5 tokens=5 takes=7 items=1'
+{ printf 'x^'; sleep 0.2; printf '2/3'; } | run "x^2/3 in two pieces" 'text=5 tokens=5 takes=7 items=1'
+printf '%0500d' 0 | run "500 bytes" 'text=500 tokens=1 takes=2 items=1'
+printf '%0501d' 0 | run "501 bytes" 'refused=1'
+printf '\177ELF\002\001\200\000' | run "binary" 'refused=2'
+{ head -c 100000000 /dev/zero || true; } | run "100 million bytes" 'refused=1'
+printf '%0.s(' {1..500} | run "500 brackets" 'text=500 tokens=500 takes=2116 items=1'
+run "a folder" "$blank" < "$out"
 status=0
 timeout 60 "$program" <&- > "$out/got" 2> "$out/err" || status=$?
-said "closed input" $status
+said "closed input" $status "$blank"
+: > "$out/got"
 status=0
 printf 'x' | timeout 60 "$program" > /dev/full 2> "$out/err" || status=$?
-: > "$out/got"
-said "no room for output" $status
+said "no room for output" $status ''
 status=0
 printf 'x' | timeout 60 "$program" >&- 2> "$out/err" || status=$?
-said "closed output" $status
+said "closed output" $status ''

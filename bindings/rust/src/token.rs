@@ -1,4 +1,4 @@
-use crate::{Refusal, calls};
+use crate::{Reader, Refusal};
 use std::iter::FusedIterator;
 
 /// A parsed token label
@@ -84,42 +84,52 @@ impl SymbolClass {
     }
 }
 
+/// Gives each token its number in a token table, in order from 0.
+macro_rules! numbers {
+    ($($number:literal $name:ident$(($class:ident))?,)*) => {
+        impl Token {
+            /// The tokens in the order of their numbers in a token table
+            pub const ALL: [Token; 24] = [$(Token::$name$((SymbolClass::$class))?),*];
+
+            /// The token's number in a token table
+            #[must_use]
+            pub const fn number(self) -> u32 {
+                match self {
+                    $(Token::$name$((SymbolClass::$class))? => $number,)*
+                }
+            }
+        }
+    };
+}
+
+numbers! {
+    0 Frac,
+    1 Super,
+    2 Sub,
+    3 Sep,
+    4 Number,
+    5 Text,
+    6 Ident,
+    7 Operator,
+    8 Symbol(Glyph),
+    9 Symbol(Name),
+    10 Symbol(Joining),
+    11 Symbol(JoiningName),
+    12 Symbol(Leading),
+    13 Symbol(LeadingName),
+    14 Symbol(Space),
+    15 Symbol(Separator),
+    16 Sign,
+    17 Function,
+    18 Unary,
+    19 Binary,
+    20 OpenBracket,
+    21 CloseBracket,
+    22 OpenCloseBracket,
+    23 Space,
+}
+
 impl Token {
-    /// The tokens in the order of their numbers in a token table
-    pub const ALL: [Token; 24] = [
-        Token::Frac,
-        Token::Super,
-        Token::Sub,
-        Token::Sep,
-        Token::Number,
-        Token::Text,
-        Token::Ident,
-        Token::Operator,
-        Token::Symbol(SymbolClass::Glyph),
-        Token::Symbol(SymbolClass::Name),
-        Token::Symbol(SymbolClass::Joining),
-        Token::Symbol(SymbolClass::JoiningName),
-        Token::Symbol(SymbolClass::Leading),
-        Token::Symbol(SymbolClass::LeadingName),
-        Token::Symbol(SymbolClass::Space),
-        Token::Symbol(SymbolClass::Separator),
-        Token::Sign,
-        Token::Function,
-        Token::Unary,
-        Token::Binary,
-        Token::OpenBracket,
-        Token::CloseBracket,
-        Token::OpenCloseBracket,
-        Token::Space,
-    ];
-
-    /// The token's number in a token table
-    #[must_use]
-    pub fn number(self) -> u32 {
-        let number = Token::ALL.iter().position(|&token| token == self);
-        number.expect("every token is in the list") as u32
-    }
-
     /// The token of a number in a token table
     #[must_use]
     pub fn of_number(number: u32) -> Option<Token> {
@@ -137,7 +147,9 @@ impl Token {
 /// ```
 #[derive(Debug, Clone)]
 pub struct Tokenizer<'a> {
-    tokens: std::vec::IntoIter<(&'a str, Token)>,
+    text: &'a str,
+    /// Start, length and kind of each token
+    tokens: std::vec::IntoIter<[u32; 3]>,
 }
 
 impl<'a> Tokenizer<'a> {
@@ -146,30 +158,26 @@ impl<'a> Tokenizer<'a> {
     /// # Errors
     /// A text of more than 4,096 bytes, or one that is not ASCII, is refused.
     pub fn new(text: &'a str) -> Result<Self, Refusal> {
-        let mut answer = [0; 2];
-        Refusal::of_code(calls::count(text.as_bytes(), &mut answer))?;
-        let mut table = vec![0; 3 * answer[0] as usize];
-        Refusal::of_code(calls::tokens(text.as_bytes(), &mut table, &mut []))?;
-        let tokens: Vec<_> = table
-            .as_chunks()
-            .0
-            .iter()
-            .map(|&[start, len, kind]| {
-                let part = &text[start as usize..][..len as usize];
-                (part, Token::of_number(kind).expect("a token's number"))
-            })
-            .collect();
-        Ok(Tokenizer {
-            tokens: tokens.into_iter(),
-        })
+        Reader::with_own(|reader| reader.tokenizer(text))
+    }
+
+    /// Of the words of the text's tokens
+    pub(crate) fn of_table(text: &'a str, table: &[[u32; 3]]) -> Self {
+        Tokenizer {
+            text,
+            tokens: Vec::from(table).into_iter(),
+        }
     }
 }
 
 impl<'a> Iterator for Tokenizer<'a> {
     type Item = (&'a str, Token);
 
+    #[inline]
     fn next(&mut self) -> Option<Self::Item> {
-        self.tokens.next()
+        let [start, len, kind] = self.tokens.next()?;
+        let part = &self.text[start as usize..][..len as usize];
+        Some((part, Token::ALL[kind as usize]))
     }
 
     fn size_hint(&self) -> (usize, Option<usize>) {

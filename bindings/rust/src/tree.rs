@@ -8,17 +8,18 @@
 //! - [`SimpleScript`] - A simple expression with sub- and superscripts
 //! - [`Simple`] - A simple expression like a [`Symbol`], a [`Group`] or a [`Matrix`]
 //!
-//! `T` is how the tree holds parts of the text: owned as `Box<str>`, or for instance as `&str`.
+//! `T` is how the tree holds parts of the text: owned as [`Part`], or for instance as `&str`.
 //!
-//! Trees can be a thousand nodes deep. Reading and dropping one takes up to about 350 KB of stack,
-//! cloning it 650 KB, or 1.7 MB without optimisation.
-use crate::SymbolClass;
+//! Trees can be a thousand nodes deep. Reading one takes up to about 250 KB of stack, dropping it 120
+//! KB, cloning it 670 KB, or 1.5 MB without optimisation.
+
+use crate::{Part, SymbolClass};
 use std::ops::{Deref, Index};
 use std::slice::ChunksExact;
 
 /// A defined symbol with its class, like the `=` of `a = b`
 #[derive(Debug, Clone, Copy, PartialEq, Eq)]
-pub struct Symbol<T = Box<str>> {
+pub struct Symbol<T = Part> {
     /// The symbol text
     pub text: T,
     /// What the symbol is
@@ -27,7 +28,7 @@ pub struct Symbol<T = Box<str>> {
 
 /// A unary operator like "sqrt"
 #[derive(Debug, Clone, PartialEq, Eq)]
-pub struct SimpleUnary<T = Box<str>> {
+pub struct SimpleUnary<T = Part> {
     /// The operator name
     pub op: T,
     /// The operator argument
@@ -44,7 +45,7 @@ impl<T> SimpleUnary<T> {
 
 /// A function like "sin" where it can't have scripts, as in an argument
 #[derive(Debug, Clone, PartialEq, Eq)]
-pub struct SimpleFunc<T = Box<str>> {
+pub struct SimpleFunc<T = Part> {
     /// The function name
     pub func: T,
     /// The function argument
@@ -61,7 +62,7 @@ impl<T> SimpleFunc<T> {
 
 /// A binary operator like "root"
 #[derive(Debug, Clone, PartialEq, Eq)]
-pub struct SimpleBinary<T = Box<str>> {
+pub struct SimpleBinary<T = Part> {
     /// The operator name
     pub op: T,
     /// The first operator argument
@@ -86,7 +87,7 @@ impl<T> SimpleBinary<T> {
 
 /// A sign prefixing a simple expression, like the `-` of `x^-1`
 #[derive(Debug, Clone, PartialEq, Eq)]
-pub struct SimpleSigned<T = Box<str>> {
+pub struct SimpleSigned<T = Part> {
     /// The sign
     pub sign: T,
     /// The signed operand
@@ -103,7 +104,7 @@ impl<T> SimpleSigned<T> {
 
 /// A bracketed group; a bracket that isn't there is the empty text
 #[derive(Debug, Clone, PartialEq, Eq)]
-pub struct Group<T = Box<str>> {
+pub struct Group<T = Part> {
     /// The left bracket
     pub left_bracket: T,
     /// The grouped expression
@@ -118,7 +119,7 @@ pub struct Group<T = Box<str>> {
 /// [`column_lines`][Matrix::column_lines]. `matrix[y]` is a row and `matrix[[x, y]]` a cell, in
 /// `[column, row]` order.
 #[derive(Debug, Clone, PartialEq, Eq)]
-pub struct Matrix<T = Box<str>> {
+pub struct Matrix<T = Part> {
     /// The matrix's left bracket
     pub left_bracket: T,
     cells: Box<[Expression<T>]>,
@@ -214,7 +215,7 @@ impl<T> Index<[usize; 2]> for Matrix<T> {
 
 /// A simple element of parsing
 #[derive(Default, Debug, Clone, PartialEq, Eq)]
-pub enum Simple<T = Box<str>> {
+pub enum Simple<T = Part> {
     /// An argument that isn't there
     #[default]
     Missing,
@@ -257,7 +258,7 @@ impl<T> Simple<T> {
 
 /// Scripts attached to some other object; a script can be [missing][Simple::Missing]
 #[derive(Default, Debug, Clone, PartialEq, Eq)]
-pub enum Script<T = Box<str>> {
+pub enum Script<T = Part> {
     /// No super or subscripts
     #[default]
     None,
@@ -291,7 +292,7 @@ impl<T> Script<T> {
 
 /// A simple expression with attached scripts
 #[derive(Debug, Clone, PartialEq, Eq)]
-pub struct SimpleScript<T = Box<str>> {
+pub struct SimpleScript<T = Part> {
     /// The simple argument
     pub simple: Simple<T>,
     /// Any script modifications
@@ -308,7 +309,7 @@ impl<T> Deref for SimpleScript<T> {
 
 /// A function with attached scripts and a scripted argument
 #[derive(Debug, Clone, PartialEq, Eq)]
-pub struct Func<T = Box<str>> {
+pub struct Func<T = Part> {
     /// The function name
     pub func: T,
     /// Any script modifications of the function
@@ -335,7 +336,7 @@ impl<T> Deref for Func<T> {
 
 /// A sign prefixing a scripted expression, like the `-` of `-x^2`
 #[derive(Debug, Clone, PartialEq, Eq)]
-pub struct Signed<T = Box<str>> {
+pub struct Signed<T = Part> {
     /// The sign
     pub sign: T,
     /// The signed operand
@@ -352,7 +353,7 @@ impl<T> Signed<T> {
 
 /// A scripted object or a scripted function
 #[derive(Debug, Clone, PartialEq, Eq)]
-pub enum ScriptFunc<T = Box<str>> {
+pub enum ScriptFunc<T = Part> {
     /// A scripted simple expression
     Simple(SimpleScript<T>),
     /// A function with sub and superscripts
@@ -363,7 +364,7 @@ pub enum ScriptFunc<T = Box<str>> {
 
 /// A fraction
 #[derive(Debug, Clone, PartialEq, Eq)]
-pub struct Frac<T = Box<str>> {
+pub struct Frac<T = Part> {
     /// The numerator
     pub numer: ScriptFunc<T>,
     /// The denominator
@@ -372,7 +373,7 @@ pub struct Frac<T = Box<str>> {
 
 /// An intermediate expression
 #[derive(Debug, Clone, PartialEq, Eq)]
-pub enum Intermediate<T = Box<str>> {
+pub enum Intermediate<T = Part> {
     /// A simple scripted object
     ScriptFunc(ScriptFunc<T>),
     /// A fraction between scripted objects
@@ -383,7 +384,7 @@ pub enum Intermediate<T = Box<str>> {
 
 /// A full expression: a sequence of intermediate expressions, to which it derefs
 #[derive(Debug, Clone, PartialEq, Eq)]
-pub struct Expression<T = Box<str>>(pub(crate) Box<[Intermediate<T>]>);
+pub struct Expression<T = Part>(pub(crate) Box<[Intermediate<T>]>);
 
 impl<T> Deref for Expression<T> {
     type Target = [Intermediate<T>];

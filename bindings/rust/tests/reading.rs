@@ -1,7 +1,10 @@
 //! The strings of document 01, the refusals, and trees of every kind.
 
 use asciimath::tree::{Expression, Intermediate, Matrix, Script, ScriptFunc, Simple};
-use asciimath::{Refusal, SymbolClass, Token, Tokenizer, decode, parse, parse_tokens, read};
+use asciimath::{
+    Reader, Refusal, SymbolClass, Token, Tokenizer, borrowed, decode, parse, parse_tokens, read,
+    read_tokens,
+};
 
 /// A short form of a tree: each node's name and parts, in brackets.
 fn short(tree: &Expression) -> String {
@@ -228,6 +231,93 @@ fn printed() {
     assert_eq!(asciimath::print("π"), Err(Refusal::NOT_ASCII));
 }
 
+#[test]
+fn a_reader_is_used_again() {
+    let long = "[[1,2],[3,4]] ".repeat(200);
+    let mut reader = Reader::new();
+    for text in [
+        "",
+        &long,
+        "x",
+        "π",
+        "(a",
+        &"1".repeat(4097),
+        &long,
+        " ",
+        "x^2/3",
+    ] {
+        let fresh = Reader::new().read(text);
+        assert_eq!(reader.read(text), fresh);
+        assert_eq!(read(text), fresh);
+        assert_eq!(reader.print(text), Reader::new().print(text));
+        let Ok(tokens) = reader.tokenizer(text) else {
+            continue;
+        };
+        assert_eq!(reader.read_tokens(text, tokens.clone()), fresh);
+        assert_eq!(read_tokens(text, tokens), fresh);
+    }
+}
+
+#[test]
+fn tokens_that_are_read_while_others_are() {
+    let text = "a b";
+    let list = tokens(text).into_iter().inspect(|(part, _)| {
+        assert_eq!(short(&parse(part).unwrap()), part.trim());
+    });
+    assert_eq!(parse_tokens(text, list), parse(text));
+}
+
+#[test]
+fn borrowed_trees() {
+    let text = "sin^2 x_1/2 - [(a,|,b),(c,|,1234567890)] varepsilon";
+    let tree = borrowed::parse(text).unwrap();
+    // no other type, so their prints are compared
+    assert_eq!(format!("{tree:?}"), format!("{:?}", parse(text).unwrap()));
+    assert_eq!(borrowed::parse_tokens(text, tokens(text)).unwrap(), tree);
+    let Some(Intermediate::ScriptFunc(ScriptFunc::Simple(last))) = tree.last() else {
+        panic!()
+    };
+    let Simple::Symbol(symbol) = &last.simple else {
+        panic!()
+    };
+    assert_eq!(symbol.text.as_ptr(), text[text.len() - 10..].as_ptr());
+    assert_eq!(borrowed::parse("π"), Err(Refusal::NOT_ASCII));
+}
+
+#[test]
+fn parts_of_every_length() {
+    let digits = "1234567890".repeat(4);
+    let numbers: Vec<_> = (1..=40).map(|len| &digits[..len]).collect();
+    let text = "()".to_owned() + &numbers.join(" ");
+    let tree = parse(&text).unwrap();
+    let found: Vec<_> = tree
+        .iter()
+        .filter_map(|item| match item {
+            Intermediate::ScriptFunc(ScriptFunc::Simple(part)) => match &part.simple {
+                Simple::Number(number) => Some(number.clone()),
+                _ => None,
+            },
+            _ => None,
+        })
+        .collect();
+    drop(tree);
+    assert_eq!(found, numbers);
+    assert_eq!(found[6].to_string() + &found[7], "123456712345678");
+    assert_eq!(found[0], found[0].clone());
+    assert_ne!(found[0], found[1]);
+    assert_eq!(format!("{:?}", found[8]), "\"123456789\"");
+}
+
+#[test]
+fn readings_go_between_threads() {
+    let text = "twoheadrightarrowtail[[1,2],[3,4]]";
+    let there = std::thread::spawn(move || read(text)).join().unwrap();
+    let shared: &(dyn Send + Sync) = &there;
+    let _ = shared;
+    assert_eq!(there, read(text));
+    assert_eq!(there.unwrap().clone().tokens, 14);
+}
+
 /// As deep as a tree can be: 256 groups of closers around matrices in fractions in cells.
 fn deepest() -> String {
     "[(a,1/".repeat(127) + "x" + &")]".repeat(127) + &")".repeat(256)
@@ -272,4 +362,14 @@ fn words_that_are_no_tree() {
     assert!(decode::<&str>(text, &tree[..end - 1], items).is_none());
     assert!(decode::<&str>("", &tree[..end], items).is_none());
     assert!(decode::<&str>(text, &[], usize::MAX).is_none());
+}
+
+#[test]
+fn words_that_claim_too_much() {
+    // groups in groups, each of which claims as many items as the words behind it could be
+    let group = |items: u32| [0, 13, 0, 0, 0, 0, 0, 15, 0, 0, items, 0, 0];
+    let words: Vec<u32> = (1..10_000).rev().flat_map(group).collect();
+    assert!(decode::<&str>("", &words, 1).is_none());
+    let words: Vec<u32> = [group(1); 9999].concat();
+    assert!(decode::<&str>("", &words, 1).is_none());
 }

@@ -1,6 +1,6 @@
 //! The time of the calls beside the Rust original, both in one process and in turns.
 //!
-//!     bench TEXTS                      a table, tab-separated
+//!     bench TEXTS [CALL [GROUP]]       a table, tab-separated, of all calls and groups or these
 //!     bench TEXTS names                the names of calls and groups
 //!     bench TEXTS CALL GROUP SIDE      a group once, inside `collected`, for an instruction counter
 //!
@@ -11,14 +11,15 @@
 //! group, the nanoseconds a byte by the median of the rounds, and of all ratios the median and the
 //! range that leaves out a twentieth at either end.
 //!
-//! Ours writes to lent buffers that are used again for every text; the original makes its tree and
-//! drops it. `cut` are buffers of just the words that the text needs, `any` such as any text of
-//! that length could need. `crate` is the bindings' own parse, which makes a tree too.
+//! The original makes its tree and drops it. Ours writes to lent buffers that are used again for
+//! every text: `cut` are buffers of just the words that the text needs, `any` such as any text of
+//! that length could need. `crate` are the bindings' own functions, which make a tree too, and drop
+//! it; `borrowed` is the one whose tree holds parts of the text, as the original's does.
 
 #[path = "../oracle/kinds.rs"]
 mod kinds;
 
-use asciimath::calls;
+use asciimath::{borrowed, calls};
 use asciimath_parser::{Token, Tokenizer, parse, parse_tokens};
 use std::hint::black_box;
 use std::time::Instant;
@@ -35,6 +36,8 @@ type Text = &'static str;
 struct Input {
     text: Text,
     tokens: Vec<(Text, Token)>,
+    /// The same tokens for the bindings.
+    our_tokens: Vec<(Text, asciimath::Token)>,
     table: Vec<u32>,
     /// The tokens other than Space.
     others: usize,
@@ -49,10 +52,15 @@ impl Input {
         let triple = |&(part, token): &(Text, Token)| {
             [kinds::start(text, part), part.len(), kinds::kind(token)].map(|word| word as u32)
         };
+        let ours = |&(part, token): &(Text, Token)| {
+            let kind = kinds::kind(token) as u32;
+            (part, asciimath::Token::of_number(kind).expect("a kind"))
+        };
         Input {
             text,
             table: tokens.iter().flat_map(triple).collect(),
             others: tokens.iter().filter(|one| one.1 != Token::Space).count(),
+            our_tokens: tokens.iter().map(ours).collect(),
             tokens,
         }
     }
@@ -65,6 +73,7 @@ impl Input {
 /// What the calls write to, used again for every text.
 struct Room {
     tokens: Vec<(Text, Token)>,
+    our_tokens: Vec<(Text, asciimath::Token)>,
     table: Vec<u32>,
     work: Vec<u32>,
     tree: Vec<u32>,
@@ -82,13 +91,10 @@ struct Call {
     on_lists: bool,
 }
 
-const CALLS: [Call; 5] = [
+const CALLS: [Call; 8] = [
     Call {
         name: "tokens",
-        original: |input, room| {
-            room.tokens.clear();
-            room.tokens.extend(Tokenizer::new(input.text));
-        },
+        original: original_tokens,
         ours: |input, room| {
             let table = &mut room.table[..3 * input.text.len()];
             accepted(calls::tokens(input.bytes(), table, &mut room.answer));
@@ -115,9 +121,7 @@ const CALLS: [Call; 5] = [
     },
     Call {
         name: "parse_tokens, cut",
-        original: |input, _| {
-            black_box(parse_tokens(input.tokens.iter().copied()));
-        },
+        original: original_parse_tokens,
         ours: |input, room| {
             accepted(calls::parse_tokens(
                 input.bytes(),
@@ -135,6 +139,17 @@ const CALLS: [Call; 5] = [
         on_lists: true,
     },
     Call {
+        name: "tokens, crate",
+        original: original_tokens,
+        ours: |input, room| {
+            room.our_tokens.clear();
+            let tokens = asciimath::Tokenizer::new(input.text);
+            room.our_tokens.extend(tokens.expect("accepted"));
+        },
+        same: |input, room| assert_eq!(input.our_tokens, room.our_tokens),
+        on_lists: false,
+    },
+    Call {
         name: "parse, crate",
         original: original_parse,
         ours: |input, _| {
@@ -142,11 +157,50 @@ const CALLS: [Call; 5] = [
         },
         same: |input, _| {
             let ours = asciimath::parse(input.text).expect("accepted");
-            assert_eq!(parse(input.text).len(), ours.len());
+            assert_eq!(format!("{:?}", parse(input.text)), format!("{ours:?}"));
         },
         on_lists: false,
     },
+    Call {
+        name: "parse, borrowed",
+        original: original_parse,
+        ours: |input, _| {
+            black_box(borrowed::parse(input.text).expect("accepted"));
+        },
+        same: |input, _| {
+            let ours = borrowed::parse(input.text).expect("accepted");
+            assert_eq!(format!("{:?}", parse(input.text)), format!("{ours:?}"));
+        },
+        on_lists: false,
+    },
+    Call {
+        name: "parse_tokens, crate",
+        original: original_parse_tokens,
+        ours: |input, _| {
+            black_box(our_parse_tokens(input));
+        },
+        same: |input, _| {
+            let original = parse_tokens(input.tokens.iter().copied());
+            let ours = our_parse_tokens(input);
+            assert_eq!(format!("{original:?}"), format!("{ours:?}"));
+        },
+        on_lists: true,
+    },
 ];
+
+fn original_tokens(input: &Input, room: &mut Room) {
+    room.tokens.clear();
+    room.tokens.extend(Tokenizer::new(input.text));
+}
+
+fn original_parse_tokens(input: &Input, _: &mut Room) {
+    black_box(parse_tokens(input.tokens.iter().copied()));
+}
+
+fn our_parse_tokens(input: &Input) -> asciimath::tree::Expression {
+    let tokens = input.our_tokens.iter().copied();
+    asciimath::parse_tokens(input.text, tokens).expect("accepted")
+}
 
 fn original_parse(input: &Input, _: &mut Room) {
     black_box(parse(input.text));
@@ -315,6 +369,7 @@ fn main() {
     let groups = groups(file.lines().collect());
     let mut room = Room {
         tokens: Vec::with_capacity(LONGEST),
+        our_tokens: Vec::with_capacity(LONGEST),
         table: vec![0; 3 * LONGEST],
         work: vec![0; 4 * (LONGEST + 1)],
         tree: vec![0; 32 * (LONGEST + 1)],
@@ -325,14 +380,17 @@ fn main() {
         .flat_map(|call| groups.iter().map(move |group| (call, group)))
         .filter(|(call, group)| call.on_lists || !group.is_list);
     match &args[2..] {
-        [] => {
-            println!("call\tgroup\tbytes\tn\trust ns/B\tours ns/B\tratio\tlow\thigh");
-            pairs.for_each(|(call, group)| measure(call, group, &mut room));
-        }
-        [_] => pairs.for_each(|(call, group)| {
+        [names] if names == "names" => pairs.for_each(|(call, group)| {
             let bytes: usize = group.inputs.iter().map(|input| input.text.len()).sum();
             println!("{}\t{}\t{bytes}", call.name, group.name);
         }),
+        only @ ([] | [_] | [_, _]) => {
+            println!("call\tgroup\tbytes\tn\trust ns/B\tours ns/B\tratio\tlow\thigh");
+            let asked = |names: [&str; 2]| only.iter().zip(names).all(|(one, name)| one == name);
+            pairs
+                .filter(|(call, group)| asked([call.name, group.name]))
+                .for_each(|(call, group)| measure(call, group, &mut room));
+        }
         [call_name, group_name, side] => {
             let (call, group) = pairs
                 .into_iter()
@@ -345,6 +403,6 @@ fn main() {
             group.inputs.iter().for_each(|input| side(input, &mut room));
             collected(side, group, &mut room);
         }
-        _ => panic!("bench TEXTS [names | CALL GROUP SIDE]"),
+        _ => panic!("bench TEXTS [names | CALL [GROUP [SIDE]]]"),
     }
 }
