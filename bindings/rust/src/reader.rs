@@ -16,7 +16,7 @@ pub struct Reading<T = Part> {
     pub tokens: usize,
     /// How many times the reading took a token
     pub takes: u64,
-    /// Whether the answer counts as unanswered
+    /// Whether the root has no items
     pub blank: bool,
 }
 
