@@ -32,8 +32,8 @@ unfoldable pub closesAt : List ℕ → List ℕ → List ℕ → ℕ → ℕ →
 closesAt X t K n i j = pick (eqb (kindOf t K i) 20) (eqb (afterClose K i) (j + 1)) (barAt X t K n i j)
 
 -- could_be_matrix for the bracket at i
-unfoldable pub gateAt : List ℕ → List ℕ → List ℕ → ℕ → ℕ → Bool
-gateAt X t K n i =
+unfoldable pub couldBeMatrixAt : List ℕ → List ℕ → List ℕ → ℕ → ℕ → Bool
+couldBeMatrixAt X t K n i =
     pick (testAt t K n (isKind 20) (i + 1))
     (pick (eqb (afterClose K (i + 1)) 0) false
     (pick (testAt t K n (isKind 3) (afterClose K (i + 1))) true

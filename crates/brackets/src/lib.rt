@@ -10,7 +10,7 @@ ghost use mathlib.Core.List.{[], _∷_};
 ghost use Prim.Native.Nat.{_-_, _≤_};
 ghost use lib.ListN.{length};
 ghost use Rattle.reading.specs.Reading.{same};
-ghost use Rattle.brackets.specs.Brackets.{bytesOf, sameSpan, sameAt, byteAt, barAt, closesAt, gateAt, rowsAt, likeAt, setAt, makesAt};
+ghost use Rattle.brackets.specs.Brackets.{bytesOf, sameSpan, sameAt, byteAt, barAt, closesAt, couldBeMatrixAt, rowsAt, likeAt, setAt, makesAt};
 
 // Two spans of l bytes in the text have the same.
 fn same_bytes(text: &[u8], a: usize, b: usize, l: usize) -> bool
@@ -116,7 +116,7 @@ fn closes(text: &[u8], tok: &[u32], work: &[u32], n: usize, i: usize, j: usize) 
 
 // The bracket at i may begin a matrix.
 pub fn could_be_matrix(text: &[u8], tok: &[u32], work: &[u32], n: usize, i: usize) -> bool
-    ensures { λ r. ⌜ r ≡ gateAt (now (text .entry)) (now (tok .entry)) (now (work .entry)) n i ⌝ }
+    ensures { λ r. ⌜ r ≡ couldBeMatrixAt (now (text .entry)) (now (tok .entry)) (now (work .entry)) n i ⌝ }
 {
     if n <= i {
         return false;

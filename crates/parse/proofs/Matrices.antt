@@ -19,7 +19,7 @@ use Rattle.parse.specs.declared.cursor.Step.the-variants.{Found, Nothing
 use Rattle.parse.specs.Buffer.{Wrote}
 use Rattle.records.specs.Record.{afterClose, sepWord, marksOf, kindOf}
 use Rattle.records.specs.Tests.{testAt, isKind}
-use Rattle.brackets.specs.Brackets.{byteAt, barAt, closesAt, gateAt, setAt, makesAt}
+use Rattle.brackets.specs.Brackets.{byteAt, barAt, closesAt, couldBeMatrixAt, setAt, makesAt}
 use Rattle.records.specs.Marks.{isMarked, withMark}
 use Rattle.nodes.specs.Nodes.{matrixWords}
 use Rattle.parse.specs.Entry.{Kept, bit}
@@ -154,8 +154,8 @@ module _ {X t : List ℕ} {n : ℕ} {K : List ℕ} {I : Input} (g : Given X t n 
   bit-is true = refl
   bit-is false = refl
 
-  pub gate-is : couldBeMatrix (I .text) (I .es) o i ≡ gateAt X t K n i
-  unfolding couldBeMatrix gateAt
+  pub gate-is : couldBeMatrix (I .text) (I .es) o i ≡ couldBeMatrixAt X t K n i
+  unfolding couldBeMatrix couldBeMatrixAt
   gate-is =
       let z : i + 1 ≡ suc i = omega arith in
       rw (couldBeMatrix, z, is-at-is token.OpenBracket (suc i) g) (go (testAt t K n (isKind 20) (suc i)) refl)
@@ -212,14 +212,14 @@ matrix-encoded cols v lines cells r r2 hk hv = rw (← hk, ← hv, r .start, r .
 
 -- the attempt
 module _ {X t : List ℕ} {n : ℕ} {K : List ℕ} (i : ℕ) (c : Cursor) (e : ℕ) (x : List ℕ) (inside : i < n) (here-n : c .pos ≤ n) where
-  pub try-shut : gateAt X t K n i ≡ false → Known X t n K → TryMatrix X t n K K i c e x x (Nothing c)
+  pub try-shut : couldBeMatrixAt X t K n i ≡ false → Known X t n K → TryMatrix X t n K K i c e x x (Nothing c)
   unfolding tryMatrix
   try-shut h kn = (
     record { within = here-n; on = omega arith; depth = refl; room = omega arith; long = refl; kept = kept-refl K; known = kn },
     λ I s at en there. record { state = s; runs = if-false _ _ s (gate-is (at .given) inside there ∙ h) ∙ ret _ _; at = at; tree = wrote-none x e },
   )
 
-  module _ (gate : gateAt X t K n i ≡ true) where
+  module _ (gate : couldBeMatrixAt X t K n i ≡ true) where
     pub try-known : isMarked (marksOf K i) 4 ≡ true → Known X t n K → TryMatrix X t n K K i c e x x (Nothing c)
     unfolding tryMatrix
     try-known h kn = (

@@ -1,6 +1,6 @@
 -- `could_be_matrix`: a row opens behind the bracket, and what follows it fits.
 use Rattle.records.specs.Tests.{testAt}
-use Rattle.brackets.specs.Brackets.{gateAt}
+use Rattle.brackets.specs.Brackets.{couldBeMatrixAt}
 use Prim.Native.Nat.{_+_}
 use native.Mathlib.Omega.{arith}
 use borrow.Author.Tests.{le-ltb, eq-eqb, ne-eqb}
@@ -9,7 +9,7 @@ use Rattle.brackets.proofs.could_be_matrix.Statement.{statement}
 use Rattle.brackets.proofs.could_be_matrix.Tie as tie
 
 returns : tie.Need-returns
-unfolding gateAt testAt
+unfolding couldBeMatrixAt testAt
 returns c = simp (le-ltb (c .before .before .before .before .args .i + 1) (c .before .before .before .before .args .n) (omega arith))
 
 add-row : tie.Need-add-row
@@ -31,23 +31,23 @@ sep-word-requires : tie.Need-sep-word-requires
 sep-word-requires c κs = search needs
 
 returns-2 : tie.Need-returns-2
-unfolding gateAt
+unfolding couldBeMatrixAt
 returns-2 c = simp (← c .before .before .before .is-at .ensures, c .before .before .if2 .taken, ← c .before .after-close .ensures, eq-eqb _ _ (c .if3 .taken))
 
 returns-3 : tie.Need-returns-3
-unfolding gateAt
+unfolding couldBeMatrixAt
 returns-3 c = simp (← c .before .before .before .before .before .is-at .ensures, c .before .before .before .before .if2 .taken, ← c .before .before .before .after-close .ensures, ne-eqb _ _ (c .before .before .if3 .left), ← c .before .is-at2 .ensures, c .if4 .taken)
 
 returns-4 : tie.Need-returns-4
-unfolding gateAt
+unfolding couldBeMatrixAt
 returns-4 c = simp (← c .before .before .before .before .before .before .before .before .is-at .ensures, c .before .before .before .before .before .before .before .if2 .taken, ← c .before .before .before .before .before .before .after-close .ensures, ne-eqb _ _ (c .before .before .before .before .before .if3 .left), ← c .before .before .before .before .is-at2 .ensures, c .before .before .before .if4 .left, ← c .before .before .closes .ensures, c .before .if5 .taken) (rw (c .sep-word .ensures))
 
 returns-5 : tie.Need-returns-5
-unfolding gateAt
+unfolding couldBeMatrixAt
 returns-5 c = simp (← c .before .before .before .before .before .before .before .is-at .ensures, c .before .before .before .before .before .before .if2 .taken, ← c .before .before .before .before .before .after-close .ensures, ne-eqb _ _ (c .before .before .before .before .if3 .left), ← c .before .before .before .is-at2 .ensures, c .before .before .if4 .left, ← c .before .closes .ensures, c .if5 .left)
 
 returns-6 : tie.Need-returns-6
-unfolding gateAt
+unfolding couldBeMatrixAt
 returns-6 c = simp (← c .before .is-at .ensures, c .if2 .left)
 
 pub could-be-matrix-spec : {M : Type 1} → statement M
