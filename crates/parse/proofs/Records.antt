@@ -17,7 +17,7 @@ use Rattle.tree.specs.Tree.{nowhere}
 use Rattle.tree.specs.Words.{pick}
 use Rattle.reading.specs.Entries.{is, entries, hasSep}
 use Rattle.reading.specs.Reading.{closeOf}
-use Rattle.reading.proofs.Theorems.{entries-count}
+use Rattle.bounds.proofs.Theorems.{entries-count}
 use Rattle.tokens.proofs.Accepted.{accepted}
 use Rattle.entries.specs.Prepared.{workWords}
 use Rattle.entries.proofs.Recorded.{Recorded, recorded, behind}

@@ -12,9 +12,9 @@ use Rattle.tokens.proofs.Cases.{by-option}
 use Rattle.tree.specs.Tree.{count}
 use Rattle.tree.specs.Decode.{decode}
 use Rattle.reading.specs.Reading.{readTokens, blank}
-use Rattle.reading.specs.Strip.{strip}
-use Rattle.reading.proofs.Theorems.{bounds}
-use Rattle.reading.proofs.Settled as grammar
+use Rattle.grammar.specs.Strip.{strip}
+use Rattle.bounds.proofs.Theorems.{bounds}
+use Rattle.grammar.proofs.Settled as grammar
 use Rattle.parse.specs.Entry.{bit}
 use Rattle.parse.specs.Call.{parseRefusal, parseTokensRefusal, values, treeAfter, parsedText, parsedTokens}
 use Rattle.parse.specs.Answers.{Answered}

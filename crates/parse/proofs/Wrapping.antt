@@ -17,7 +17,7 @@ use Rattle.parse.proofs.Buffer.{fill}
 use Rattle.nodes.specs.Buffer.{shifted}
 use Rattle.nodes.proofs.Stores.{shifted-in}
 use native.Mathlib.Nat.{mod-eq-of-lt, mul-le-mul}
-use Rattle.reading.proofs.Takes.{takes-bound}
+use Rattle.bounds.proofs.Takes.{takes-bound}
 use Rattle.parse.specs.declared.top.Wrapped.{Wrapped}
 use Rattle.parse.specs.Top.{Wrap, Chained, wrapWords, wrapsWords, Noted, Topped, Reads}
 

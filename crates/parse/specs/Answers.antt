@@ -7,8 +7,8 @@ use Rattle.tokens.specs.Lexeme.{Lexeme}
 use Rattle.tokens.specs.Table.{countOthers}
 use Rattle.tree.specs.Decode.{decode}
 use Rattle.reading.specs.Reading.{readTokens, readPlain, blank}
-use Rattle.reading.specs.Grammar.{Settled, treeE}
-use Rattle.reading.specs.Strip.{strip}
+use Rattle.grammar.specs.Grammar.{Settled, treeE}
+use Rattle.grammar.specs.Strip.{strip}
 use Rattle.parse.specs.Entry.{bit}
 
 pub record Answered (text : List ℕ) (ts : List Lexeme) (takes items blankness : ℕ) (words : List ℕ) : Type 0 where

@@ -13,7 +13,7 @@ use Rattle.tokens.proofs.Cases.{by-lt, by-option}
 use Rattle.tree.specs.Tree.{count}
 use Rattle.tree.specs.Words.{encodeItems}
 use Rattle.reading.specs.Reading.{readText, blank}
-use Rattle.reading.proofs.Theorems.{bounds}
+use Rattle.bounds.proofs.Theorems.{bounds}
 use Rattle.parse.specs.Entry.{bit}
 use Rattle.parse.specs.Call as read
 use Rattle.parse.specs.Call.{parseRefusal, parsedText, workAfter, treeAfter}

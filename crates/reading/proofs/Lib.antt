@@ -1,13 +1,1 @@
-pub mod Takes
-pub mod Columns
-pub mod Room
-pub mod Fuel
-pub mod WellFormed
-pub mod Memory
-pub mod Derived
-pub mod Steps
-pub mod Settled
-pub mod SettledExamples
 pub mod Starred
-pub mod Theorems
-pub mod PeakExamples

@@ -1,12 +1,12 @@
 -- The starred strings of document 01, 'Strings to try', as one equation between two tables, computed from the texts' bytes: for each
--- text its whole token list, its whole tree and its takes.
+-- text its whole token list, its whole tree and its takes. Behind them a second table, of misreadings.
 use Prim.Native.Nat.{ℕ}
 use Prim.Native.String.{String}
 use mathlib.Core.Path.{_≡_, refl}
 use mathlib.Core.List.{List, [], _∷_, map}
 use Rattle.tokens.specs.declared.token.SymbolClass.{SymbolClass}
 use Rattle.tokens.specs.declared.token.SymbolClass.the-variants as class
-use Rattle.tokens.specs.declared.token.Token.the-variants.{Super, Sep, Number, Text, Ident, Operator, Symbol, Unary, OpenBracket, CloseBracket, OpenCloseBracket}
+use Rattle.tokens.specs.declared.token.Token.the-variants.{Super, Sep, Sign, Number, Text, Ident, Operator, Symbol, Unary, OpenBracket, CloseBracket, OpenCloseBracket}
 use Rattle.tokens.specs.Bytes.{bytes}
 use Rattle.tokens.specs.Lexeme.{Span, Lexeme, lexeme}
 use Rattle.tokenizer.specs.Spellings.{rows}
@@ -165,3 +165,39 @@ said c = record { list = c .list; reading = record { tree = c .tree; takes = c .
 pub starred-strings : map read starred ≡ map said starred
 unfolding read said starred rows longest.begins longest.longestOf longest.longestAt rules.run rules.runEnd rules.blank rules.digit rules.letter rules.other rules.blanksAt rules.closer rules.literalAt rules.commandAt rules.same rules.isTextCommand rules.spellingAt rules.numberEnd rules.pastPoint rules.numberAt rules.quotationAt rules.byteAt rules.readAt rules.tokensFrom rules.tokensBy is stops any marksScript heads begins same entries closeAfter hasSep slot return _>>=_ if_then_else_ here prefixes textOf isByte sameText isAt closeOf isBar closes couldBeMatrix advance failed giveUp attempt isBarSymbol isUnscripted isColumnLine lineCells bothLines lineCols keptCols columnLines keepCells joinRows rowBrackets alike splitColumnLines argument nextScript nextScriptFunc nextIntermediate spaced atOpenClose intermediates rowCells nextMatrixRow moreRows nextMatrixRows makesMatrix matrixBody tryMatrix nextOpenGroup barBody nextOpenCloseGroup nextBracket begun nextSimple step level lastOf parse parseEntries readingBy endsOperand atomEnds look
 starred-strings = refl
+
+-- Of document 01's 'Misreadings' those that the starred strings do not show.
+unfoldable pub misread : List Case
+misread =
+    -- "One mark per bar for both stops": the bar fails with the stop Sep, in a row of a set, and is read again with none
+    record {
+      text = "{(|a,b|)}";
+      list =
+          lexeme 0 1 OpenBracket ∷ lexeme 1 1 OpenBracket ∷ lexeme 2 1 OpenCloseBracket ∷ lexeme 3 1 Ident ∷ lexeme 4 1 Sep ∷
+          lexeme 5 1 Ident ∷ lexeme 6 1 OpenCloseBracket ∷ lexeme 7 1 CloseBracket ∷ lexeme 8 1 CloseBracket ∷ [];
+      tree =
+          unscripted
+          (one (Head.group (at 0 1) (at 8 1))
+          (unscripted
+          (one (Head.group (at 1 1) (at 7 1))
+          (unscripted (node (Head.group (at 2 1) (at 6 1)) (item Atom.ident 3 ▸ comma 4 ▸ item Atom.ident 5 ▸ end)))))) ▸ end;
+      takes = 60;
+    } ∷
+    -- "`a-b` has a plain sign, `-b` a signed node"
+    record {
+      text = "a-b";
+      list = lexeme 0 1 Ident ∷ lexeme 1 1 Sign ∷ lexeme 2 1 Ident ∷ [];
+      tree = item Atom.ident 0 ▸ item Atom.sign 1 ▸ item Atom.ident 2 ▸ end;
+      takes = 10;
+    } ∷
+    record {
+      text = "-b";
+      list = lexeme 0 1 Sign ∷ lexeme 1 1 Ident ∷ [];
+      tree = one (Head.prefix Prefix.signed (at 0 1)) (item Atom.ident 1) ▸ end;
+      takes = 3;
+    } ∷
+    []
+
+pub misreadings : map read misread ≡ map said misread
+unfolding read said misread rows longest.begins longest.longestOf longest.longestAt rules.run rules.runEnd rules.blank rules.digit rules.letter rules.other rules.blanksAt rules.closer rules.literalAt rules.commandAt rules.same rules.isTextCommand rules.spellingAt rules.numberEnd rules.pastPoint rules.numberAt rules.quotationAt rules.byteAt rules.readAt rules.tokensFrom rules.tokensBy is stops any marksScript heads begins same entries closeAfter hasSep slot return _>>=_ if_then_else_ here prefixes textOf isByte sameText isAt closeOf isBar closes couldBeMatrix advance failed giveUp attempt isBarSymbol isUnscripted isColumnLine lineCells bothLines lineCols keptCols columnLines keepCells joinRows rowBrackets alike splitColumnLines argument nextScript nextScriptFunc nextIntermediate spaced atOpenClose intermediates rowCells nextMatrixRow moreRows nextMatrixRows makesMatrix matrixBody tryMatrix nextOpenGroup barBody nextOpenCloseGroup nextBracket begun nextSimple step level lastOf parse parseEntries readingBy endsOperand atomEnds look
+misreadings = refl

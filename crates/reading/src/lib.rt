@@ -1,1 +1,1 @@
-// The definition of the reading, the grammar, and the theorems about them: specs/ and proofs/. There is no code here.
+// The definition of the reading, and the starred strings read by it: specs/ and proofs/. There is no code here.

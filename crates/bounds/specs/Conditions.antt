@@ -10,8 +10,8 @@ use Rattle.tree.specs.Tree.{count}
 use Rattle.tree.specs.Words.{encodeItems}
 use Rattle.tree.specs.Decode.{decode}
 use Rattle.tree.specs.WellFormed.{WellFormed}
 use Rattle.reading.specs.Reading.{readTokens, readPlain}
-use Rattle.reading.specs.Peak.{peakOf}
+use Rattle.bounds.specs.Peak.{peakOf}
 
 pub record Bounds (text : List ℕ) (ts : List Lexeme) : Type 0 where
   -- "the whole reading of condition 2 takes tokens at most 32 × (n + 1) × (n + 1) times, takes given back included"

@@ -10,21 +10,21 @@ use Rattle.tokens.specs.declared.token.Token.{Token}
 use Rattle.tokens.specs.declared.token.Token.the-variants as token
 use Rattle.tokens.specs.Lexeme.{Span, Lexeme}
 use Rattle.tree.specs.Tree.{nowhere, Script, Head, Atom, Prefix, Node, node, Nodes, end, _▸_, leaf, one}
 use Rattle.reading.specs.Stop.{Stop}
 use Rattle.reading.specs.Entries.{Entry, is, entries}
-use Rattle.reading.specs.Grammar.{Constant, tok, S, const, bracketed, unary, binary, I, bare, sub, super, subsuper}
-use Rattle.reading.specs.Grammar.{E, more, fraction, alone, treeS, treeI, treeE, others, Short, Settled}
-use Rattle.reading.specs.Strip.{isSpace, strip}
+use Rattle.grammar.specs.Grammar.{Constant, tok, S, const, bracketed, unary, binary, I, bare, sub, super, subsuper}
+use Rattle.grammar.specs.Grammar.{E, more, fraction, alone, treeS, treeI, treeE, others, Short, Settled}
+use Rattle.grammar.specs.Strip.{isSpace, strip}
 use Rattle.reading.specs.Reading.{State, M, Readers, marksScript, heads, begins, prefixes, isAt, advance, argument}
 use Rattle.reading.specs.Reading.{nextScript, nextScriptFunc, nextIntermediate, atOpenClose, intermediates, tryMatrix}
 use Rattle.reading.specs.Reading.{nextOpenGroup, nextBracket, begun, nextSimple, step, level, lastOf, parse}
 use Rattle.reading.specs.Reading.{parseEntries, readingBy, readTokens}
-use Rattle.reading.proofs.Derived.{lexemeOf, entryOf, entries-others, Tok, Stand, tok-inside, stand-head, stand-end}
-use Rattle.reading.proofs.Derived.{stand-cut, stand-up, stand-all, Plain, bearing, plain-as, constant-plain, open-plain}
-use Rattle.reading.proofs.Derived.{close-plain, unary-plain, binary-plain, First, S-first, I-first, E-first, NoSep}
-use Rattle.reading.proofs.Derived.{E-sep, gate-shut}
-use Rattle.reading.proofs.Steps.{Comes, Is, Marks, comes, strip-one, strip-two, strip-spaced, From, answer, give}
-use Rattle.reading.proofs.Steps.{to, on-true, on-false, call, given, call-node, at-here}
+use Rattle.grammar.proofs.Derived.{lexemeOf, entryOf, entries-others, Tok, Stand, tok-inside, stand-head, stand-end}
+use Rattle.grammar.proofs.Derived.{stand-cut, stand-up, stand-all, Plain, bearing, plain-as, constant-plain, open-plain}
+use Rattle.grammar.proofs.Derived.{close-plain, unary-plain, binary-plain, First, S-first, I-first, E-first, NoSep}
+use Rattle.grammar.proofs.Derived.{E-sep, gate-shut}
+use Rattle.grammar.proofs.Steps.{Comes, Is, Marks, comes, strip-one, strip-two, strip-spaced, From, answer, give}
+use Rattle.grammar.proofs.Steps.{to, on-true, on-false, call, given, call-node, at-here}
 
 past-end : (es : List Entry) → getElem? es (length es) ≡ none
 past-end [] = refl

@@ -11,11 +11,11 @@ use Rattle.tokens.specs.declared.token.Token.{Token}
 use Rattle.tokens.specs.declared.token.Token.the-variants as token
 use Rattle.tokens.specs.Lexeme.{Span, Lexeme}
 use Rattle.tree.specs.Tree.{nowhere, Atom}
 use Rattle.reading.specs.Stop.{Stop}
 use Rattle.reading.specs.Entries.{Entry, is, entries, hasSep}
-use Rattle.reading.specs.Grammar.{Constant, tok, ofKind, others, S, const, bracketed, unary, binary}
-use Rattle.reading.specs.Grammar.{I, bare, sub, super, subsuper, E, more, fraction, alone}
+use Rattle.grammar.specs.Grammar.{Constant, tok, ofKind, others, S, const, bracketed, unary, binary}
+use Rattle.grammar.specs.Grammar.{I, bare, sub, super, subsuper, E, more, fraction, alone}
 use Rattle.reading.specs.Reading.{stops, marksScript, heads, begins, isAt, closeOf, closes, couldBeMatrix}
 
 -- From lists to positions.
 abbrev pub lexemeOf : Entry → Lexeme

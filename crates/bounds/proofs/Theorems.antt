@@ -16,13 +16,13 @@ use Rattle.tokenizer.specs.Rules.{tokens}
 use Rattle.tokens.specs.Table.{tokenList, countOthers}
 use Rattle.tokens.specs.Refusals.{AcceptedText, AcceptedList}
 use Rattle.tree.specs.Tree.{nowhere}
 use Rattle.reading.specs.Entries.{entries}
 use Rattle.reading.specs.Reading.{readTokens, readingBy}
-use Rattle.reading.specs.Conditions.{Bounds}
-use Rattle.reading.proofs.Takes.{takes-bound}
-use Rattle.reading.proofs.Memory.{same-tree}
-use Rattle.reading.proofs.Room as room
-use Rattle.reading.proofs.WellFormed.{well-formed, decoded}
+use Rattle.bounds.specs.Conditions.{Bounds}
+use Rattle.bounds.proofs.Takes.{takes-bound}
+use Rattle.bounds.proofs.Memory.{same-tree}
+use Rattle.bounds.proofs.Room as room
+use Rattle.bounds.proofs.WellFormed.{well-formed, decoded}
 
 -- the entries are the tokens other than Space
 pub entries-count : (space : Span) (ts : List Lexeme) → length (entries space ts) ≡ countOthers ts

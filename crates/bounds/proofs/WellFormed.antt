@@ -17,10 +17,10 @@ use Rattle.tree.specs.Words.{encodeItems}
 use Rattle.tree.specs.Decode.{decode}
 use Rattle.tree.specs.WellFormed.{Lines, Simple, Cells, Arguments, ScriptFunc, Intermediate, Expression, Behind, WellFormed}
 use Rattle.tree.proofs.Decode.{decode-encode}
-use Rattle.reading.proofs.Columns.{rowsOf, maskOf, both-length, cells-length, split-either}
+use Rattle.bounds.proofs.Columns.{rowsOf, maskOf, both-length, cells-length, split-either}
 use Rattle.reading.specs.Stop.{Stop}
 use Rattle.reading.specs.Entries.{Entry, entries}
 use Rattle.reading.specs.Reading.{State, M, return, _>>=_, Mark, openMark, matrixMark, Try, made, lost, nought, Readers, isAt, giveUp, attempt, argument, nextScript, nextScriptFunc, nextIntermediate, intermediates, Row, Rows, nextMatrixRow, rowCells, moreRows, nextMatrixRows, matrixBody, tryMatrix, nextOpenGroup, barBody, nextOpenCloseGroup, nextBracket, begun, nextSimple, step, level, parse, parseEntries, lastOf, unscripted, alike, splitColumnLines, lineCells, prefixes, spaced, if_then_else_, makesMatrix, joinRows, keepCells, keptCols, columnLines, lineCols, closes, isByte, sameText, readingBy, readTokens}
 
 both : (x y : Bool) → x && y ≡ true → (x ≡ true) × (y ≡ true)
 both true y e = (refl, e)

@@ -9,11 +9,11 @@ use native.Mathlib.Omega.{arith}
 use lib.ListN.{length, getElem?}
 use Rattle.tokens.specs.declared.token.Token.the-variants as token
 use Rattle.tree.specs.Tree.{nowhere, Head, Node, node, Nodes, end, _▸_, _⧺_}
 use Rattle.reading.specs.Stop.{Stop}
 use Rattle.reading.specs.Entries.{Entry, is}
 use Rattle.reading.specs.Reading.{State, M, return, _>>=_, here, if_then_else_, Readers, Row, any, advance, atOpenClose, isAt, alike, nextIntermediate, intermediates, nextExpression, rowCells, nextMatrixRow, moreRows, prefixes, spaced, level, parse, lastOf, unscripted}
-use Rattle.reading.specs.Peak.{CountedReaders, level-counted}
-use Rattle.reading.proofs.Room.{Fits, Room, opt, level-room, advance-fits, nextIntermediate-fits, intermediates-fits, nextMatrixRow-fits}
+use Rattle.bounds.specs.Peak.{CountedReaders, level-counted}
+use Rattle.bounds.proofs.Room.{Fits, Room, opt, level-room, advance-fits, nextIntermediate-fits, intermediates-fits, nextMatrixRow-fits}
 
 same-bind : {A B : Type 0} (m n : M A) (f : A → M B) (s : State) → m s ≡ n s → (m >>= f) s ≡ (n >>= f) s
 unfolding _>>=_

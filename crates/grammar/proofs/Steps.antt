@@ -4,9 +4,9 @@ use mathlib.Core.Path.{_≡_, refl, sym, ap, _∙_, subst}
 use mathlib.Core.Bool.{Bool, true, false}
 use mathlib.Core.Option.{Option, none, some}
 use Rattle.tree.specs.Tree.{Script, Head, Atom, Node, node, Nodes, end, _▸_, leaf}
 use Rattle.reading.specs.Entries.{Entry}
-use Rattle.reading.specs.Strip.{isSpace, strip}
+use Rattle.grammar.specs.Strip.{isSpace, strip}
 use Rattle.reading.specs.Reading.{State, M, return, _>>=_, here, if_then_else_, Scripted, spaced}
 
 -- The node n without its Space items is a, which is none itself.
 pub record Comes (a n : Node) : Type 0 where

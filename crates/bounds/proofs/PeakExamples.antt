@@ -10,9 +10,9 @@ use Rattle.tokenizer.specs.Longest as longest
 use Rattle.tokenizer.specs.Rules as rules
 use Rattle.tokenizer.specs.Rules.{tokens}
 use Rattle.tree.specs.Words.{encode}
 use Rattle.reading.specs.Entries.{is, entries, closeAfter, hasSep}
 use Rattle.reading.specs.Reading.{stops, any, marksScript, heads, begins, same, slot, return, _>>=_, if_then_else_, here, prefixes, textOf, isByte, sameText, isAt, closeOf, isBar, closes, couldBeMatrix, advance, failed, giveUp, attempt, isBarSymbol, isUnscripted, isColumnLine, lineCells, bothLines, lineCols, keptCols, columnLines, keepCells, joinRows, rowBrackets, alike, splitColumnLines, argument, nextScript, nextScriptFunc, nextIntermediate, spaced, atOpenClose, intermediates, rowCells, nextMatrixRow, moreRows, nextMatrixRows, makesMatrix, matrixBody, tryMatrix, nextOpenGroup, barBody, nextOpenCloseGroup, nextBracket, begun, nextSimple, step, level, lastOf, parse, endsOperand, atomEnds, look}
-use Rattle.reading.specs.Peak.{peak, attempt-counted, argument-counted, nextScript-counted, nextScriptFunc-counted, nextIntermediate-counted, intermediates-counted, rowCells-counted, nextMatrixRow-counted, moreRows-counted, nextMatrixRows-counted, matrixBody-counted, tryMatrix-counted, nextOpenGroup-counted, barBody-counted, nextOpenCloseGroup-counted, nextBracket-counted, begun-counted, nextSimple-counted, step-counted, level-counted, parse-counted, peakOf}
+use Rattle.bounds.specs.Peak.{peak, attempt-counted, argument-counted, nextScript-counted, nextScriptFunc-counted, nextIntermediate-counted, intermediates-counted, rowCells-counted, nextMatrixRow-counted, moreRows-counted, nextMatrixRows-counted, matrixBody-counted, tryMatrix-counted, nextOpenGroup-counted, barBody-counted, nextOpenCloseGroup-counted, nextBracket-counted, begun-counted, nextSimple-counted, step-counted, level-counted, parse-counted, peakOf}
 
 pub record Case : Type 0 where
   pub text : String

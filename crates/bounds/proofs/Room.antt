@@ -15,12 +15,12 @@ use Rattle.tokens.specs.Lexeme.{Span, Lexeme}
 use Rattle.tree.specs.Tree.{nowhere, Head, Atom, Node, node, Nodes, end, _▸_, _⧺_, count, leaf}
 use Rattle.tree.specs.Words.{encode, encodeItems}
 use Rattle.tree.proofs.Size.{size, sizes, sizeItem, sizeItems, sizes-join, sizeItems-join, item-within, length-encode, length-encodes, length-encodeItem, length-encodeItems}
-use Rattle.reading.proofs.Columns.{rowsOf, maskOf, both-length, cells-length, split-either}
-use Rattle.reading.proofs.Takes.{entry-inside}
+use Rattle.bounds.proofs.Columns.{rowsOf, maskOf, both-length, cells-length, split-either}
+use Rattle.bounds.proofs.Takes.{entry-inside}
 use Rattle.reading.specs.Stop.{Stop}
 use Rattle.reading.specs.Entries.{Entry, is, entries}
 use Rattle.reading.specs.Reading.{State, M, return, _>>=_, here, Mark, openMark, matrixMark, slot, Try, made, lost, nought, Readers, advance, failed, giveUp, attempt, argument, nextScript, nextScriptFunc, nextIntermediate, intermediates, Row, Rows, nextMatrixRow, rowCells, moreRows, nextMatrixRows, matrixBody, tryMatrix, nextOpenGroup, barBody, nextOpenCloseGroup, nextBracket, begun, nextSimple, step, level, parse, parseEntries, lastOf, splitColumnLines, prefixes, spaced, any, marksScript, heads, begins, if_then_else_, joinRows, keepCells, columnLines, lineCells, lineCols, unscripted, readingBy, readTokens}
-use Rattle.reading.specs.Peak.{words, itemsWords, rowsWords, perhaps, tryWords, spaceWords, Counted, more, ran, either, answer, place, take, known, back, peak, attempt-counted, CountedReaders, argument-counted, nextScript-counted, nextScriptFunc-counted, nextIntermediate-counted, intermediates-counted, rowCells-counted, nextMatrixRow-counted, moreRows-counted, nextMatrixRows-counted, matrixBody-counted, tryMatrix-counted, nextOpenGroup-counted, barBody-counted, nextOpenCloseGroup-counted, nextBracket-counted, begun-counted, nextSimple-counted, step-counted, level-counted, parse-counted, peakOf}
+use Rattle.bounds.specs.Peak.{words, itemsWords, rowsWords, perhaps, tryWords, spaceWords, Counted, more, ran, either, answer, place, take, known, back, peak, attempt-counted, CountedReaders, argument-counted, nextScript-counted, nextScriptFunc-counted, nextIntermediate-counted, intermediates-counted, rowCells-counted, nextMatrixRow-counted, moreRows-counted, nextMatrixRows-counted, matrixBody-counted, tryMatrix-counted, nextOpenGroup-counted, barBody-counted, nextOpenCloseGroup-counted, nextBracket-counted, begun-counted, nextSimple-counted, step-counted, level-counted, parse-counted, peakOf}
 
 ruleset lengths = (length-encode, length-encodes, length-encodeItem, length-encodeItems)
 

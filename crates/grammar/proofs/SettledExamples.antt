@@ -13,11 +13,11 @@ use Rattle.tokenizer.specs.Spellings.{rows}
 use Rattle.tokenizer.specs.Rules.{run, runEnd, blank, digit, letter, blanksAt, same, isTextCommand, spellingAt, numberEnd}
 use Rattle.tokenizer.specs.Rules.{pastPoint, numberAt, quotationAt, byteAt, readAt, tokensFrom, tokensBy, tokens}
 use Rattle.tree.specs.Tree.{Script, Head, Atom, Prefix, Node, node, end, _▸_, leaf, one}
-use Rattle.reading.specs.Grammar.{Constant, const, bracketed, unary, binary, bare, subsuper, more, fraction, alone}
-use Rattle.reading.specs.Grammar.{E, treeS, treeE, ofKind, others, apart, Settled}
-use Rattle.reading.specs.Strip.{strip}
+use Rattle.grammar.specs.Grammar.{Constant, const, bracketed, unary, binary, bare, subsuper, more, fraction, alone}
+use Rattle.grammar.specs.Grammar.{E, treeS, treeE, ofKind, others, apart, Settled}
+use Rattle.grammar.specs.Strip.{strip}
 use Rattle.reading.specs.Reading.{readText, unscripted}
-use Rattle.reading.proofs.Settled.{settled-tree, settled}
+use Rattle.grammar.proofs.Settled.{settled-tree, settled}
 
 abbrev at : ℕ → ℕ → Span
 at start len = record { start = start; len = len }

@@ -1,0 +1,4 @@
+pub mod Derived
+pub mod Steps
+pub mod Settled
+pub mod SettledExamples
