@@ -13,7 +13,7 @@ work=$(mktemp -d)
 trap 'rm -rf "$work"' EXIT
 "$root/tools/oracle/build.sh" "$1" "$work"
 
-corpus() { python3 "$root/tools/corpus.py" "$root/crates/tokenizer/specs/Spellings.antt" --seed 1 "$@"; }
+corpus() { python3 "$root/tools/corpus.py" "$root/crates/lexing/specs/Spellings.antt" --seed 1 "$@"; }
 # sample FIRST STEP: the first lines, and of the rest each STEP-th
 sample() { awk -v first="$1" -v step="$2" 'NR <= first || (NR - first) % step == 0'; }
 {

@@ -13,7 +13,7 @@ work=$(mktemp -d)
 trap 'rm -rf "$work"' EXIT
 "$root/tools/oracle/build.sh" "$1" "$work"
 
-corpus() { python3 "$root/tools/corpus.py" "$root/crates/tokenizer/specs/Spellings.antt" --seed 2 "$@"; }
+corpus() { python3 "$root/tools/corpus.py" "$root/crates/lexing/specs/Spellings.antt" --seed 2 "$@"; }
 # each STEP: of the lines each STEP-th
 each() { awk -v step="$1" 'NR % step == 1 % step'; }
 hex() { python3 -c 'import sys; print(eval(sys.argv[1]).encode().hex())' "$1"; }

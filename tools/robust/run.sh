@@ -16,7 +16,7 @@ out=$(mktemp -d)
 trap 'rm -rf "$out"' EXIT
 gcc -std=c11 -O2 -g -Wall -Wextra "$here/robust.c" "$library" -pthread -o "$out/robust"
 
-corpus() { python3 "$root/tools/corpus.py" "$root/crates/tokenizer/specs/Spellings.antt" "$@"; }
+corpus() { python3 "$root/tools/corpus.py" "$root/crates/lexing/specs/Spellings.antt" "$@"; }
 # part N: each N-th line
 part() { awk -v n="$1" 'NR % n == 0'; }
 {

@@ -5,10 +5,10 @@ use Prim.Native.String.{String}
 use mathlib.Core.Path.{_≡_, refl}
 use mathlib.Core.List.{List, [], _∷_, map}
 use Rattle.tokens.specs.Bytes.{bytes}
-use Rattle.tokenizer.specs.Spellings.{rows}
-use Rattle.tokenizer.specs.Longest as longest
-use Rattle.tokenizer.specs.Rules as rules
-use Rattle.tokenizer.specs.Rules.{tokens}
+use Rattle.lexing.specs.Spellings.{rows}
+use Rattle.lexing.specs.Longest as longest
+use Rattle.lexing.specs.Rules as rules
+use Rattle.lexing.specs.Rules.{tokens}
 use Rattle.tree.specs.Words.{encode}
 use Rattle.reading.specs.Entries.{is, entries, closeAfter, hasSep}
 use Rattle.reading.specs.Reading.{stops, any, marksScript, heads, begins, same, slot, return, _>>=_, if_then_else_, here, prefixes, textOf, isByte, sameText, isAt, closeOf, isBar, closes, couldBeMatrix, advance, failed, giveUp, attempt, isBarSymbol, isUnscripted, isColumnLine, lineCells, bothLines, lineCols, keptCols, columnLines, keepCells, joinRows, rowBrackets, alike, splitColumnLines, argument, nextScript, nextScriptFunc, nextIntermediate, spaced, atOpenClose, intermediates, rowCells, nextMatrixRow, moreRows, nextMatrixRows, makesMatrix, matrixBody, tryMatrix, nextOpenGroup, barBody, nextOpenCloseGroup, nextBracket, begun, nextSimple, step, level, lastOf, parse, endsOperand, atomEnds, look}

@@ -12,7 +12,7 @@ use lib.ListN.{length}
 use Rattle.tokens.specs.declared.token.Token.the-variants as token
 use Rattle.tokens.specs.Kinds.{numberOf}
 use Rattle.tokens.specs.Lexeme.{Span, Lexeme}
-use Rattle.tokenizer.specs.Rules.{tokens}
+use Rattle.lexing.specs.Rules.{tokens}
 use Rattle.tokens.specs.Table.{tokenList, countOthers}
 use Rattle.tokens.specs.Refusals.{AcceptedText, AcceptedList}
 use Rattle.tree.specs.Tree.{nowhere}

@@ -11,18 +11,18 @@ use borrow.Author.Tests.{lt-ltb, le-ltb, le-leb, lt-leb, ne-eqb}
 use Rattle.tokenizer.specs.declared.TokenizedUnder.{TokenizedUnder}
 use Rattle.tokenizer.specs.declared.TokenizedUnder.the-variants as under
 use Rattle.tokens.specs.Lexeme.{Lexeme}
-use Rattle.tokenizer.specs.Rules.{tokens}
+use Rattle.lexing.specs.Rules.{tokens}
 use Rattle.tokens.specs.Table.{tableWords, tokenList, countOthers}
 use Rattle.tokens.specs.Refusals.{Answer, accepted, refused, textRefusal, listRefusal}
 use Rattle.tokenizer.specs.Call as call
 use Rattle.tokens.proofs.Cases.{by-lt, by-option}
 use Rattle.tokens.proofs.TokenList.{others-few}
-use Rattle.tokenizer.proofs.Theorems.{never-outnumber, list-of-words, accepted-list}
+use Rattle.lexing.proofs.Theorems.{never-outnumber, list-of-words, accepted-list}
 use Rattle.tree.specs.Tree.{Nodes, end, _▸_, count}
 use Rattle.reading.specs.Reading.{readingBy, blank}
-use Rattle.tokens.specs.declared.Checked.{Checked}
-use Rattle.tokens.specs.declared.Checked.the-variants as list
-use Rattle.tokens.specs.Checks.{answer, checked}
+use Rattle.refusals.specs.declared.list.Checked.{Checked}
+use Rattle.refusals.specs.declared.list.Checked.the-variants as list
+use Rattle.refusals.specs.Checks.{answer, checked}
 use Rattle.tokens.proofs.Accepted as lists
 use Rattle.tokens.proofs.Accepted.{met}
 use Rattle.entries.specs.declared.Prepared.{Prepared}

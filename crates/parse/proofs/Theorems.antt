@@ -5,7 +5,7 @@ use mathlib.Core.Path.{_≡_, sym, ap, _∙_}
 use mathlib.Core.List.{List, [], _∷_}
 use lib.ListN.{length}
 use Rattle.tokens.specs.Lexeme.{Lexeme}
-use Rattle.tokenizer.specs.Rules.{tokens}
+use Rattle.lexing.specs.Rules.{tokens}
 use Rattle.tokens.specs.Table.{tokenList}
 use Rattle.tokens.specs.Refusals.{Answer, accepted, refused}
 use Rattle.tokens.proofs.Cases.{by-option}

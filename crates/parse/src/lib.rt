@@ -9,10 +9,10 @@ mod write;
 
 use entries::Prepared;
 use entries::prepare;
+use refusals::list::Checked;
+use refusals::list::check_list;
 use tokenizer::TokenizedUnder;
 use tokenizer::tokenize_under;
-use tokens::Checked;
-use tokens::check_list;
 use top::parse_entries;
 ghost use mathlib.Core.Path.{_≡_};
 ghost use mathlib.Core.Option.{none};

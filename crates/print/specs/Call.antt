@@ -4,7 +4,7 @@ use mathlib.Core.List.{List, [], _∷_, _++_}
 use Prim.Native.Nat.{ℕ}
 use lib.Dec.{ltb}
 use lib.ListN.{length, drop}
-use Rattle.tokenizer.specs.Rules.{tokens}
+use Rattle.lexing.specs.Rules.{tokens}
 use Rattle.tokens.specs.Refusals.{Answer, accepted, refused}
 use Rattle.reading.specs.Reading.{readText, blank}
 use Rattle.parse.specs.Entry.{bit}

@@ -11,8 +11,8 @@ use lib.Seq.{take-at, take-suc-set}
 use borrow.Author.Tests.{lt-ltb, le-ltb}
 use Rattle.tokens.specs.Bytes.{bytes}
 use Rattle.tokens.specs.Refusals.{Answer, accepted, refused, ascii, textRefusal}
-use Rattle.tokenizer.specs.Rules.{tokens}
-use Rattle.tokenizer.proofs.Theorems.{never-outnumber}
+use Rattle.lexing.specs.Rules.{tokens}
+use Rattle.lexing.proofs.Theorems.{never-outnumber}
 use Rattle.tokens.proofs.Cases.{by-lt, by-option, by-test}
 use Rattle.parse.specs.Call.{parseRefusal}
 use Rattle.parse.proofs.Calls.{text-refused, table-long, room-enough, others-within}

@@ -9,10 +9,10 @@ use Rattle.tokens.specs.declared.token.SymbolClass.the-variants as class
 use Rattle.tokens.specs.declared.token.Token.the-variants.{Super, Sep, Sign, Number, Text, Ident, Operator, Symbol, Unary, OpenBracket, CloseBracket, OpenCloseBracket}
 use Rattle.tokens.specs.Bytes.{bytes}
 use Rattle.tokens.specs.Lexeme.{Span, Lexeme, lexeme}
-use Rattle.tokenizer.specs.Spellings.{rows}
-use Rattle.tokenizer.specs.Longest as longest
-use Rattle.tokenizer.specs.Rules as rules
-use Rattle.tokenizer.specs.Rules.{tokens}
+use Rattle.lexing.specs.Spellings.{rows}
+use Rattle.lexing.specs.Longest as longest
+use Rattle.lexing.specs.Rules as rules
+use Rattle.lexing.specs.Rules.{tokens}
 use Rattle.tree.specs.Tree.{nowhere, Script, Head, Atom, Prefix, Node, node, Nodes, end, _▸_, leaf, one}
 use Rattle.reading.specs.Entries.{is, entries, closeAfter, hasSep}
 use Rattle.reading.specs.Reading.{Reading, unscripted, readText, stops, any, marksScript, heads, begins, same, slot, return, _>>=_, if_then_else_, here, prefixes, textOf, isByte, sameText, isAt, closeOf, isBar, closes, couldBeMatrix, advance, failed, giveUp, attempt, isBarSymbol, isUnscripted, isColumnLine, lineCells, bothLines, lineCols, keptCols, columnLines, keepCells, joinRows, rowBrackets, alike, splitColumnLines, argument, nextScript, nextScriptFunc, nextIntermediate, spaced, atOpenClose, intermediates, rowCells, nextMatrixRow, moreRows, nextMatrixRows, makesMatrix, matrixBody, tryMatrix, nextOpenGroup, barBody, nextOpenCloseGroup, nextBracket, begun, nextSimple, step, level, lastOf, parse, parseEntries, readingBy, endsOperand, atomEnds, look}

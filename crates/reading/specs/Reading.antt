@@ -9,7 +9,7 @@ use Rattle.tokens.specs.declared.token.SymbolClass.the-variants as class
 use Rattle.tokens.specs.declared.token.Token.{Token}
 use Rattle.tokens.specs.declared.token.Token.the-variants as token
 use Rattle.tokens.specs.Lexeme.{Span, Lexeme}
-use Rattle.tokenizer.specs.Rules.{tokens}
+use Rattle.lexing.specs.Rules.{tokens}
 use Rattle.tree.specs.Tree.{nowhere, Script, Head, Atom, Prefix, Node, node, Nodes, end, _▸_, _⧺_, count, leaf, one}
 use Rattle.reading.specs.Stop.{Stop}
 use Rattle.reading.specs.Entries.{Entry, is, entries, closeAfter, hasSep}

@@ -7,37 +7,19 @@ use Prim.Native.Nat.{ℕ, _-_, _≤_, _<_}
 use native.Mathlib.Omega.{arith}
 use lib.ListN.{length, drop}
 use borrow.Author.Tests.{lt-ltb, le-ltb}
-use Rattle.tokenizer.specs.declared.lex.Checked.{Checked}
-use Rattle.tokenizer.specs.declared.lex.Checked.the-variants as checked
-use Rattle.tokenizer.specs.declared.lex.Lexing.the-variants.{Tokens, Nothing}
-use Rattle.tokenizer.specs.declared.lex.Spanned.{Spanned}
-use Rattle.tokenizer.specs.declared.lex.Queue.{Queue}
+use Rattle.lexer.specs.declared.lex.Lexing.the-variants.{Tokens, Nothing}
+use Rattle.lexer.specs.declared.lex.Spanned.{Spanned}
+use Rattle.lexer.specs.declared.lex.Queue.{Queue}
 use Rattle.tokens.specs.Kinds.{numberOf}
 use Rattle.tokens.specs.Lexeme.{Lexeme}
-use Rattle.tokenizer.specs.Rules.{byteAt, readAt}
+use Rattle.lexing.specs.Rules.{byteAt, readAt}
 use Rattle.tokens.specs.Refusals.{textRefusal}
-use Rattle.tokenizer.specs.Lex.{checkOf, checkedText, spannedOf, queueOf, lexing, lexedAt}
+use Rattle.lexer.specs.Lex.{spannedOf, queueOf, lexing, lexedAt}
 use Rattle.tokens.proofs.Cases.{by-test, by-lt, by-option, clash}
-use Rattle.tokenizer.proofs.Lexing.{read-inside, lex-past}
+use Rattle.lexer.proofs.Lexing.{read-inside, lex-past}
 use Rattle.stepper.specs.declared.Tokenizer.{Tokenizer}
 use Rattle.stepper.specs.Step.{StepAnswer, token, end, refused, tokenAnswer, lexemeOf, waiting, state, fits, stepRefusal, stepped}
 use Rattle.stepper.proofs.Queues.{first-of, place-passes, too-many}
-
--- the check of the text
-module _ (text : List ℕ) (r : Checked) (e : checkOf r ≡ checkedText text) where
-  pub text-refused : (k : ℕ) → r ≡ checked.Refused k → textRefusal text ≡ some k
-  unfolding checkedText
-  text-refused k f =
-      let g = rw f at e in
-      by-option (textRefusal text) (λ p. let h = rw (p, checkedText) at g in let z : _≡_ {A = ℕ} 0 1 = cc in absurd (omega arith))
-      (λ j p. let h = rw (p, checkedText) at g in cc)
-
-  pub text-accepted : r ≡ checked.Accepted → textRefusal text ≡ none
-  unfolding checkedText
-  text-accepted f =
-      let g = rw f at e in
-      by-option (textRefusal text) (λ p. p)
-      (λ j p. let h = rw (p, checkedText) at g in let z : _≡_ {A = ℕ} 0 1 = cc in absurd (omega arith))
 
 module _ (text : List ℕ) (s : Tokenizer) where
   abbrev Steps : StepAnswer → Tokenizer → Type 0

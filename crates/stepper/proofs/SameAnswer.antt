@@ -5,7 +5,7 @@ use Prim.Native.Nat.{ℕ}
 use native.Mathlib.Omega.{arith}
 use lib.ListN.{length}
 use Rattle.tokens.specs.Lexeme.{Lexeme}
-use Rattle.tokenizer.specs.Rules.{byteAt, readAt}
+use Rattle.lexing.specs.Rules.{byteAt, readAt}
 use Rattle.tokens.specs.Refusals.{textRefusal}
 use Rattle.tokens.proofs.Cases.{by-test, by-lt, by-option}
 use Rattle.stepper.specs.declared.Tokenizer.{Tokenizer}

@@ -9,12 +9,12 @@ use lib.Dec.{leb}
 use lib.ListN.{length}
 use borrow.Author.Tests.{le-leb}
 use Rattle.tokens.specs.Lexeme.{Lexeme}
-use Rattle.tokenizer.specs.Rules.{byteAt, readAt, tokensFrom}
+use Rattle.lexing.specs.Rules.{byteAt, readAt, tokensFrom}
 use Rattle.tokens.specs.Refusals.{textRefusal}
-use Rattle.tokenizer.specs.Lex.{queueOf}
+use Rattle.lexer.specs.Lex.{queueOf}
 use Rattle.tokens.proofs.Cases.{by-test, by-lt, clash}
-use Rattle.tokenizer.proofs.Moves.{Between, read-moves, byteAt-sound}
-use Rattle.tokenizer.proofs.Tokens.{between-le, tokens-step, tokens-end}
+use Rattle.lexing.proofs.Moves.{Between, read-moves, byteAt-sound}
+use Rattle.lexing.proofs.Tokens.{between-le, tokens-step, tokens-end}
 use Rattle.stepper.specs.declared.Tokenizer.{Tokenizer}
 use Rattle.stepper.specs.Step.{StepAnswer, end, tokenAnswer, waiting, state, inside, stepRefusal, stepped, answers, after, thenEnd}
 use Rattle.stepper.proofs.Queues.{few}

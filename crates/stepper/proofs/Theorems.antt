@@ -5,7 +5,7 @@ use mathlib.Core.Option.{none}
 use Prim.Native.Nat.{ℕ}
 use native.Mathlib.Omega.{arith}
 use lib.ListN.{length}
-use Rattle.tokenizer.specs.Rules.{tokensBy, tokens}
+use Rattle.lexing.specs.Rules.{tokensBy, tokens}
 use Rattle.tokens.specs.Refusals.{AcceptedText}
 use Rattle.stepper.specs.declared.Tokenizer.{Tokenizer}
 use Rattle.stepper.specs.Step.{StepAnswer, token, end, refused, waiting, fresh, stepRefusal, stepped, answers, after, thenEnd}

@@ -1,105 +1,135 @@
--- The calls on a text: the tests in the order of the refusals, and what the list of all its reads gives.
+-- The calls on a text: the tests in the order of the refusals, and what the list of all its tokens gives.
 use mathlib.Core.Path.{_≡_, sym, ap, _∙_}
 use mathlib.Core.Bool.{true, false}
 use mathlib.Core.List.{List, [], _∷_, _++_}
 use mathlib.Core.Option.{none, some}
-use Prim.Native.Nat.{ℕ, _+_, _*_, _≤_, _<_}
+use Prim.Native.Nat.{ℕ, _+_, _*_, _/_, _≤_, _<_}
 use native.Mathlib.Omega.{arith}
 use lib.ListN.{length, take, drop}
 use lib.Seq.{paste, take-at}
 use borrow.Author.Tests.{lt-ltb, le-ltb, lt-leb, le-leb}
-use Rattle.tokenizer.specs.declared.table.Listed.{Listed}
-use Rattle.tokenizer.specs.declared.TokenizedUnder.{TokenizedUnder}
-use Rattle.tokens.specs.Lexeme.{Lexeme}
 use Rattle.tokens.specs.Table.{tableWords, countOthers}
-use Rattle.tokens.specs.Refusals.{Answer, accepted, refused, ascii, textRefusal}
-use Rattle.tokenizer.specs.Rules.{tokens}
-use Rattle.tokenizer.specs.Coded.{readsTo, withWords, listed, Added}
-use Rattle.tokenizer.specs.Call.{tokenized, tokenizedUnder, counted}
+use Rattle.tokens.specs.Refusals.{Answer, accepted, refused, textRefusal}
 use Rattle.tokens.proofs.Cases.{by-lt, by-option}
-use Rattle.tokenizer.proofs.Moves.{byteAt-sound}
-use Rattle.tokenizer.proofs.Tokens.{count-bound}
-use Rattle.tokenizer.proofs.Accepted.{text-short}
-use Rattle.tokenizer.proofs.Adding.{words-length, others-few}
-use Rattle.tokenizer.proofs.Stops.{whole}
+use Rattle.tokens.proofs.Order.{text-short}
+use Rattle.tokens.proofs.TokenList.{words-length, others-bound}
+use Rattle.lexing.specs.Rules.{tokens}
+use Rattle.lexing.proofs.Theorems.{never-outnumber}
+use Rattle.lexer.specs.declared.Listing.{Listing}
+use Rattle.lexer.specs.declared.Listing.the-variants.{Tokens, Refused}
+use Rattle.lexer.specs.Listing.{listInto, listedText}
+use Rattle.lexer.proofs.Into.{into-whole}
+use Rattle.tokenizer.specs.declared.TokenizedUnder.{TokenizedUnder}
+use Rattle.tokenizer.specs.Call.{tokenized, tokenizedUnder, counted}
+use Rattle.tokenizer.specs.Waiting.{allListed, Waiting}
 use Rattle.tokenizer.specs.declared.TokenizedUnder.the-variants as under
 
--- the tests of a text
-module _ (text : List ℕ) where
-  pub text-long : 4096 < length text → textRefusal text ≡ some 1
-  unfolding textRefusal
-  text-long h = rw (lt-ltb 4096 (length text) h, textRefusal)
+-- the first words of a list, pasted into a table
+pasted : (list table words : List ℕ) (n : ℕ) → take n list ≡ words → paste table 0 list n ≡ words ++ drop n table
+pasted list table words n e = let k : 0 + n ≡ n = omega arith in rw (e, k)
 
-  module _ (h : length text ≤ 4096) where
-    pub text-other : ascii text ≡ false → textRefusal text ≡ some 2
-    unfolding textRefusal
-    text-other a = rw (le-ltb 4096 (length text) h, textRefusal) (rw a)
+module _ (text table : List ℕ) where
+  all-refused : (k : ℕ) → textRefusal text ≡ some k → _≡_ {A = Listing × List ℕ} (listedText text table) (Refused k, table)
+  unfolding listedText
+  all-refused k e = rw (e, listedText)
 
-    pub text-accepted : ascii text ≡ true → textRefusal text ≡ none
-    unfolding textRefusal
-    text-accepted a = rw (le-ltb 4096 (length text) h, textRefusal) (rw a)
+  all-tokens : textRefusal text ≡ none
+      → _≡_ {A = Listing × List ℕ} (listedText text table) (Tokens (length (tokens text)) (countOthers (tokens text)), listInto 0 table (tokens text))
+  unfolding listedText
+  all-tokens o = rw (o, listedText)
 
--- all tokens of a text are listed
-pub record Whole (text before : List ℕ) (r : Listed) (after : List ℕ) : Type 0 where
-  pub all-are : r .all ≡ length (tokens text)
-  pub others-are : r .others ≡ countOthers (tokens text)
-  pub words-are : 3 * length (tokens text) ≤ length before → after ≡ tableWords (tokens text) ++ drop (3 * length (tokens text)) before
+  -- what an answer of `list_tokens` says
+  module _ (r : Listing) (after : List ℕ) (e : _≡_ {A = Listing × List ℕ} (r, after) (listedText text table)) where
+    pub answer-refused : (k : ℕ) → r ≡ Refused k → textRefusal text ≡ some k
+    answer-refused k f =
+        by-option (textRefusal text)
+        (λ o.
+        let h : r ≡ Tokens (length (tokens text)) (countOthers (tokens text)) = ap (λ (q : Listing × List ℕ). q .0) (e ∙ all-tokens o) in
+        let z : _≡_ {A = ℕ} 0 1 = cc in
+        absurd (omega arith))
+        (λ j o.
+        let h : r ≡ Refused j = ap (λ (q : Listing × List ℕ). q .0) (e ∙ all-refused j o) in
+        let i : j ≡ k = cc in
+        o ∙ ap some i)
 
-pub whole-list : (text before : List ℕ) (next : ℕ) (r : Listed) (after : List ℕ)
-    → Added (readsTo (length text) text 0 .list) next (listed 0 0 0) before r after → Whole text before r after
-unfolding withWords
-whole-list text before next r after a =
-    let e = whole text in
-    let n : r .all ≡ length (tokens text) = omega (arith, a .all-are, ap (length {A = Lexeme}) e) in
-    record {
-      all-are = n;
-      others-are = omega (arith, a .others-are, ap countOthers e);
-      words-are = λ h.
-          let k : 0 + length (tableWords (tokens text)) ≡ 3 * length (tokens text) = omega (arith, words-length (tokens text)) in
-          a .words-are (omega arith) ∙ ap (λ (ts : List Lexeme). tableWords ts ++ drop (0 + length (tableWords ts)) before) e
-          ∙ ap (λ (i : ℕ). tableWords (tokens text) ++ drop i before) k;
-    }
-
-pub tokens-few : (text : List ℕ) → length (tokens text) ≤ length text
-tokens-few text = count-bound byteAt-sound text
-
--- the words of a list, pasted into a table
-pub pasted : (text before list table : List ℕ) → list ≡ tableWords (tokens text) ++ drop (3 * length (tokens text)) before
-    → paste table 0 list (3 * length (tokens text)) ≡ tableWords (tokens text) ++ drop (3 * length (tokens text)) table
-pasted text before list table e =
-    let n = 3 * length (tokens text) in
-    let t : take n list ≡ tableWords (tokens text) = ap (take n) e ∙ take-at (tableWords (tokens text)) (drop n before) n (words-length (tokens text)) in
-    let k : 0 + n ≡ n = omega arith in
-    rw (t, k)
+    pub answer-tokens : length table ≡ 480 → (all others : ℕ) → r ≡ Tokens all others → Waiting text after all others
+    answer-tokens l all others f =
+        by-option (textRefusal text)
+        (λ o.
+        let h : r ≡ Tokens (length (tokens text)) (countOthers (tokens text)) = ap (λ (q : Listing × List ℕ). q .0) (e ∙ all-tokens o) in
+        let m : all ≡ length (tokens text) = cc in
+        let n : others ≡ countOthers (tokens text) = cc in
+        record {
+          accepted = o;
+          all-are = m;
+          others-are = n;
+          words-are = λ s.
+              let w : after ≡ tableWords (tokens text) ++ drop (3 * length (tokens text)) table =
+              ap (λ (q : Listing × List ℕ). q .1) (e ∙ all-tokens o) ∙ into-whole table (tokens text) (omega arith) in
+              ap (take (3 * all)) w ∙ take-at (tableWords (tokens text)) _ (3 * all) (omega (arith, words-length (tokens text)));
+        })
+        (λ j o.
+        let h : r ≡ Refused j = ap (λ (q : Listing × List ℕ). q .0) (e ∙ all-refused j o) in
+        let z : _≡_ {A = ℕ} 0 1 = cc in
+        absurd (omega arith))
 
 module _ (text table : List ℕ) (room : ℕ) where
-  under-refused : (k : ℕ) → textRefusal text ≡ some k → _≡_ {A = TokenizedUnder × List ℕ} (under.Refused k, table) (tokenizedUnder text table room)
+  abbrev Under : TokenizedUnder → List ℕ → Type 0
+  Under r after = _≡_ {A = TokenizedUnder × List ℕ} (r, after) (tokenizedUnder text table room)
+
+  pub under-refused : (k : ℕ) → textRefusal text ≡ some k → Under (under.Refused k) table
   unfolding tokenizedUnder
   under-refused k e = sym (rw (e, tokenizedUnder))
 
-  pub under-long : 4096 < length text → _≡_ {A = TokenizedUnder × List ℕ} (under.Refused 1, table) (tokenizedUnder text table room)
-  under-long h = under-refused 1 (text-long text h)
+  module _ (o : textRefusal text ≡ none) (l : 3 * length (tokens text) ≤ length table) (m : countOthers (tokens text) < room) where
+    under-tokens : Under (under.Tokens (length (tokens text)) (countOthers (tokens text))) (tableWords (tokens text) ++ drop (3 * length (tokens text)) table)
+    unfolding tokenizedUnder
+    under-tokens = sym (rw (o, tokenizedUnder) (rw (le-ltb _ _ l) (rw (lt-leb room (countOthers (tokens text)) m))))
 
-  module _ (h : length text ≤ 4096) where
-    pub under-other : ascii text ≡ false → _≡_ {A = TokenizedUnder × List ℕ} (under.Refused 2, table) (tokenizedUnder text table room)
-    under-other a = under-refused 2 (text-other text h a)
+    all-under : allListed (listedText text table) ≡ tokenizedUnder text table room
+    all-under =
+        ap allListed (all-tokens text table o)
+        ∙ ap (λ (t : List ℕ). (under.Tokens (length (tokens text)) (countOthers (tokens text)), t)) (into-whole table (tokens text) l)
+        ∙ under-tokens
 
-    module _ (a : ascii text ≡ true) where
-      pub under-short : length table < 3 * length (tokens text) → _≡_ {A = TokenizedUnder × List ℕ} (under.Refused 7, table) (tokenizedUnder text table room)
+  -- a text with no more bytes than tokens fit
+  pub all-fit : length text ≤ length table / 3 → length text < room → allListed (listedText text table) ≡ tokenizedUnder text table room
+  all-fit l m =
+      by-option (textRefusal text)
+      (λ o.
+      all-under o (omega (arith, never-outnumber text)) (omega (arith, never-outnumber text, others-bound (tokens text))))
+      (λ k o. ap allListed (all-refused text table k o) ∙ under-refused k o)
+
+  -- a text whose tokens wait
+  module _ (list : List ℕ) (all others : ℕ) (w : Waiting text list all others) where
+    pub few : all ≤ 4096
+    few = omega (arith, w .all-are, never-outnumber text, text-short text (w .accepted))
+
+    pub waiting-short : length table < 3 * all → Under (under.Refused 7) table
+    unfolding tokenizedUnder
+    waiting-short l = sym (rw (w .accepted, tokenizedUnder) (rw (lt-ltb (length table) (3 * length (tokens text)) (omega (arith, w .all-are)))))
+
+    module _ (l : 3 * all ≤ length table) where
+      fit : 3 * length (tokens text) ≤ length table
+      fit = omega (arith, w .all-are)
+
+      pub waiting-many : room ≤ others → Under (under.Many others) table
       unfolding tokenizedUnder
-      under-short l = sym (rw (text-accepted text h a, tokenizedUnder) (rw (lt-ltb _ _ l)))
+      waiting-many m =
+          rw (w .others-are)
+          (sym (rw (w .accepted, tokenizedUnder) (rw (le-ltb _ _ fit) (rw (le-leb room (countOthers (tokens text)) (omega (arith, w .others-are)))))))
 
-      module _ (l : 3 * length (tokens text) ≤ length table) where
-        pub under-many : (n : ℕ) → n ≡ countOthers (tokens text) → room ≤ n → _≡_ {A = TokenizedUnder × List ℕ} (under.Many n, table) (tokenizedUnder text table room)
-        unfolding tokenizedUnder
-        under-many n e m = rw e (sym (rw (text-accepted text h a, tokenizedUnder) (rw (le-ltb _ _ l) (rw (le-leb room (countOthers (tokens text)) (rw e at m))))))
+      module _ (m : others < room) where
+        below : countOthers (tokens text) < room
+        below = omega (arith, w .others-are)
 
-        pub under-listed : (all n : ℕ) (next : List ℕ) → all ≡ length (tokens text) → n ≡ countOthers (tokens text)
-            → n < room → next ≡ tableWords (tokens text) ++ drop (3 * length (tokens text)) table
-            → _≡_ {A = TokenizedUnder × List ℕ} (under.Tokens all n, next) (tokenizedUnder text table room)
-        unfolding tokenizedUnder
-        under-listed all n next e f m q =
-            rw (q, e, f) (sym (rw (text-accepted text h a, tokenizedUnder) (rw (le-ltb _ _ l) (rw (lt-leb room (countOthers (tokens text)) (rw f at m))))))
+        pub waiting-copied : all ≤ 160 → Under (under.Tokens all others) (paste table 0 list (3 * all))
+        waiting-copied h =
+            rw (pasted list table (tableWords (tokens text)) (3 * all) (w .words-are h), w .all-are, w .others-are)
+            (under-tokens (w .accepted) fit below)
+
+        pub waiting-again : allListed (listedText text table) ≡ tokenizedUnder text table room
+        waiting-again = all-under (w .accepted) fit below
 
 -- without a bound on the other tokens
 abbrev pub unbounded : TokenizedUnder × List ℕ → Answer × List ℕ
@@ -115,23 +145,15 @@ under-any text table =
     by-lt (length table) (3 * length (tokens text))
     (λ l. rw (o, tokenizedUnder, tokenized) (rw (lt-ltb _ _ l)))
     (λ l.
-    let m : countOthers (tokens text) < 4097 = omega (arith, others-few (tokens text), tokens-few text, text-short text o) in
+    let m : countOthers (tokens text) < 4097 = omega (arith, others-bound (tokens text), never-outnumber text, text-short text o) in
     rw (o, tokenizedUnder, tokenized) (rw (le-ltb _ _ l) (rw (lt-leb 4097 (countOthers (tokens text)) m)))))
     (λ k o. rw (o, tokenizedUnder, tokenized))
 
-module _ (text : List ℕ) where
-  count-refused : (k : ℕ) → textRefusal text ≡ some k → refused k ≡ counted text
-  unfolding counted
-  count-refused k e = sym (rw (e, counted))
+-- the counts of a list
+abbrev pub counts : Listing × List ℕ → Answer
+counts (Tokens all others, table) = accepted (all ∷ others ∷ [])
+counts (Refused k, table) = refused k
 
-  pub count-long : 4096 < length text → refused 1 ≡ counted text
-  count-long h = count-refused 1 (text-long text h)
-
-  module _ (h : length text ≤ 4096) where
-    pub count-other : ascii text ≡ false → refused 2 ≡ counted text
-    count-other a = count-refused 2 (text-other text h a)
-
-    pub count-accepted : ascii text ≡ true → (all others : ℕ) → all ≡ length (tokens text) → others ≡ countOthers (tokens text)
-        → accepted (all ∷ others ∷ []) ≡ counted text
-    unfolding counted
-    count-accepted a all others e f = rw (e, f) (sym (rw (text-accepted text h a, counted)))
+pub counts-are : (text table : List ℕ) → counts (listedText text table) ≡ counted text
+unfolding listedText counted
+counts-are text table = by-option (textRefusal text) (λ o. rw (o, listedText, counted)) (λ k o. rw (o, listedText, counted))

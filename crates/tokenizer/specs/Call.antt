@@ -9,7 +9,7 @@ use Rattle.tokenizer.specs.declared.Tokenized.{Tokenized}
 use Rattle.tokenizer.specs.declared.Tokenized.the-variants.{Tokens, Refused}
 use Rattle.tokenizer.specs.declared.TokenizedUnder.{TokenizedUnder}
 use Rattle.tokenizer.specs.declared.Counted.{Counted}
-use Rattle.tokenizer.specs.Rules.{tokens}
+use Rattle.lexing.specs.Rules.{tokens}
 use Rattle.tokens.specs.Table.{tableWords, countOthers}
 use Rattle.tokens.specs.Refusals.{Answer, accepted, refused, textRefusal}
 use Rattle.tokenizer.specs.declared.TokenizedUnder.the-variants as under

@@ -1,10 +1,2 @@
-pub mod Spellings
-pub mod Order
-pub mod Longest
-pub mod Rules
-pub mod Constants
-pub mod Lookup
-pub mod Coded
 pub mod Call
-pub mod Lex
-pub mod Starred
+pub mod Waiting

@@ -1,17 +1,12 @@
-// The tokenizer of asciimath-parser for ASCII text: the spelling table, the rules, and the calls on a text.
-pub mod lex;
-mod list;
-pub mod prefix_map;
-mod rules;
-mod spellings;
-mod table;
-
-use list::list_tokens;
-use tokens::is_ascii;
+// The calls on a text: its tokens listed, listed if they are few, and counted.
+use lexer::Listing;
+use lexer::list_tokens;
 ghost use mathlib.Core.Path.{_≡_};
 ghost use Prim.Native.Nat.{_≤_};
 ghost use lib.ListN.{length};
 ghost use lib.Seq.{paste};
+ghost use Rattle.lexer.specs.Listing.{listedText};
+ghost use Rattle.tokenizer.specs.Waiting.{allListed, Waiting};
 ghost use Rattle.tokenizer.specs.Call.{answerOf, tokenized, tokenizedUnder, countOf, counted};
 
 // How many tokens the text has, and how many of them are other than Space; the number of the refusal; or that there are too many
@@ -34,29 +29,28 @@ fn copy_words(list: &[u32], table: &mut [u32], n: usize)
     }
 }
 
-// Like tokenize, but only counts a text that has `room` or more tokens other than Space. Nothing is written before all refusals
-// are decided: where the table has three words for each byte there are none, else up to 160 tokens wait in a list.
-pub fn tokenize_under(text: &[u8], table: &mut [u32], room: usize) -> TokenizedUnder
+// All tokens of a text, for which the table has words.
+fn list_all(text: &[u8], table: &mut [u32]) -> TokenizedUnder
+    ensures { λ r. ⌜ (r, now (table .exit)) ≡ allListed (listedText (now (text .entry)) (now (table .entry))) ⌝ }
+{
+    match list_tokens(text, table) {
+        Listing::Tokens { all, others } => TokenizedUnder::Tokens { all, others },
+        Listing::Refused(k) => TokenizedUnder::Refused(k),
+    }
+}
+
+// The tokens of an accepted text, which are counted and of which the first 160 wait in the list.
+fn take_list(
+    text: &[u8],
+    table: &mut [u32],
+    room: usize,
+    list: &[u32; 480],
+    all: usize,
+    others: usize,
+) -> TokenizedUnder
+    requires { ⌜ Waiting (now text) (now list) all others ⌝ }
     ensures { λ r. ⌜ (r, now (table .exit)) ≡ tokenizedUnder (now (text .entry)) (now (table .entry)) room ⌝ }
 {
-    let len = text.len();
-    if 4096 < len {
-        return TokenizedUnder::Refused(1);
-    }
-    if !is_ascii(text) {
-        return TokenizedUnder::Refused(2);
-    }
-    if len <= table.len() / 3 && len < room {
-        let r = list_tokens(text, 0, len, table);
-        return TokenizedUnder::Tokens {
-            all: r.all,
-            others: r.others,
-        };
-    }
-    let mut list = [0u32; 480];
-    let r = list_tokens(text, 0, len, &mut list);
-    let all = r.all;
-    let others = r.others;
     if table.len() < 3 * all {
         return TokenizedUnder::Refused(7);
     }
@@ -64,13 +58,25 @@ pub fn tokenize_under(text: &[u8], table: &mut [u32], room: usize) -> TokenizedU
         return TokenizedUnder::Many { others };
     }
     if all <= 160 {
-        copy_words(&list, table, 3 * all);
+        copy_words(list, table, 3 * all);
         return TokenizedUnder::Tokens { all, others };
     }
-    let again = list_tokens(text, 0, len, table);
-    TokenizedUnder::Tokens {
-        all: again.all,
-        others: again.others,
+    list_all(text, table)
+}
+
+// Like tokenize, but only counts a text that has `room` or more tokens other than Space. Nothing is written before all refusals
+// are decided: where the table has three words for each byte there are none, else up to 160 tokens wait in a list.
+pub fn tokenize_under(text: &[u8], table: &mut [u32], room: usize) -> TokenizedUnder
+    ensures { λ r. ⌜ (r, now (table .exit)) ≡ tokenizedUnder (now (text .entry)) (now (table .entry)) room ⌝ }
+{
+    let len = text.len();
+    if len <= table.len() / 3 && len < room {
+        return list_all(text, table);
+    }
+    let mut list = [0u32; 480];
+    match list_tokens(text, &mut list) {
+        Listing::Tokens { all, others } => take_list(text, table, room, &list, all, others),
+        Listing::Refused(k) => TokenizedUnder::Refused(k),
     }
 }
 
@@ -102,16 +108,9 @@ pub enum Counted {
 pub fn count_tokens(text: &[u8]) -> Counted
     ensures { λ r. ⌜ countOf r ≡ counted (now (text .entry)) ⌝ }
 {
-    if 4096 < text.len() {
-        return Counted::Refused(1);
-    }
-    if !is_ascii(text) {
-        return Counted::Refused(2);
-    }
     let mut none = [0u32; 1];
-    let r = list_tokens(text, 0, text.len(), &mut none);
-    Counted::Tokens {
-        all: r.all,
-        others: r.others,
+    match list_tokens(text, &mut none) {
+        Listing::Tokens { all, others } => Counted::Tokens { all, others },
+        Listing::Refused(k) => Counted::Refused(k),
     }
 }

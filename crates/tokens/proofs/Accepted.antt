@@ -6,9 +6,9 @@ use mathlib.Core.Option.{Option, none, some}
 use Prim.Native.Nat.{ℕ, zero, suc, _+_, _*_, _≤_, _<_}
 use native.Mathlib.Omega.{arith}
 use lib.ListN.{length, getD}
-use Rattle.tokens.specs.Refusals.{ascii, listRefusal}
-use Rattle.tokens.proofs.Cases.{by-test, by-eq, by-lt}
-use Rattle.tokens.proofs.Order.{text-long, text-not-ascii, count-large, table-short, to-tokens}
+use Rattle.tokens.specs.Refusals.{textRefusal, listRefusal}
+use Rattle.tokens.proofs.Cases.{by-test, by-eq, by-lt, by-option}
+use Rattle.tokens.proofs.Order.{text-short, text-first, count-large, table-short, to-tokens}
 use Rattle.tokens.proofs.Tokens.{refusalFrom, refusal-all, kind-refused, span-refused, space-refused, space-passed, other-passed}
 
 -- an answer is not both
@@ -57,22 +57,19 @@ pub record Accepted (text : List ℕ) (count : ℕ) (table : List ℕ) : Type 0 
 
 pub accepted : (text : List ℕ) (count : ℕ) (table : List ℕ) → listRefusal text count table ≡ none → Accepted text count table
 accepted text count table p =
-    by-lt 4096 (length text)
-    (λ l. met p (text-long text table count l))
-    (λ short.
-    by-test (ascii text)
-    (λ a.
+    by-option (textRefusal text)
+    (λ o.
     by-lt 4096 count
-    (λ l. met p (count-large text table count short a l))
+    (λ l. met p (count-large text table count o l))
     (λ few.
     by-lt (length table) (3 * count)
-    (λ l. met p (table-short text table count short a few l))
+    (λ l. met p (table-short text table count o few l))
     (λ words.
-    let q = sym (to-tokens text table count short a few words ∙ refusal-all (length text) count table) ∙ p in
+    let q = sym (to-tokens text table count o few words ∙ refusal-all (length text) count table) ∙ p in
     record {
-      short = short;
+      short = text-short text o;
       few = few;
       words = words;
       sound = λ i l. let e : i ≡ 0 + i = omega arith in rw e (sound-after (length text) count table i 0 false q (omega arith));
     })))
-    (λ a. met p (text-not-ascii text table count short a)))
+    (λ k o. met p (text-first text table count k o))

@@ -1,7 +1,6 @@
 pub mod Cases
 pub mod Numbers
 pub mod TokenList
-mod Ascii
-mod Order
-mod Tokens
+pub mod Order
+pub mod Tokens
 pub mod Accepted

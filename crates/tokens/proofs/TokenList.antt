@@ -1,15 +1,15 @@
 -- The token list in the words of a table, one token after the other.
-use mathlib.Core.Path.{_≡_, ap, _∙_}
+use mathlib.Core.Path.{_≡_, refl, ap, _∙_}
 use mathlib.Core.List.{List, [], _∷_}
 use Prim.Native.Nat.{ℕ, zero, suc, _+_, _*_, _-_, _≤_, _<_}
 use native.Mathlib.Omega.{arith}
-use lib.ListN.{getD, drop, List·getD-eq-default}
+use lib.ListN.{length, getD, drop, List·getD-eq-default}
 use lib.Seq.{getD-drop, drop-drop}
 use borrow.Author.Tests.{ne-eqb}
 use Rattle.tokens.specs.declared.token.Token.the-variants.{Space}
 use Rattle.tokens.specs.Kinds.{numberOf, kinds, tokenOf}
 use Rattle.tokens.specs.Lexeme.{Lexeme, lexeme}
-use Rattle.tokens.specs.Table.{tokenList, countOthers}
+use Rattle.tokens.specs.Table.{tableWords, tokenList, countOthers}
 use Rattle.tokens.proofs.Cases.{by-eq, by-lt}
 use Rattle.tokens.proofs.Numbers.{number-of-token}
 
@@ -84,3 +84,16 @@ others-few (suc count) table =
     by-eq (numberOf (t .token)) 23
     (λ z. omega (arith, others-few count (drop 3 table), count-space t ts z))
     (λ z. omega (arith, others-few count (drop 3 table), count-other t ts z))
+
+-- of any tokens: how many words they have, and how many are other than Space
+pub words-length : (ts : List Lexeme) → length (tableWords ts) ≡ 3 * length ts
+unfolding tableWords
+words-length [] = refl
+words-length (t ∷ ts) = omega (arith, words-length ts)
+
+pub others-bound : (ts : List Lexeme) → countOthers ts ≤ length ts
+unfolding countOthers
+others-bound [] = omega arith
+others-bound (t ∷ ts) =
+    by-eq (numberOf (t .token)) 23 (λ z. omega (arith, others-bound ts, count-space t ts z))
+    (λ z. omega (arith, others-bound ts, count-other t ts z))

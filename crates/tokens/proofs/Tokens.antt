@@ -8,22 +8,8 @@ use native.Mathlib.Omega.{arith}
 use lib.Dec.{eqb, ltb}
 use lib.ListN.{getD, drop}
 use borrow.Author.Tests.{lt-ltb, le-ltb, ne-eqb}
-use Rattle.tokens.specs.Lexeme.{Lexeme}
 use Rattle.tokens.specs.Refusals.{longSpace, tokensRefusal}
-use Rattle.tokens.specs.Table.{countOthers}
 use Rattle.tokens.proofs.TokenList.{word-at, first-word, words-behind}
-use Rattle.tokens.specs.declared.Checked.the-variants.{Accepted, Refused}
-use Rattle.tokens.specs.Checks.{answer}
-
--- the answer that a refusal, or none, gives
-module _ {o : Option ℕ} (ts : List Lexeme) where
-  pub answer-refused : {k : ℕ} → o ≡ some k → Refused k ≡ answer o ts
-  unfolding answer
-  answer-refused e = rw e
-
-  pub answer-accepted : {n : ℕ} → o ≡ none → countOthers ts ≡ n → Accepted n ≡ answer o ts
-  unfolding answer
-  answer-accepted e f = rw (e, answer, f)
 
 and-false : (b : Bool) → b && false ≡ false
 and-false true = refl

@@ -3,4 +3,3 @@ pub mod Bytes
 pub mod Lexeme
 pub mod Table
 pub mod Refusals
-pub mod Checks

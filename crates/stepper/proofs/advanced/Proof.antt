@@ -2,7 +2,8 @@
 use mathlib.Core.Path.{sym, _∙_}
 use native.Mathlib.Omega.{arith}
 use borrow.Author.Tests.{not-true, not-false}
-use Rattle.stepper.proofs.Answers.{text-refused, text-accepted, by-text, by-state, answers-waiting, answers-read, answers-end, few-wait}
+use Rattle.refusals.proofs.TextChecks.{text-refused, text-accepted}
+use Rattle.stepper.proofs.Answers.{by-text, by-state, answers-waiting, answers-read, answers-end, few-wait}
 use borrow.Author.Needs.{needs}
 use Rattle.stepper.proofs.advanced.Statement.{statement}
 use Rattle.stepper.proofs.advanced.Tie as tie

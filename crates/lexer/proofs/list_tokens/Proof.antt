@@ -1,0 +1,49 @@
+-- The check of the text, and then all its reads.
+use native.Mathlib.Omega.{arith}
+use borrow.Author.Needs.{needs}
+use Rattle.tokens.proofs.Order.{text-short, text-ascii}
+use Rattle.refusals.proofs.TextChecks.{text-refused, text-accepted}
+use Rattle.lexer.proofs.Whole.{listed-refused, listed-whole}
+use Rattle.lexer.proofs.list_tokens.Statement.{statement}
+use Rattle.lexer.proofs.list_tokens.Tie as tie
+
+check-text-requires : tie.Need-check-text-requires
+check-text-requires c κs = search needs
+
+enum-known-k : tie.Need-enum-known-k
+enum-known-k c = search needs
+
+returns : tie.Need-returns
+returns c =
+    let a = c .before .before .before .before .before .before .args in
+    listed-refused (a .text .now) (a .table .now) _ (text-refused (a .text .now) _ (c .before .before .before .check-text .ensures) _ (c .before .k .given .1))
+
+enum-told : tie.Need-enum-told
+enum-told c = search needs
+
+list-reads-requires : tie.Need-list-reads-requires
+list-reads-requires c κs =
+    let text = c .before .before .before .before .before .before .args .text .now in
+    let o = text-accepted text _ (c .before .before .before .check-text .ensures) (c .before .enum-told .given .1) in
+    (text-ascii text o, text-short text o, omega arith, omega arith)
+
+same-length : tie.Need-same-length
+same-length c = search needs
+
+returns-2 : tie.Need-returns-2
+returns-2 c =
+    let a = c .before .before .before .before .before .before .before .before .before .args in
+    let o = text-accepted (a .text .now) _ (c .before .before .before .before .before .before .check-text .ensures) (c .before .before .before .before .enum-told .given .1) in
+    listed-whole (a .text .now) (a .table .now) o _ (c .before .before .list-reads .result) (c .before .before .list-reads .last .1 .1 .1 .0) (c .before .before .list-reads .ensures)
+
+pub list-tokens-spec : {M : Type 1} → statement M
+list-tokens-spec =
+    tie.close
+    (tie.spec
+    check-text-requires
+    enum-known-k
+    returns
+    enum-told
+    list-reads-requires
+    same-length
+    returns-2)

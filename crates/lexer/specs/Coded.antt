@@ -1,0 +1,67 @@
+-- What the code does with a read: it lists its tokens.
+use mathlib.Core.Path.{_≡_}
+use mathlib.Core.Bool.{true, false}
+use mathlib.Core.List.{List, [], _∷_, _++_}
+use mathlib.Core.Option.{none, some}
+use Prim.Native.Nat.{ℕ, zero, suc, _+_, _≤_, _<_}
+use lib.Dec.{ltb}
+use lib.ListN.{length}
+use Rattle.lexer.specs.declared.table.Listed.{Listed}
+use Rattle.tokens.specs.declared.token.Token.the-variants.{Unary}
+use Rattle.tokens.specs.Lexeme.{Lexeme}
+use Rattle.tokens.specs.Table.{countOthers}
+use Rattle.lexer.specs.Constants.{rowOf, spellingOf}
+use Rattle.lexer.specs.Listing.{listInto}
+use Rattle.lexing.specs.Rules.{Read, alone, commandAt, isTextCommand, numberAt, quotationAt, byteAt, readAt}
+
+-- what is read by rules 4 and 5, by rules 3 to 5, and by rule 2 where a row is found
+unfoldable pub fromQuotation : List ℕ → ℕ → Read
+fromQuotation text at = elim (quotationAt text at) [ some r ↦ r | none ↦ byteAt text at ]
+
+unfoldable pub fromNumber : List ℕ → ℕ → Read
+fromNumber text at = elim (numberAt text at) [ some r ↦ r | none ↦ fromQuotation text at ]
+
+unfoldable pub fromRow : ℕ → List ℕ → ℕ → Read
+fromRow k text at =
+    elim (isTextCommand (spellingOf k))
+    [ true ↦ commandAt text at 4 Unary | false ↦ alone at (length (spellingOf k)) (rowOf k .token) ]
+
+-- the tokens of the reads from a place on that begin before `stop`, and the place behind them
+pub record Reads : Type 0 where
+  pub list : List Lexeme
+  pub next : ℕ
+
+abbrev pub behind : Read → Reads → Reads
+behind r q = record { list = r .first ∷ (r .waiting ++ q .list); next = q .next }
+
+unfoldable pub readsOf : ℕ → ℕ → List ℕ → ℕ → Reads
+readsOf stop zero text at = record { list = []; next = at }
+readsOf stop (suc f) text at =
+    elim (ltb at stop) [
+      | true ↦ behind (readAt byteAt text at) (readsOf stop f text (readAt byteAt text at .next))
+      | false ↦ record { list = []; next = at }
+    ]
+
+-- each read moves on, so as many reads as bytes are enough
+unfoldable pub readsTo : ℕ → List ℕ → ℕ → Reads
+readsTo stop text at = readsOf stop (length text) text at
+
+abbrev pub listed : ℕ → ℕ → ℕ → Listed
+listed all others next = record { all = all; others = others; next = next }
+
+-- a place of the text, and no more tokens listed than bytes stand before it
+pub record Placed (text : List ℕ) (p : Listed) : Type 0 where
+  pub short : length text ≤ 4096
+  pub inside : p .next < length text
+  pub fewer : p .all ≤ p .next
+  pub few : p .others ≤ p .all
+
+-- tokens are counted, and put into the table as far as they fit; the place is moved on
+pub record Added (ts : List Lexeme) (next : ℕ) (p : Listed) (before : List ℕ) (r : Listed) (after : List ℕ) : Type 0 where
+  pub all-are : r .all ≡ p .all + length ts
+  pub others-are : r .others ≡ p .others + countOthers ts
+  pub next-is : r .next ≡ next
+  pub words-are : after ≡ listInto (p .all) before ts
+
+abbrev pub AddedRead : Read → Listed → List ℕ → Listed → List ℕ → Type 0
+AddedRead q p before r after = Added (q .first ∷ q .waiting) (q .next) p before r after

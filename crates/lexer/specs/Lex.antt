@@ -1,0 +1,54 @@
+-- One read at a place: what `lex_at` answers.
+use mathlib.Core.Bool.{true, false}
+use mathlib.Core.List.{List}
+use mathlib.Core.Option.{Option, none, some}
+use Prim.Native.Nat.{ℕ, _+_}
+use lib.Dec.{ltb}
+use lib.ListN.{length, getD}
+use Rattle.lexer.specs.declared.lex.Spanned.{Spanned}
+use Rattle.lexer.specs.declared.lex.Queue.{Queue}
+use Rattle.lexer.specs.declared.lex.Lexing.{Lexing}
+use Rattle.lexer.specs.declared.lex.Lexing.the-variants.{Tokens, Nothing}
+use Rattle.tokens.specs.declared.token.Token.the-variants.{Frac}
+use Rattle.tokens.specs.Kinds.{tokenOf}
+use Rattle.tokens.specs.Lexeme.{Lexeme, lexeme}
+use Rattle.lexing.specs.Rules.{Read, byteAt, readAt}
+use Rattle.tokens.specs.Refusals.{textRefusal}
+
+-- a token with its span as the code's struct: from three words of a list, and as a value of the definitions
+abbrev pub spannedAt : List ℕ → ℕ → Spanned
+spannedAt words i = record { token = tokenOf (getD words (i + 2) 0); start = getD words i 0; len = getD words (i + 1) 0 }
+
+abbrev pub spannedOf : Lexeme → Spanned
+spannedOf t = record { token = t .token; start = t .span .start; len = t .span .len }
+
+-- what stands in the places where none waits
+abbrev pub noLexeme : Lexeme
+noLexeme = lexeme 0 0 Frac
+
+-- tokens that wait, at most three, as the code's struct
+abbrev pub queueOf : List Lexeme → Queue
+queueOf ts =
+    record {
+      count = length ts;
+      first = spannedOf (getD ts 0 noLexeme);
+      second = spannedOf (getD ts 1 noLexeme);
+      third = spannedOf (getD ts 2 noLexeme);
+    }
+
+-- the same from the twelve words of a list, the first of them those of a token that is handed over
+abbrev pub queueAt : List ℕ → ℕ → Queue
+queueAt words n = record { count = n; first = spannedAt words 3; second = spannedAt words 6; third = spannedAt words 9 }
+
+abbrev pub lexing : Option Read → Lexing
+lexing none = Nothing
+lexing (some r) = Tokens (spannedOf (r .first)) (queueOf (r .waiting)) (r .next)
+
+-- what is read at a place of an accepted text where a byte stands
+unfoldable pub lexedAt : List ℕ → ℕ → Option Read
+lexedAt text at =
+    elim (textRefusal text) [
+      | some k ↦ none
+      | none ↦
+          elim (ltb at (length text)) [ true ↦ some (readAt byteAt text at) | false ↦ none ]
+    ]

@@ -1,0 +1,5 @@
+pub mod Constants
+pub mod Lookup
+pub mod Listing
+pub mod Coded
+pub mod Lex

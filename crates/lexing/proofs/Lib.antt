@@ -1,0 +1,9 @@
+pub mod Runs
+pub mod Begins
+pub mod Rows
+pub mod Moves
+pub mod Tokens
+pub mod Order
+pub mod Spaces
+pub mod Accepted
+pub mod Theorems

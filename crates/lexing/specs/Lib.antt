@@ -1,0 +1,5 @@
+pub mod Spellings
+pub mod Order
+pub mod Longest
+pub mod Rules
+pub mod Starred

@@ -1,0 +1,3 @@
+mod Ascii
+pub mod TextChecks
+mod Checks

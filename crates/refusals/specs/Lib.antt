@@ -1,0 +1,2 @@
+pub mod TextChecks
+pub mod Checks
