@@ -4,7 +4,7 @@ use records::record::kind_at;
 use records::record::len_at;
 use records::record::sep_word;
 use records::record::start_at;
-use records::tests::is_at;
+use lookahead::tests::is_at;
 ghost use mathlib.Core.Path.{_≡_};
 ghost use mathlib.Core.List.{[], _∷_};
 ghost use Prim.Native.Nat.{_-_, _≤_};

@@ -11,7 +11,7 @@ use records::record::sep_word;
 use records::record::start_at;
 use records::store::set_close;
 use records::store::set_sep;
-use records::tests::is_at;
+use lookahead::tests::is_at;
 ghost use mathlib.Core.Path.{_≡_};
 ghost use mathlib.Core.List.{_++_};
 ghost use Prim.Native.Nat.{_+_, _*_, _≤_};

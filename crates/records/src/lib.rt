@@ -2,4 +2,3 @@
 pub mod marks;
 pub mod record;
 pub mod store;
-pub mod tests;

@@ -7,14 +7,14 @@ use Rattle.parse.proofs.cursor.Cursor.at_depth.Reads as at-depth-reads
 use Rattle.parse.proofs.cursor.Cursor.deeper.Reads as deeper-reads
 use Rattle.parse.proofs.cursor.Cursor.look.Reads as look-reads
 use Rattle.parse.proofs.cursor.Cursor.next.Reads as next-reads
-use Rattle.records.proofs.tests.heads_at.Reads as heads-at-reads
+use Rattle.lookahead.proofs.tests.heads_at.Reads as heads-at-reads
 use Rattle.parse.proofs.readers.+arg+bars+begun+binary+bracket+extend+headed+more_rows+next_intermediate+next_row+next_rows+next_script+next_script_func+next_simple+open_group+operand+other+row_cells+term+try_matrix+unary.Lts-next_script_func as next-script-func-lts
 use Rattle.parse.proofs.readers.+arg+bars+begun+binary+bracket+extend+headed+more_rows+next_intermediate+next_row+next_rows+next_script+next_script_func+next_simple+open_group+operand+other+row_cells+term+try_matrix+unary.Proof.Setting.{headed-below, term-below, next-script-func-at}
 use mathlib.Core.Path.{_≡_, sym, ap, _∙_}
 use native.Mathlib.Omega.{arith}
 use borrow.Author.Needs.{needs}
-use Rattle.records.specs.Tests.{headsKind}
-use Rattle.records.proofs.Places.{test-below}
+use Rattle.lookahead.specs.Tests.{headsKind}
+use Rattle.lookahead.proofs.Testing.{test-below}
 use Rattle.parse.specs.Meet.{inner}
 use Rattle.parse.proofs.Scripting.{script-deep, script-nothing, script-term, script-headed}
 

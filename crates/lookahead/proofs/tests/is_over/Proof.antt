@@ -1,9 +1,9 @@
 -- `tests::is_over`: nothing begins there.
-use Rattle.records.specs.Tests.{overAt}
+use Rattle.lookahead.specs.Tests.{overAt}
 use borrow.Author.Tests.{lt-ltb, le-ltb}
 use borrow.Author.Needs.{needs}
-use Rattle.records.proofs.tests.is_over.Statement.{statement}
-use Rattle.records.proofs.tests.is_over.Tie as tie
+use Rattle.lookahead.proofs.tests.is_over.Statement.{statement}
+use Rattle.lookahead.proofs.tests.is_over.Tie as tie
 
 returns : tie.Need-returns
 unfolding overAt

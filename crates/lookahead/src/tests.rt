@@ -1,7 +1,7 @@
 // Tests of an entry by its kind. n is the number of entries.
-use crate::record::kind_at;
+use records::record::kind_at;
 ghost use mathlib.Core.Path.{_≡_};
-ghost use Rattle.records.specs.Tests.{testAt, isKind, headsKind, marksKind, beginsKind, leafOnly, joinsKind, plainAt, overAt};
+ghost use Rattle.lookahead.specs.Tests.{testAt, isKind, headsKind, marksKind, beginsKind, leafOnly, joinsKind, plainAt, overAt};
 
 // The entry at i is there and of kind k.
 pub fn is_at(tok: &[u32], work: &[u32], n: usize, i: usize, k: u32) -> bool

@@ -1,11 +1,11 @@
 -- `tests::heads_at`: a function, or a sign where it prefixes.
-use Rattle.records.proofs.Places.{by-sign, by-function}
-use Rattle.records.specs.Tests.{testAt}
+use Rattle.lookahead.proofs.Testing.{by-sign, by-function}
+use Rattle.lookahead.specs.Tests.{testAt}
 use mathlib.Core.Path.{_∙_}
 use borrow.Author.Tests.{lt-ltb, le-ltb}
 use borrow.Author.Needs.{needs}
-use Rattle.records.proofs.tests.heads_at.Statement.{statement}
-use Rattle.records.proofs.tests.heads_at.Tie as tie
+use Rattle.lookahead.proofs.tests.heads_at.Statement.{statement}
+use Rattle.lookahead.proofs.tests.heads_at.Tie as tie
 
 kind-at-requires : tie.Need-kind-at-requires
 kind-at-requires c κs = search needs

@@ -1,9 +1,9 @@
 -- `tests::begins_at`: no closing bracket, no Space, and no Sep at which the reading stops.
-use Rattle.records.specs.Tests.{testAt}
+use Rattle.lookahead.specs.Tests.{testAt}
 use borrow.Author.Tests.{lt-ltb, le-ltb, eq-eqb, ne-eqb}
 use borrow.Author.Needs.{needs}
-use Rattle.records.proofs.tests.begins_at.Statement.{statement}
-use Rattle.records.proofs.tests.begins_at.Tie as tie
+use Rattle.lookahead.proofs.tests.begins_at.Statement.{statement}
+use Rattle.lookahead.proofs.tests.begins_at.Tie as tie
 
 kind-at-requires : tie.Need-kind-at-requires
 kind-at-requires c κs = search needs

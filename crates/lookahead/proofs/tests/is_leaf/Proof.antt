@@ -1,9 +1,9 @@
 -- `tests::is_leaf`: a kind from Number to Symbol.
-use Rattle.records.specs.Tests.{testAt}
+use Rattle.lookahead.specs.Tests.{testAt}
 use borrow.Author.Tests.{lt-ltb, le-ltb}
 use borrow.Author.Needs.{needs}
-use Rattle.records.proofs.tests.is_leaf.Statement.{statement}
-use Rattle.records.proofs.tests.is_leaf.Tie as tie
+use Rattle.lookahead.proofs.tests.is_leaf.Statement.{statement}
+use Rattle.lookahead.proofs.tests.is_leaf.Tie as tie
 
 kind-at-requires : tie.Need-kind-at-requires
 kind-at-requires c κs = search needs

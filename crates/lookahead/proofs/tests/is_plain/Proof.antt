@@ -1,12 +1,12 @@
 -- `tests::is_plain`: a leaf, and nothing joins it.
-use Rattle.records.proofs.Places.{test-below}
-use Rattle.records.specs.Tests.{leafOnly, plainAt}
+use Rattle.lookahead.proofs.Testing.{test-below}
+use Rattle.lookahead.specs.Tests.{leafOnly, plainAt}
 use mathlib.Core.Path.{sym, _∙_}
 use native.Mathlib.Omega.{arith}
 use borrow.Author.Tests.{lt-ltb, le-ltb}
 use borrow.Author.Needs.{needs}
-use Rattle.records.proofs.tests.is_plain.Statement.{statement}
-use Rattle.records.proofs.tests.is_plain.Tie as tie
+use Rattle.lookahead.proofs.tests.is_plain.Statement.{statement}
+use Rattle.lookahead.proofs.tests.is_plain.Tie as tie
 
 returns : tie.Need-returns
 unfolding plainAt

@@ -1,9 +1,9 @@
 -- `tests::marks_at`: Super or Sub.
-use Rattle.records.specs.Tests.{testAt}
+use Rattle.lookahead.specs.Tests.{testAt}
 use borrow.Author.Tests.{lt-ltb, le-ltb, eq-eqb, ne-eqb}
 use borrow.Author.Needs.{needs}
-use Rattle.records.proofs.tests.marks_at.Statement.{statement}
-use Rattle.records.proofs.tests.marks_at.Tie as tie
+use Rattle.lookahead.proofs.tests.marks_at.Statement.{statement}
+use Rattle.lookahead.proofs.tests.marks_at.Tie as tie
 
 kind-at-requires : tie.Need-kind-at-requires
 kind-at-requires c κs = search needs

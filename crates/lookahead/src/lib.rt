@@ -1,0 +1,2 @@
+// What the readers ask of the entry at the cursor.
+pub mod tests;
