@@ -10,6 +10,10 @@ use Rattle.records.specs.Record.{kindOf}
 unfoldable pub testAt : List ℕ → List ℕ → ℕ → (ℕ → Bool) → ℕ → Bool
 testAt t K n f i = pick (ltb i n) (f (kindOf t K i)) false
 
+-- the kind of the entry at i, or that of a Space, which is no entry's
+unfoldable pub nextKind : List ℕ → List ℕ → ℕ → ℕ → ℕ
+nextKind t K n i = pick (ltb i n) (kindOf t K i) 23
+
 -- it is of the kind k
 abbrev pub isKind : ℕ → ℕ → Bool
 isKind k w = eqb w k

@@ -1,105 +1,104 @@
 // Tests of an entry by its kind. n is the number of entries.
+use crate::depth::MAX_ITEM_DEPTH;
 use records::record::kind_at;
 ghost use mathlib.Core.Path.{_≡_};
-ghost use Rattle.lookahead.specs.Tests.{testAt, isKind, headsKind, marksKind, beginsKind, leafOnly, joinsKind, plainAt, overAt};
+ghost use mathlib.Core.Bool.{false, not};
+ghost use Prim.Native.Nat.{_+_};
+ghost use Rattle.tree.specs.Words.{pick};
+ghost use Rattle.lookahead.specs.Tests.{nextKind, testAt, isKind, headsKind, marksKind, beginsKind, leafOnly, joinsKind, plainAt, overAt};
 
 // The entry at i is there and of kind k.
 pub fn is_at(tok: &[u32], work: &[u32], n: usize, i: usize, k: u32) -> bool
     ensures { λ r. ⌜ r ≡ testAt (now (tok .entry)) (now (work .entry)) n (isKind k) i ⌝ }
 {
-    if i < n {
-        kind_at(tok, work, i) == k
-    } else {
-        false
+    if i >= n {
+        return false;
     }
+    kind_at(tok, work, i) == k
+}
+
+// The kind of the entry at i, or that of a Space if none is there.
+fn next_kind(tok: &[u32], work: &[u32], n: usize, i: usize) -> u32
+    ensures { λ r. ⌜ r ≡ nextKind (now (tok .entry)) (now (work .entry)) n i ⌝ }
+{
+    if i >= n {
+        return 23;
+    }
+    kind_at(tok, work, i)
 }
 
 // The entry at i heads a scripted part.
 pub fn heads_at(tok: &[u32], work: &[u32], n: usize, i: usize, sign: bool) -> bool
     ensures { λ r. ⌜ r ≡ testAt (now (tok .entry)) (now (work .entry)) n (headsKind sign) i ⌝ }
 {
-    if i < n {
-        let k = kind_at(tok, work, i);
-        if k == 16 { sign } else { k == 17 }
-    } else {
-        false
+    let k = next_kind(tok, work, n, i);
+    if k == 16 {
+        return sign;
     }
+    k == 17
 }
 
 // The entry at i marks a script.
 pub fn marks_at(tok: &[u32], work: &[u32], n: usize, i: usize) -> bool
     ensures { λ r. ⌜ r ≡ testAt (now (tok .entry)) (now (work .entry)) n marksKind i ⌝ }
 {
-    if i < n {
-        let k = kind_at(tok, work, i);
-        if k == 1 { true } else { k == 2 }
-    } else {
-        false
+    let k = next_kind(tok, work, n, i);
+    k == 1 || k == 2
+}
+
+fn begins(k: u32, stop: bool) -> bool
+    ensures { λ r. ⌜ r ≡ beginsKind stop k ⌝ }
+{
+    if k == 21 {
+        return false;
     }
+    if k == 3 {
+        return !stop;
+    }
+    k != 23
 }
 
 // The entry at i begins a simple expression.
 pub fn begins_at(tok: &[u32], work: &[u32], n: usize, i: usize, stop: bool) -> bool
     ensures { λ r. ⌜ r ≡ testAt (now (tok .entry)) (now (work .entry)) n (beginsKind stop) i ⌝ }
 {
-    if i < n {
-        let k = kind_at(tok, work, i);
-        if k == 21 {
-            false
-        } else if k == 23 {
-            false
-        } else if stop {
-            if k == 3 { false } else { true }
-        } else {
-            true
-        }
-    } else {
-        false
-    }
+    begins(next_kind(tok, work, n, i), stop)
 }
 
-// The entry at i joins what stands before it: a mark or a fraction's bar.
-fn joins_at(tok: &[u32], work: &[u32], n: usize, i: usize) -> bool
-    ensures { λ r. ⌜ r ≡ testAt (now (tok .entry)) (now (work .entry)) n joinsKind i ⌝ }
+fn is_leaf(k: u32) -> bool
+    ensures { λ r. ⌜ r ≡ leafOnly k ⌝ }
 {
-    if i < n {
-        kind_at(tok, work, i) < 3
-    } else {
-        false
+    if k < 4 {
+        return false;
     }
+    k < 16
 }
 
-// The entry at i is a leaf by its kind.
-fn is_leaf(tok: &[u32], work: &[u32], n: usize, i: usize) -> bool
-    ensures { λ r. ⌜ r ≡ testAt (now (tok .entry)) (now (work .entry)) n leafOnly i ⌝ }
+// The entry at i is a leaf by its kind, and what follows does not join it.
+fn stands_alone(tok: &[u32], work: &[u32], n: usize, i: usize) -> bool
+    ensures { λ r. ⌜ r ≡ pick (testAt (now (tok .entry)) (now (work .entry)) n leafOnly i) (not (testAt (now (tok .entry)) (now (work .entry)) n joinsKind (i + 1))) false ⌝ }
 {
-    if i < n {
-        let k = kind_at(tok, work, i);
-        if k < 4 { false } else { k < 16 }
-    } else {
-        false
+    if is_leaf(next_kind(tok, work, n, i)) {
+        return !(next_kind(tok, work, n, i + 1) < 3);
     }
+    false
 }
 
 // The entry at i is an item by itself, read at this depth.
 pub fn is_plain(tok: &[u32], work: &[u32], n: usize, depth: usize, i: usize) -> bool
     ensures { λ r. ⌜ r ≡ plainAt (now (tok .entry)) (now (work .entry)) n depth i ⌝ }
 {
-    if 255 <= depth {
+    if depth >= MAX_ITEM_DEPTH {
         return false;
     }
-    if is_leaf(tok, work, n, i) {
-        !joins_at(tok, work, n, i + 1)
-    } else {
-        false
-    }
+    stands_alone(tok, work, n, i)
 }
 
 // No item begins at i, read at this depth.
 pub fn is_over(tok: &[u32], work: &[u32], n: usize, depth: usize, stop: bool, i: usize) -> bool
     ensures { λ r. ⌜ r ≡ overAt (now (tok .entry)) (now (work .entry)) n depth stop i ⌝ }
 {
-    if 255 <= depth {
+    if depth >= MAX_ITEM_DEPTH {
         return false;
     }
     !begins_at(tok, work, n, i, stop)

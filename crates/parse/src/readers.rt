@@ -3,7 +3,6 @@ use crate::cursor::Cells;
 use crate::cursor::Close;
 use crate::cursor::Cursor;
 use crate::cursor::Items;
-use crate::cursor::MAX_DEPTH;
 use crate::cursor::Part;
 use crate::cursor::Rows;
 use crate::cursor::Scripted;
@@ -45,6 +44,7 @@ use brackets::could_be_matrix;
 use brackets::makes_matrix;
 use brackets::row_brackets;
 use brackets::same_brackets;
+use lookahead::depth::too_deep;
 use lookahead::tests::begins_at;
 use lookahead::tests::heads_at;
 use lookahead::tests::is_at;
@@ -195,7 +195,7 @@ fn next_script_func(
     ensures { λ r. ⌜ ScriptFunc (now (text .entry)) (now (tok .entry)) n (now (work .entry)) (now (work .exit)) stop sign c e (now (tree .entry)) (now (tree .exit)) r ⌝ }
 {
     let depth = c.depth;
-    if depth >= MAX_DEPTH {
+    if too_deep(depth) {
         return Step::Nothing(c);
     }
     let pos = c.pos as usize;
@@ -851,7 +851,7 @@ fn next_simple(
     ensures { λ r. ⌜ Simple (now (text .entry)) (now (tok .entry)) n (now (work .entry)) (now (work .exit)) stop sign c e (now (tree .entry)) (now (tree .exit)) r ⌝ }
 {
     let depth = c.depth;
-    if depth >= MAX_DEPTH {
+    if too_deep(depth) {
         return Step::Nothing(c);
     }
     let pos = c.pos as usize;

@@ -1,6 +1,6 @@
 -- `tests::is_over`: nothing begins there.
-use Rattle.lookahead.specs.Tests.{overAt}
 use borrow.Author.Tests.{lt-ltb, le-ltb}
+use Rattle.lookahead.specs.Tests.{overAt}
 use borrow.Author.Needs.{needs}
 use Rattle.lookahead.proofs.tests.is_over.Statement.{statement}
 use Rattle.lookahead.proofs.tests.is_over.Tie as tie
