@@ -1,10 +1,10 @@
-// How deep the readers call one another.
+// How deep the readers may call one another.
 ghost use mathlib.Core.Path.{_≡_};
 ghost use Rattle.lookahead.specs.Depth.{tooDeep};
 
 const MAX_DEPTH: u16 = 256;
 
-// An item's reader is one deeper than its row's.
+// An item at depth d is read by next_simple at d + 1.
 pub(crate) const MAX_ITEM_DEPTH: usize = MAX_DEPTH as usize - 1;
 
 // A reader of this depth finds nothing.
