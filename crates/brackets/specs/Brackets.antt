@@ -8,7 +8,7 @@ use lib.Dec.{eqb, ltb}
 use Rattle.tree.specs.Words.{pick}
 use Rattle.reading.specs.Reading.{same}
 use Rattle.records.specs.Record.{afterClose, sepWord, kindOf, startOf, lenOf}
-use Rattle.records.specs.Tests.{testAt, isKind}
+use Rattle.lookahead.specs.Tests.{testAt, isKind}
 
 -- the bytes of a span; two spans have the same; a span is this one byte
 abbrev pub bytesOf : List ℕ → ℕ → ℕ → List ℕ

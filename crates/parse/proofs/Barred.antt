@@ -19,7 +19,7 @@ use Rattle.parse.specs.declared.cursor.Part.{Part}
 use Rattle.parse.specs.declared.cursor.Items.{Items}
 use Rattle.parse.specs.Buffer.{Wrote}
 use Rattle.records.specs.Record.{marksOf}
-use Rattle.records.specs.Tests.{testAt, isKind}
+use Rattle.lookahead.specs.Tests.{testAt, isKind}
 use Rattle.brackets.specs.Brackets.{sameAt, barAt}
 use Rattle.records.specs.Marks.{isMarked, withMark}
 use Rattle.nodes.specs.Nodes.{leafEnds, leafWords, groupWords}
@@ -27,7 +27,7 @@ use Rattle.parse.specs.Entry.{Kept}
 use Rattle.records.specs.Marks as entry
 use Rattle.parse.specs.Meet.{Input, Row, At, Known, readers, Intermediates, OpenGroup, Bracket, TryMatrix, Bars, stopOf, intermediateAt, itemsAt, itemsFrom, bracketAt, onward, rewound}
 use Rattle.parse.proofs.Buffer.{push, fill, seq, back}
-use Rattle.records.proofs.Places.{test-below}
+use Rattle.lookahead.proofs.Testing.{test-below}
 use Rattle.parse.proofs.Kit.{bind, ret, at-here, if-true, if-false, tick, at-tick, row-of, kept-refl, kept-trans, advance-took}
 use Rattle.parse.proofs.Attempts.{markNumber, mark-is, set-kept, at-lost, known-lost, attempt-known, attempt-made, attempt-lost, attempt-nought}
 use Rattle.parse.proofs.Loop.{bar-is}

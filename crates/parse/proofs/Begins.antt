@@ -22,11 +22,11 @@ use Rattle.parse.specs.declared.cursor.Step.the-variants.{Found, Nothing
 use Rattle.parse.specs.declared.cursor.Part.{Part}
 use Rattle.parse.specs.Buffer.{Wrote}
 use Rattle.records.specs.Record.{kindOf}
-use Rattle.records.specs.Tests.{testAt, beginsKind}
+use Rattle.lookahead.specs.Tests.{testAt, beginsKind}
 use Rattle.nodes.specs.Nodes.{leafKind, leafClass, leafEnds, leafWords}
 use Rattle.parse.specs.Meet.{Input, Known, readers, Began, Simple, Begun, Bracket, Unary, Binary, opening, stopOf, onward, seen, inner, atDepth}
 use Rattle.parse.proofs.Buffer.{push, wrote-none}
-use Rattle.records.proofs.Places.{test-below}
+use Rattle.lookahead.proofs.Testing.{test-below}
 use Rattle.parse.proofs.Kit.{bind, ret, at-here, tick, at-tick, row-of, kept-refl, took, passed, test-kind, same-begins, level-simple}
 use Rattle.parse.proofs.Sorts.{is-Sign, is-Function, is-Unary, is-Binary, is-OpenBracket, is-OpenCloseBracket, leaf-of}
 use Rattle.parse.proofs.Scripting.{found-of}

@@ -18,10 +18,10 @@ use Rattle.reading.specs.Reading.{State, M, return, advance, any, Readers, inte
 use Rattle.parse.specs.declared.cursor.Cursor.{Cursor}
 use Rattle.parse.specs.declared.cursor.Items.{Items}
 use Rattle.parse.specs.Buffer.{Wrote}
-use Rattle.records.specs.Tests.{testAt, isKind}
+use Rattle.lookahead.specs.Tests.{testAt, isKind}
 use Rattle.parse.specs.Meet.{Input, Row, Stands, At, Known, readers, Each, Intermediates, onward, passing}
 use Rattle.parse.proofs.Buffer.{fill, seq, back, wrote-none}
-use Rattle.records.proofs.Places.{test-below}
+use Rattle.lookahead.proofs.Testing.{test-below}
 use Rattle.parse.proofs.Whole.{whole-items}
 use Rattle.parse.proofs.Kit.{bind, ret, if-true, if-false, tick, at-tick, kept-refl, kept-trans, kind-is, advance-took, advance-end, past}
 use Rattle.reading.specs.Reading as reading

@@ -15,9 +15,9 @@ use Rattle.tokens.specs.declared.token.Token.the-variants as token
 use Rattle.tokens.specs.Kinds.{numberOf}
 use Rattle.reading.specs.Entries.{Entry, is}
 use Rattle.reading.specs.Reading.{State, M, return, _>>=_, if_then_else_, here, advance, heads, marksScript, begins, stops, level, nextSimple, nextScriptFunc, step, isAt}
-use Rattle.records.proofs.Places.{test-below}
+use Rattle.lookahead.proofs.Testing.{test-below}
 use Rattle.records.specs.Record.{placeOf, isPlaced, kindOf, startOf, lenOf, spaceStart, spaceLen}
-use Rattle.records.specs.Tests.{testAt, isKind, headsKind, marksKind, beginsKind}
+use Rattle.lookahead.specs.Tests.{testAt, isKind, headsKind, marksKind, beginsKind}
 use Rattle.parse.specs.Entry.{Safe, Kept, looked}
 use Rattle.parse.specs.Meet.{Input, Row, Stands, Given, At, Known, readers, stopOf}
 

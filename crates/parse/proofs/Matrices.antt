@@ -18,14 +18,14 @@ use Rattle.parse.specs.declared.cursor.Cursor.{Cursor}
 use Rattle.parse.specs.declared.cursor.Step.the-variants.{Found, Nothing}
 use Rattle.parse.specs.Buffer.{Wrote}
 use Rattle.records.specs.Record.{afterClose, sepWord, marksOf, kindOf}
-use Rattle.records.specs.Tests.{testAt, isKind}
+use Rattle.lookahead.specs.Tests.{testAt, isKind}
 use Rattle.brackets.specs.Brackets.{byteAt, barAt, closesAt, couldBeMatrixAt, setAt, makesAt}
 use Rattle.records.specs.Marks.{isMarked, withMark}
 use Rattle.nodes.specs.Nodes.{matrixWords}
 use Rattle.parse.specs.Entry.{Kept, bit}
 use Rattle.parse.specs.Meet.{Input, Row, linkNumber, Given, At, Known, readers, Moves, Misses, Each, TryMatrix, onward, rewound}
 use Rattle.parse.proofs.Buffer.{fill, back, wrote-none}
-use Rattle.records.proofs.Places.{test-below}
+use Rattle.lookahead.proofs.Testing.{test-below}
 use Rattle.parse.proofs.Kit.{bind, ret, at-here, if-true, if-false, tick, at-tick, row-of, kept-refl, kept-trans, test-kind, same-is, past, at-some, at-none}
 use Rattle.parse.specs.declared.cursor.Cells.{Cells}
 use Rattle.columns.specs.declared.Split.{Split}

@@ -17,12 +17,12 @@ use Rattle.reading.specs.Entries.{Entry, is}
 use Rattle.reading.specs.Reading.{State, M, return, advance, any, Readers, isAt, textOf, same, isByte, Rows, joinRows, nextMatrixRow, moreRows, nextMatrixRows, alike, rowBrackets}
 use Rattle.parse.specs.declared.cursor.Cursor.{Cursor}
 use Rattle.parse.specs.Buffer.{Wrote}
-use Rattle.records.specs.Tests.{testAt, isKind}
+use Rattle.lookahead.specs.Tests.{testAt, isKind}
 use Rattle.brackets.specs.Brackets.{sameAt, byteAt}
 use Rattle.brackets.specs.Brackets as entry
 use Rattle.parse.specs.Meet.{Input, Row, Given, At, Known, readers, Each, onward}
 use Rattle.parse.proofs.Buffer.{seq, back, wrote-none}
-use Rattle.records.proofs.Places.{test-below}
+use Rattle.lookahead.proofs.Testing.{test-below}
 use Rattle.parse.proofs.Kit.{bind, ret, at-here, if-true, if-false, tick, at-tick, row-of, kept-refl, kept-trans, test-in, test-out, same-is, past, at-some, at-none}
 use Rattle.reading.specs.Reading as reading
 use Rattle.parse.specs.declared.cursor.Close.the-variants as close

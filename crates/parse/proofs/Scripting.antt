@@ -22,12 +22,12 @@ use Rattle.parse.specs.declared.cursor.Scripted as code
 use Rattle.parse.specs.declared.cursor.Items.{Items}
 use Rattle.parse.specs.Buffer.{Wrote}
 use Rattle.records.specs.Record.{startOf, lenOf}
-use Rattle.records.specs.Tests.{testAt, isKind, headsKind}
+use Rattle.lookahead.specs.Tests.{testAt, isKind, headsKind}
 use Rattle.nodes.specs.Nodes.{nodeWords, groupWords}
 use Rattle.parse.specs.Meet.{Input, Row, At, Known, readers, Finds, Simple, ScriptFunc, Term, Intermediate, Operand, Scripts, Intermediates, Headed, OpenGroup, With, wordsOf, stopOf, scriptFuncAt, onward, seen, inner, atDepth}
 use Rattle.parse.proofs.Buffer.{fill, seq, back, wrote-none}
 use Rattle.parse.proofs.Whole.{whole-items}
-use Rattle.records.proofs.Places.{test-below}
+use Rattle.lookahead.proofs.Testing.{test-below}
 use Rattle.parse.proofs.Kit.{bind, ret, if-true, if-false, tick, at-tick, row-of, kept-refl, kept-trans, took, passed, same-is, same-heads, kind-is, level-scriptFunc, deep-simple, deep-scriptFunc}
 
 pub encodes-append : (l m : Nodes) → encodes (l ⧺ m) ≡ encodes l ++ encodes m

@@ -3,9 +3,6 @@ ghost use mathlib.Core.Path.{_≡_};
 ghost use Prim.Native.Nat.{_≤_, _<_};
 ghost use Rattle.parse.specs.Meet.{onward, seen, passing, inner, atDepth, rewound};
 
-// Readers of that depth find nothing.
-pub(crate) const MAX_DEPTH: u16 = 256;
-
 // The position, the depth of the readers, and the takes so far, counted round 2^32.
 pub(crate) struct Cursor {
     pub pos: u16,

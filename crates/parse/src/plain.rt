@@ -11,7 +11,7 @@ ghost use Prim.Native.Nat.{ℕ, _+_, _≤_, _<_};
 ghost use lib.ListN.{length};
 ghost use lib.Seq.{sets};
 ghost use Rattle.records.specs.Record.{kindOf};
-ghost use Rattle.records.specs.Tests.{testAt, leafOnly, joinsKind, plainAt};
+ghost use Rattle.lookahead.specs.Tests.{testAt, leafOnly, joinsKind, plainAt};
 ghost use Rattle.nodes.specs.Nodes.{leafWords, leafEnds};
 ghost use Rattle.parse.specs.Entry.{Placed};
 ghost use Rattle.parse.specs.Meet.{onward, seen};

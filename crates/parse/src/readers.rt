@@ -3,7 +3,6 @@ use crate::cursor::Cells;
 use crate::cursor::Close;
 use crate::cursor::Cursor;
 use crate::cursor::Items;
-use crate::cursor::MAX_DEPTH;
 use crate::cursor::Part;
 use crate::cursor::Rows;
 use crate::cursor::Scripted;
@@ -45,21 +44,22 @@ use brackets::could_be_matrix;
 use brackets::makes_matrix;
 use brackets::row_brackets;
 use brackets::same_brackets;
+use lookahead::depth::too_deep;
+use lookahead::tests::begins_at;
+use lookahead::tests::heads_at;
+use lookahead::tests::is_at;
+use lookahead::tests::is_over;
+use lookahead::tests::is_plain;
+use lookahead::tests::marks_at;
 use records::marks::failed_at;
 use records::marks::mark_failed;
 use records::marks::open_mark;
 use records::record::kind_at;
-use records::tests::begins_at;
-use records::tests::heads_at;
-use records::tests::is_at;
-use records::tests::is_over;
-use records::tests::is_plain;
-use records::tests::marks_at;
 ghost use mathlib.Core.Path.{_≡_};
 ghost use mathlib.Core.Bool.{true, false};
 ghost use Prim.Native.Nat.{_≤_, _<_};
 ghost use Rattle.records.specs.Record.{kindOf};
-ghost use Rattle.records.specs.Tests.{testAt, beginsKind};
+ghost use Rattle.lookahead.specs.Tests.{testAt, beginsKind};
 ghost use Rattle.parse.specs.Meet.{Ready, Simple, ScriptFunc, Intermediate, Argument, Operand, Scripts, Intermediates, Headed, Begun, OpenGroup, Bracket, TryMatrix, Bars, Unary, Binary, Term, prefixOf, opening};
 ghost use Rattle.tree.specs.Words.{prefixKind};
 ghost use Rattle.parse.specs.Matrix.{RowCells, MatrixRow, MoreRows, MatrixRows};
@@ -195,7 +195,7 @@ fn next_script_func(
     ensures { λ r. ⌜ ScriptFunc (now (text .entry)) (now (tok .entry)) n (now (work .entry)) (now (work .exit)) stop sign c e (now (tree .entry)) (now (tree .exit)) r ⌝ }
 {
     let depth = c.depth;
-    if depth >= MAX_DEPTH {
+    if too_deep(depth) {
         return Step::Nothing(c);
     }
     let pos = c.pos as usize;
@@ -851,7 +851,7 @@ fn next_simple(
     ensures { λ r. ⌜ Simple (now (text .entry)) (now (tok .entry)) n (now (work .entry)) (now (work .exit)) stop sign c e (now (tree .entry)) (now (tree .exit)) r ⌝ }
 {
     let depth = c.depth;
-    if depth >= MAX_DEPTH {
+    if too_deep(depth) {
         return Step::Nothing(c);
     }
     let pos = c.pos as usize;

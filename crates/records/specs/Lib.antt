@@ -1,3 +1,2 @@
 pub mod Record
-pub mod Tests
 pub mod Marks

@@ -1,13 +1,21 @@
 -- `closes`: by the words of an opening bracket, or by the text of a bar.
-use Prim.Native.Nat.{_+_}
-use Rattle.records.proofs.Places.{one-less}
+use Prim.Native.Nat.{ℕ, _+_, _-_}
 use Rattle.brackets.specs.Brackets.{closesAt}
-use mathlib.Core.Path.{sym}
+use mathlib.Core.Path.{_≡_, refl, sym}
+use mathlib.Core.Bool.{Bool, true, false}
+use lib.Dec.{eqb}
 use native.Mathlib.Omega.{arith}
-use borrow.Author.Tests.{eq-eqb, ne-eqb}
+use borrow.Author.Tests.{eqb-true, eqb-false, eq-eqb, ne-eqb}
 use borrow.Author.Needs.{needs}
 use Rattle.brackets.proofs.closes.Statement.{statement}
 use Rattle.brackets.proofs.closes.Tie as tie
+
+one-less : (a b : ℕ) → (a ≡ 0 → ⊥) → eqb (a - 1) b ≡ eqb a (b + 1)
+one-less a b h = go (eqb a (b + 1)) refl
+  where
+    go : (r : Bool) → eqb a (b + 1) ≡ r → eqb (a - 1) b ≡ r
+    go true e = let z : a ≡ b + 1 = eqb-true a (b + 1) e in eq-eqb (a - 1) b (omega arith)
+    go false e = ne-eqb (a - 1) b (λ z. eqb-false a (b + 1) e (omega (arith, h)))
 
 kind-at-requires : tie.Need-kind-at-requires
 kind-at-requires c κs = search needs

@@ -1,5 +1,5 @@
 -- `could_be_matrix`: a row opens behind the bracket, and what follows it fits.
-use Rattle.records.specs.Tests.{testAt}
+use Rattle.lookahead.specs.Tests.{testAt}
 use Rattle.brackets.specs.Brackets.{couldBeMatrixAt}
 use Prim.Native.Nat.{_+_}
 use native.Mathlib.Omega.{arith}

@@ -379,6 +379,7 @@ pub +arg+bars+begun+binary+bracket+extend+headed+more-rows+next-intermediate+nex
     (next-script-func-need.uses t)
     (next-script-func-at t)
     next-script-func.Post
+    (next-script-func-need.too-deep-requires t)
     (next-script-func-need.returns t)
     (next-script-func-need.cast-pos t)
     (next-script-func-need.heads-at-requires t)
@@ -406,6 +407,7 @@ pub +arg+bars+begun+binary+bracket+extend+headed+more-rows+next-intermediate+nex
     (next-simple-need.uses t)
     (next-simple-at t)
     next-simple.Post
+    (next-simple-need.too-deep-requires t)
     (next-simple-need.returns t)
     (next-simple-need.cast-pos t)
     (next-simple-need.begins-at-requires t)

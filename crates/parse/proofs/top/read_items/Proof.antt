@@ -1,5 +1,5 @@
 use Rattle.parse.proofs.Tops.{Round, round-none, round-open, round-drop, round-wrap}
-use Rattle.records.proofs.Places.{test-below}
+use Rattle.lookahead.proofs.Testing.{test-below}
 use borrow.Author.Needs.{needs}
 use Prim.Native.Nat.{_+_, _-_}
 use native.Mathlib.Omega.{arith}

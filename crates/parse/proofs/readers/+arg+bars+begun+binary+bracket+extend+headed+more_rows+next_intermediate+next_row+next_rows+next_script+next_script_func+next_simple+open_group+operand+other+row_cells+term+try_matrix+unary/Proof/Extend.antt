@@ -5,9 +5,9 @@ use Rattle.parse.proofs.readers.next_intermediate.Reads as next-interme
 use Rattle.parse.proofs.tests.bar_after.Reads as bar-after-reads
 use Rattle.brackets.proofs.bar_at.Reads as bar-at-reads
 use Rattle.parse.proofs.write.put_space.Reads as put-space-reads
-use Rattle.records.proofs.tests.is_plain.Reads as is-plain-reads
+use Rattle.lookahead.proofs.tests.is_plain.Reads as is-plain-reads
 use Rattle.parse.proofs.plain.plain_item.Reads as plain-item-reads
-use Rattle.records.proofs.tests.is_over.Reads as is-over-reads
+use Rattle.lookahead.proofs.tests.is_over.Reads as is-over-reads
 use Rattle.parse.proofs.cursor.Cursor.look.Reads as look-reads
 use Rattle.parse.proofs.readers.+arg+bars+begun+binary+bracket+extend+headed+more_rows+next_intermediate+next_row+next_rows+next_script+next_script_func+next_simple+open_group+operand+other+row_cells+term+try_matrix+unary.Lts-extend as extend-lts
 use Rattle.parse.proofs.readers.+arg+bars+begun+binary+bracket+extend+headed+more_rows+next_intermediate+next_row+next_rows+next_script+next_script_func+next_simple+open_group+operand+other+row_cells+term+try_matrix+unary.Proof.Setting.{next-intermediate-below, extend-at}

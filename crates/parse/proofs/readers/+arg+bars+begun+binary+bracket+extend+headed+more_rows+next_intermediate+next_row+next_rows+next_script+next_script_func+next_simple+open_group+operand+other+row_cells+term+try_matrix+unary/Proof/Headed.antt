@@ -3,7 +3,7 @@ use Prim.Native.Nat.{ℕ}
 use Rattle.parse.proofs.readers.headed.Reads as headed
 use Rattle.parse.proofs.readers.next_script.Reads as next-script
 use Rattle.parse.proofs.readers.operand.Reads as operand
-use Rattle.records.proofs.tests.is_at.Reads as is-at-reads
+use Rattle.lookahead.proofs.tests.is_at.Reads as is-at-reads
 use Rattle.parse.proofs.write.put_node.Reads as put-node-reads
 use Rattle.parse.proofs.readers.+arg+bars+begun+binary+bracket+extend+headed+more_rows+next_intermediate+next_row+next_rows+next_script+next_script_func+next_simple+open_group+operand+other+row_cells+term+try_matrix+unary.Lts-headed as headed-lts
 use Rattle.parse.proofs.readers.+arg+bars+begun+binary+bracket+extend+headed+more_rows+next_intermediate+next_row+next_rows+next_script+next_script_func+next_simple+open_group+operand+other+row_cells+term+try_matrix+unary.Proof.Setting.{next-script-below, operand-below, headed-at}

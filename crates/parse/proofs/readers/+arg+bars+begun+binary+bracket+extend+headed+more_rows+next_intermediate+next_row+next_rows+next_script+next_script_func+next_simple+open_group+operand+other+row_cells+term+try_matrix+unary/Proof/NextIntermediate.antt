@@ -5,14 +5,14 @@ use Rattle.parse.proofs.readers.next_script_func.Reads as next-script-f
 use Rattle.parse.proofs.readers.operand.Reads as operand
 use Rattle.parse.proofs.cursor.Cursor.look.Reads as look-reads
 use Rattle.parse.proofs.cursor.Cursor.next.Reads as next-reads
-use Rattle.records.proofs.tests.is_at.Reads as is-at-reads
+use Rattle.lookahead.proofs.tests.is_at.Reads as is-at-reads
 use Rattle.parse.proofs.write.put1.Reads as put1-reads
 use Rattle.parse.proofs.readers.+arg+bars+begun+binary+bracket+extend+headed+more_rows+next_intermediate+next_row+next_rows+next_script+next_script_func+next_simple+open_group+operand+other+row_cells+term+try_matrix+unary.Lts-next_intermediate as next-intermediate-lts
 use Rattle.parse.proofs.readers.+arg+bars+begun+binary+bracket+extend+headed+more_rows+next_intermediate+next_row+next_rows+next_script+next_script_func+next_simple+open_group+operand+other+row_cells+term+try_matrix+unary.Proof.Setting.{next-script-func-below, operand-below, next-intermediate-at}
 use mathlib.Core.Path.{_≡_, sym, ap, _∙_}
 use native.Mathlib.Omega.{arith}
 use borrow.Author.Needs.{needs}
-use Rattle.records.proofs.Places.{test-below}
+use Rattle.lookahead.proofs.Testing.{test-below}
 use Rattle.parse.proofs.Kit.{safe-kept}
 use Rattle.parse.proofs.Scripting.{item-nothing, item-plain, item-over}
 use mathlib.Core.List.{[], _∷_}

@@ -4,13 +4,13 @@ use Rattle.parse.proofs.readers.next_row.Reads as next-row
 use Rattle.parse.proofs.readers.row_cells.Reads as row-cells
 use Rattle.parse.proofs.cursor.Cursor.next.Reads as next-reads
 use Rattle.parse.proofs.cursor.Cursor.over.Reads as over-reads
-use Rattle.records.proofs.tests.is_at.Reads as is-at-reads
+use Rattle.lookahead.proofs.tests.is_at.Reads as is-at-reads
 use Rattle.parse.proofs.readers.+arg+bars+begun+binary+bracket+extend+headed+more_rows+next_intermediate+next_row+next_rows+next_script+next_script_func+next_simple+open_group+operand+other+row_cells+term+try_matrix+unary.Lts-next_row as next-row-lts
 use Rattle.parse.proofs.readers.+arg+bars+begun+binary+bracket+extend+headed+more_rows+next_intermediate+next_row+next_rows+next_script+next_script_func+next_simple+open_group+operand+other+row_cells+term+try_matrix+unary.Proof.Setting.{row-cells-below, next-row-at}
 use mathlib.Core.Path.{_≡_, sym, _∙_}
 use native.Mathlib.Omega.{arith}
 use borrow.Author.Needs.{needs}
-use Rattle.records.proofs.Places.{test-below}
+use Rattle.lookahead.proofs.Testing.{test-below}
 use Rattle.parse.proofs.Cells.{row-met, row-none}
 
 abbrev pub uses : ℕ → next-row-lts.Claims

@@ -4,15 +4,15 @@ use Rattle.parse.proofs.readers.next_script.Reads as next-script
 use Rattle.parse.proofs.readers.arg.Reads as arg
 use Rattle.parse.proofs.cursor.Cursor.look.Reads as look-reads
 use Rattle.parse.proofs.cursor.Cursor.next.Reads as next-reads
-use Rattle.records.proofs.tests.is_at.Reads as is-at-reads
-use Rattle.records.proofs.tests.marks_at.Reads as marks-at-reads
+use Rattle.lookahead.proofs.tests.is_at.Reads as is-at-reads
+use Rattle.lookahead.proofs.tests.marks_at.Reads as marks-at-reads
 use Rattle.parse.proofs.readers.+arg+bars+begun+binary+bracket+extend+headed+more_rows+next_intermediate+next_row+next_rows+next_script+next_script_func+next_simple+open_group+operand+other+row_cells+term+try_matrix+unary.Lts-next_script as next-script-lts
 use Rattle.parse.proofs.readers.+arg+bars+begun+binary+bracket+extend+headed+more_rows+next_intermediate+next_row+next_rows+next_script+next_script_func+next_simple+open_group+operand+other+row_cells+term+try_matrix+unary.Proof.Setting.{arg-below, next-script-at}
 use mathlib.Core.Path.{_≡_, sym, _∙_}
 use native.Mathlib.Omega.{arith}
 use borrow.Author.Needs.{needs}
-use Rattle.records.specs.Tests.{isKind, marksKind}
-use Rattle.records.proofs.Places.{test-below}
+use Rattle.lookahead.specs.Tests.{isKind, marksKind}
+use Rattle.lookahead.proofs.Testing.{test-below}
 use Rattle.parse.proofs.Kit.{safe-kept}
 use Rattle.parse.proofs.Arms.{scripts-none, scripts-super, scripts-sub, scripts-both}
 

@@ -4,15 +4,15 @@ use Rattle.parse.proofs.readers.extend.Reads as extend
 use Rattle.parse.proofs.readers.open_group.Reads as open-group
 use Rattle.parse.proofs.cursor.Cursor.look.Reads as look-reads
 use Rattle.parse.proofs.cursor.Cursor.next.Reads as next-reads
-use Rattle.records.proofs.tests.is_at.Reads as is-at-reads
+use Rattle.lookahead.proofs.tests.is_at.Reads as is-at-reads
 use Rattle.parse.proofs.write.put_group.Reads as put-group-reads
 use Rattle.parse.proofs.readers.+arg+bars+begun+binary+bracket+extend+headed+more_rows+next_intermediate+next_row+next_rows+next_script+next_script_func+next_simple+open_group+operand+other+row_cells+term+try_matrix+unary.Lts-open_group as open-group-lts
 use Rattle.parse.proofs.readers.+arg+bars+begun+binary+bracket+extend+headed+more_rows+next_intermediate+next_row+next_rows+next_script+next_script_func+next_simple+open_group+operand+other+row_cells+term+try_matrix+unary.Proof.Setting.{extend-below, open-group-at}
 use mathlib.Core.Path.{sym, _∙_}
 use native.Mathlib.Omega.{arith}
 use borrow.Author.Needs.{needs}
-use Rattle.records.specs.Tests.{isKind}
-use Rattle.records.proofs.Places.{test-below}
+use Rattle.lookahead.specs.Tests.{isKind}
+use Rattle.lookahead.proofs.Testing.{test-below}
 use Rattle.parse.proofs.Scripting.{group-shut, group-open}
 
 abbrev pub uses : ℕ → open-group-lts.Claims

@@ -4,13 +4,13 @@ use Prim.Native.Nat.{ℕ, _+_, _-_}
 use Rattle.parse.proofs.readers.extend.Reads as extend
 use Rattle.parse.proofs.readers.row_cells.Reads as row-cells
 use Rattle.parse.proofs.cursor.Cursor.over.Reads as over-reads
-use Rattle.records.proofs.tests.is_at.Reads as is-at-reads
+use Rattle.lookahead.proofs.tests.is_at.Reads as is-at-reads
 use Rattle.parse.proofs.write.put6.Reads as put6-reads
 use Rattle.parse.proofs.readers.+arg+bars+begun+binary+bracket+extend+headed+more_rows+next_intermediate+next_row+next_rows+next_script+next_script_func+next_simple+open_group+operand+other+row_cells+term+try_matrix+unary.Lts-row_cells as row-cells-lts
 use Rattle.parse.proofs.readers.+arg+bars+begun+binary+bracket+extend+headed+more_rows+next_intermediate+next_row+next_rows+next_script+next_script_func+next_simple+open_group+operand+other+row_cells+term+try_matrix+unary.Proof.Setting.{extend-below, row-cells-at}
 use mathlib.Core.Path.{_≡_, refl, sym, ap, _∙_}
 use native.Mathlib.Omega.{arith}
-use Rattle.records.proofs.Places.{test-below}
+use Rattle.lookahead.proofs.Testing.{test-below}
 use Rattle.parse.proofs.Whole.{whole-items}
 use Rattle.parse.proofs.Kit.{safe-kept, some-at}
 use Rattle.parse.proofs.Cells.{Inv, cells-none, cells-more, cells-shut, cells-broken, passing-in}

@@ -1,0 +1,72 @@
+-- What a test of an entry by its kind says.
+use Prim.Native.Nat.{ℕ, _<_}
+use mathlib.Core.Path.{_≡_, refl, sym, ap, _∙_}
+use mathlib.Core.Bool.{Bool, true, false, not, _&&_, _||_}
+use mathlib.Core.List.{List}
+use lib.Dec.{eqb, ltb}
+use native.Mathlib.Omega.{arith}
+use borrow.Author.Tests.{ltb-true, ne-eqb}
+use Rattle.tree.specs.Words.{pick}
+use Rattle.records.specs.Record.{kindOf}
+use Rattle.lookahead.specs.Tests.{nextKind, testAt, headsKind, marksKind, beginsKind}
+
+-- A test that holds says that the entry is there.
+pub test-below : (t K : List ℕ) (n : ℕ) (f : ℕ → Bool) (i : ℕ) → testAt t K n f i ≡ true → i < n
+unfolding testAt
+test-below t K n f i h = go (ltb i n) refl h
+  where
+    go : (b : Bool) → ltb i n ≡ b → pick b (f (kindOf t K i)) false ≡ true → i < n
+    go true e k = ltb-true i n e
+    go false e k = let z : _≡_ {A = ℕ} 0 1 = cc in absurd (omega arith)
+
+-- A test that a Space fails, of the next kind.
+pub test-next : (t K : List ℕ) (n : ℕ) (f : ℕ → Bool) (i : ℕ) {k : ℕ} → f 23 ≡ false → k ≡ nextKind t K n i → f k ≡ testAt t K n f i
+unfolding testAt nextKind
+test-next t K n f i {k} h e = ap f e ∙ go (ltb i n)
+  where
+    go : (b : Bool) → f (pick b (kindOf t K i) 23) ≡ pick b (f (kindOf t K i)) false
+    go true = refl
+    go false = h
+
+never : (b : Bool) → (b && false) ≡ false
+never true = refl
+never false = refl
+
+always : (b : Bool) → (b && true) ≡ b
+always true = refl
+always false = refl
+
+either : (a b : Bool) → (a || (b && false)) ≡ a
+either true b = refl
+either false b = never b
+
+-- A head is a sign where one prefixes, or a function.
+module _ (sg : Bool) where
+  pub no-head : headsKind sg 23 ≡ false
+  no-head = never sg
+
+  module _ (k : ℕ) where
+    pub by-sign : k ≡ 16 → sg ≡ headsKind sg k
+    by-sign h = rw h (sym (always sg))
+
+    pub by-function : (k ≡ 16 → ⊥) → eqb k 17 ≡ headsKind sg k
+    by-function h = rw (ne-eqb k 16 h) (sym (either (eqb k 17) sg))
+
+-- A script's mark is Super or Sub.
+module _ (k : ℕ) where
+  pub by-super : k ≡ 1 → eqb k 1 ≡ marksKind k
+  by-super h = rw h
+
+  pub by-sub : (k ≡ 1 → ⊥) → eqb k 2 ≡ marksKind k
+  by-sub h = rw (ne-eqb k 1 h)
+
+-- An item begins but at a closing bracket, at a Sep where it stops, and where there is no entry.
+module _ (stop : Bool) (k : ℕ) where
+  pub at-closing : k ≡ 21 → false ≡ beginsKind stop k
+  at-closing h = rw h
+
+  pub at-sep : k ≡ 3 → not stop ≡ beginsKind stop k
+  at-sep h = rw h (ap not (sym (always stop)))
+
+  pub at-other : (k ≡ 21 → ⊥) → (k ≡ 3 → ⊥) → not (eqb k 23) ≡ beginsKind stop k
+  at-other h l = rw (ne-eqb k 21 h, ne-eqb k 3 l) (ap not (sym (either (eqb k 23) stop)))

@@ -1,0 +1,105 @@
+// Tests of an entry by its kind. n is the number of entries.
+use crate::depth::MAX_ITEM_DEPTH;
+use records::record::kind_at;
+ghost use mathlib.Core.Path.{_≡_};
+ghost use mathlib.Core.Bool.{false, not};
+ghost use Prim.Native.Nat.{_+_};
+ghost use Rattle.tree.specs.Words.{pick};
+ghost use Rattle.lookahead.specs.Tests.{nextKind, testAt, isKind, headsKind, marksKind, beginsKind, leafOnly, joinsKind, plainAt, overAt};
+
+// The entry at i is there and of kind k.
+pub fn is_at(tok: &[u32], work: &[u32], n: usize, i: usize, k: u32) -> bool
+    ensures { λ r. ⌜ r ≡ testAt (now (tok .entry)) (now (work .entry)) n (isKind k) i ⌝ }
+{
+    if i >= n {
+        return false;
+    }
+    kind_at(tok, work, i) == k
+}
+
+// The kind of the entry at i, or that of a Space if none is there.
+fn next_kind(tok: &[u32], work: &[u32], n: usize, i: usize) -> u32
+    ensures { λ r. ⌜ r ≡ nextKind (now (tok .entry)) (now (work .entry)) n i ⌝ }
+{
+    if i >= n {
+        return 23;
+    }
+    kind_at(tok, work, i)
+}
+
+// The entry at i heads a scripted part.
+pub fn heads_at(tok: &[u32], work: &[u32], n: usize, i: usize, sign: bool) -> bool
+    ensures { λ r. ⌜ r ≡ testAt (now (tok .entry)) (now (work .entry)) n (headsKind sign) i ⌝ }
+{
+    let k = next_kind(tok, work, n, i);
+    if k == 16 {
+        return sign;
+    }
+    k == 17
+}
+
+// The entry at i marks a script.
+pub fn marks_at(tok: &[u32], work: &[u32], n: usize, i: usize) -> bool
+    ensures { λ r. ⌜ r ≡ testAt (now (tok .entry)) (now (work .entry)) n marksKind i ⌝ }
+{
+    let k = next_kind(tok, work, n, i);
+    k == 1 || k == 2
+}
+
+fn begins(k: u32, stop: bool) -> bool
+    ensures { λ r. ⌜ r ≡ beginsKind stop k ⌝ }
+{
+    if k == 21 {
+        return false;
+    }
+    if k == 3 {
+        return !stop;
+    }
+    k != 23
+}
+
+// The entry at i begins a simple expression.
+pub fn begins_at(tok: &[u32], work: &[u32], n: usize, i: usize, stop: bool) -> bool
+    ensures { λ r. ⌜ r ≡ testAt (now (tok .entry)) (now (work .entry)) n (beginsKind stop) i ⌝ }
+{
+    begins(next_kind(tok, work, n, i), stop)
+}
+
+fn is_leaf(k: u32) -> bool
+    ensures { λ r. ⌜ r ≡ leafOnly k ⌝ }
+{
+    if k < 4 {
+        return false;
+    }
+    k < 16
+}
+
+// The entry at i is a leaf by its kind, and what follows does not join it.
+fn stands_alone(tok: &[u32], work: &[u32], n: usize, i: usize) -> bool
+    ensures { λ r. ⌜ r ≡ pick (testAt (now (tok .entry)) (now (work .entry)) n leafOnly i) (not (testAt (now (tok .entry)) (now (work .entry)) n joinsKind (i + 1))) false ⌝ }
+{
+    if is_leaf(next_kind(tok, work, n, i)) {
+        return !(next_kind(tok, work, n, i + 1) < 3);
+    }
+    false
+}
+
+// The entry at i is an item by itself, read at this depth.
+pub fn is_plain(tok: &[u32], work: &[u32], n: usize, depth: usize, i: usize) -> bool
+    ensures { λ r. ⌜ r ≡ plainAt (now (tok .entry)) (now (work .entry)) n depth i ⌝ }
+{
+    if depth >= MAX_ITEM_DEPTH {
+        return false;
+    }
+    stands_alone(tok, work, n, i)
+}
+
+// No item begins at i, read at this depth.
+pub fn is_over(tok: &[u32], work: &[u32], n: usize, depth: usize, stop: bool, i: usize) -> bool
+    ensures { λ r. ⌜ r ≡ overAt (now (tok .entry)) (now (work .entry)) n depth stop i ⌝ }
+{
+    if depth >= MAX_ITEM_DEPTH {
+        return false;
+    }
+    !begins_at(tok, work, n, i, stop)
+}
