@@ -1,3 +1,1 @@
-pub mod Stores
-pub mod Moves
-pub mod Gaps
+mod Gaps

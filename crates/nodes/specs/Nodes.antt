@@ -1,35 +1,15 @@
 -- The words of the nodes that the readers write, by the entries' words. t are the words of the token table, K the work words, n
 -- the number of entries.
-use Prim.Native.Nat.{ℕ, _-_}
+use Prim.Native.Nat.{ℕ}
 use mathlib.Core.List.{List, [], _∷_}
-use mathlib.Core.Bool.{Bool, true, false}
+use mathlib.Core.Bool.{Bool}
 use lib.Dec.{eqb, ltb}
 use Rattle.tree.specs.Words.{pick}
 use Rattle.records.specs.Record.{startOf, lenOf, spaceStart, spaceLen}
 
--- a leaf's node kind (Number to Operator 1 to 4, Sign 5, any other token a symbol, 7), its class, and whether it ends an operand, by
--- the kind of its token
-abbrev pub leafKind : ℕ → ℕ
-leafKind k = pick (ltb k 4) 7 (pick (ltb k 8) (k - 3) (pick (ltb k 16) 7 (pick (eqb k 16) 5 7)))
-
-abbrev pub leafClass : ℕ → ℕ
-leafClass k = pick (eqb k 3) 7 (pick (ltb k 8) 0 (pick (ltb k 16) (k - 8) 0))
-
-abbrev pub leafEnds : ℕ → Bool
-leafEnds k =
-    pick (ltb k 3) true
-    (pick (eqb k 3) false (pick (ltb k 7) true (pick (ltb k 8) false (pick (ltb k 10) true (pick (ltb k 22) false true)))))
-
 -- a node of the entry i, of this kind and with this word
 abbrev pub nodeWords : List ℕ → List ℕ → ℕ → ℕ → ℕ → List ℕ
 nodeWords t K i kind extra = kind ∷ startOf t K i ∷ lenOf t K i ∷ extra ∷ 0 ∷ 0 ∷ []
-
-abbrev pub leafWords : List ℕ → List ℕ → ℕ → ℕ → List ℕ
-leafWords t K i k = nodeWords t K i (leafKind k) (leafClass k)
-
--- the item that is this leaf alone, in a simple part without script
-abbrev pub plainWords : List ℕ → List ℕ → ℕ → ℕ → List ℕ
-plainWords t K i k = 0 ∷ 13 ∷ 0 ∷ 0 ∷ 0 ∷ 0 ∷ 0 ∷ leafWords t K i k
 
 -- a group from the bracket i to the bracket j; to none, if j is no entry: "An empty bracket that stands for no token is start 0,
 -- length 0."

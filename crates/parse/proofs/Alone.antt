@@ -14,9 +14,9 @@ use Rattle.parse.specs.declared.cursor.Part.{Part}
 use Rattle.parse.specs.declared.cursor.Step.the-variants.{Found, Nothing}
 use Rattle.records.specs.Record.{kindOf}
 use Rattle.lookahead.specs.Tests.{testAt, isKind, headsKind, marksKind, beginsKind, leafOnly, joinsKind, plainAt, overAt}
-use Rattle.nodes.specs.Buffer.{stored}
-use Rattle.nodes.specs.Nodes.{leafWords, leafEnds, plainWords}
-use Rattle.nodes.proofs.Stores.{stored-in}
+use Rattle.buffer.specs.Buffer.{stored}
+use Rattle.leaves.specs.Leaves.{leafWords, leafEnds, plainWords}
+use Rattle.buffer.proofs.Stores.{stored-in}
 use Rattle.parse.specs.Meet.{Known, Intermediate, ScriptFunc, onward, seen, inner}
 use Rattle.lookahead.proofs.Testing.{test-below}
 use Rattle.parse.proofs.Kit.{test-kind, test-in, test-out}

@@ -22,7 +22,8 @@ use Rattle.records.specs.Record.{marksOf}
 use Rattle.lookahead.specs.Tests.{testAt, isKind}
 use Rattle.brackets.specs.Brackets.{sameAt, barAt}
 use Rattle.records.specs.Marks.{isMarked, withMark}
-use Rattle.nodes.specs.Nodes.{leafEnds, leafWords, groupWords}
+use Rattle.leaves.specs.Leaves.{leafEnds, leafWords}
+use Rattle.nodes.specs.Nodes.{groupWords}
 use Rattle.parse.specs.Entry.{Kept}
 use Rattle.records.specs.Marks as entry
 use Rattle.parse.specs.Meet.{Input, Row, At, Known, readers, Intermediates, OpenGroup, Bracket, TryMatrix, Bars, stopOf, intermediateAt, itemsAt, itemsFrom, bracketAt, onward, rewound}

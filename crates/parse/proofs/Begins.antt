@@ -23,7 +23,7 @@ use Rattle.parse.specs.declared.cursor.Part.{Part}
 use Rattle.parse.specs.Buffer.{Wrote}
 use Rattle.records.specs.Record.{kindOf}
 use Rattle.lookahead.specs.Tests.{testAt, beginsKind}
-use Rattle.nodes.specs.Nodes.{leafKind, leafClass, leafEnds, leafWords}
+use Rattle.leaves.specs.Leaves.{leafKind, leafClass, leafEnds, leafWords}
 use Rattle.parse.specs.Meet.{Input, Known, readers, Began, Simple, Begun, Bracket, Unary, Binary, opening, stopOf, onward, seen, inner, atDepth}
 use Rattle.parse.proofs.Buffer.{push, wrote-none}
 use Rattle.lookahead.proofs.Testing.{test-below}

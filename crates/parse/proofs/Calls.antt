@@ -14,6 +14,8 @@ use Rattle.tokens.specs.Lexeme.{Lexeme}
 use Rattle.lexing.specs.Rules.{tokens}
 use Rattle.tokens.specs.Table.{tableWords, tokenList, countOthers}
 use Rattle.tokens.specs.Refusals.{Answer, accepted, refused, textRefusal, listRefusal}
+use Rattle.refusals.specs.Room.{roomRefusal}
+use Rattle.refusals.proofs.Lengths.{work-short, tree-short, room-enough}
 use Rattle.tokenizer.specs.Call as call
 use Rattle.tokens.proofs.Cases.{by-lt, by-option}
 use Rattle.tokens.proofs.TokenList.{others-few}
@@ -34,29 +36,15 @@ use Rattle.parse.specs.declared.top.Reading.{Reading}
 use Rattle.parse.specs.Entry.{bit}
 use Rattle.parse.specs.Meet.{Given}
 use Rattle.parse.specs.Top.{TopReady, Reads}
-use Rattle.parse.specs.Call.{listAnswerOf, roomRefusal, parseRefusal, parseTokensRefusal, values, workAfter, treeAfter, parsedText, parsedTokens}
+use Rattle.parse.specs.Call.{listAnswerOf, parseRefusal, parseTokensRefusal, values, workAfter, treeAfter, parsedText, parsedTokens}
 use Rattle.parse.proofs.Records.{inputOf, given, top-ready}
 
--- 8 and 9
-module _ (ts : List Lexeme) (work tree : ℕ) where
-  pub work-short : work < 4 * (countOthers ts + 1) → roomRefusal ts work tree ≡ some 8
-  unfolding roomRefusal
-  work-short h = rw (lt-ltb work (4 * (countOthers ts + 1)) h, roomRefusal)
-
-  module _ (w : 4 * (countOthers ts + 1) ≤ work) where
-    pub tree-short : tree < 32 * (countOthers ts + 1) → roomRefusal ts work tree ≡ some 9
-    unfolding roomRefusal
-    tree-short h = rw (le-ltb work (4 * (countOthers ts + 1)) w, roomRefusal) (rw (lt-ltb tree (32 * (countOthers ts + 1)) h))
-
-    pub room-enough : 32 * (countOthers ts + 1) ≤ tree → roomRefusal ts work tree ≡ none
-    unfolding roomRefusal
-    room-enough h = rw (le-ltb work (4 * (countOthers ts + 1)) w, roomRefusal) (rw (le-ltb tree (32 * (countOthers ts + 1)) h))
-
-  has-room : roomRefusal ts work tree ≡ none → (4 * (countOthers ts + 1) ≤ work) × (32 * (countOthers ts + 1) ≤ tree)
-  has-room p =
-      by-lt work (4 * (countOthers ts + 1))
-      (λ l. met p (work-short l))
-      (λ w. by-lt tree (32 * (countOthers ts + 1)) (λ l. met p (tree-short w l)) (λ t. (w, t)))
+-- 8 and 9: the buffers' words, where neither is met
+has-room : (n work tree : ℕ) → roomRefusal n work tree ≡ none → (4 * (n + 1) ≤ work) × (32 * (n + 1) ≤ tree)
+has-room n work tree p =
+    by-lt work (4 * (n + 1))
+    (λ l. met p (work-short n work tree l))
+    (λ w. by-lt tree (32 * (n + 1)) (λ l. met p (tree-short n work tree w l)) (λ t. (w, t)))
 
 -- two answers that are not one
 pub apart : {A : Type 0} → _≡_ {A = ℕ} 0 1 → A
@@ -79,23 +67,20 @@ module _ (text table : List ℕ) (count : ℕ) (r : Checked) (c : r ≡ checked 
       (λ j e. let p = case-refused j e in let n : j ≡ k = cc in e ∙ ap some n)
 
   pub checked-accepted : (n : ℕ) → r ≡ list.Accepted n
-      → (listRefusal text count table ≡ none) × (n ≡ countOthers (tokenList count table)) × (n ≤ 4096)
+      → (listRefusal text count table ≡ none) × (n ≡ countOthers (tokenList count table))
   checked-accepted n q =
       by-option (listRefusal text count table)
-      (λ e.
-      let p = case-accepted e in
-      let m : n ≡ countOthers (tokenList count table) = cc in
-      (e, m, omega (arith, m, others-few count table, lists.accepted text count table e .few)))
+      (λ e. let p = case-accepted e in (e, cc))
       (λ j e. let p = case-refused j e in apart cc)
 
 -- the records of an accepted list
 module _ (text table : List ℕ) (count : ℕ) (work tree : List ℕ) (ok : listRefusal text count table ≡ none)
-    (fit : roomRefusal (tokenList count table) (length work) (length tree) ≡ none) where
+    (fit : roomRefusal (countOthers (tokenList count table)) (length work) (length tree) ≡ none) where
   prepared-is : prepared table count work ≡ (records.Entries (countOthers (tokenList count table)), workWords (tokenList count table) ++ drop (4 * countOthers (tokenList count table)) work)
   unfolding prepared
   prepared-is =
       let a = lists.accepted text count table ok in
-      let h = has-room (tokenList count table) (length work) (length tree) fit in
+      let h = has-room (countOthers (tokenList count table)) (length work) (length tree) fit in
       rw (le-ltb 4096 count (a .few), prepared)
       (rw (le-ltb (length table) (3 * count) (a .words))
       (rw (le-ltb (length work) (4 * (countOthers (tokenList count table) + 1)) (h .0))))
@@ -116,7 +101,7 @@ module _ (text table : List ℕ) (count : ℕ) (work tree : List ℕ) (ok : list
 
       pub ready : length K ≡ length work → TopReady n text table K tree
       ready l =
-          let h = has-room (tokenList count table) (length work) (length tree) fit in
+          let h = has-room (countOthers (tokenList count table)) (length work) (length tree) fit in
           subst (λ (m : ℕ). TopReady m text table K tree) (sym n-is)
           (top-ready text table count ok K _ words (omega (arith, l)) tree (h .1))
 
@@ -148,20 +133,20 @@ module _ (text table : List ℕ) (count : ℕ) (work tree : List ℕ) where
   list-refused k e = list-turned-back k (rw (e, parseTokensRefusal))
 
   module _ (ok : listRefusal text count table ≡ none) where
-    room-decides : parseTokensRefusal text table count (length work) (length tree) ≡ roomRefusal (tokenList count table) (length work) (length tree)
+    room-decides : parseTokensRefusal text table count (length work) (length tree) ≡ roomRefusal (countOthers (tokenList count table)) (length work) (length tree)
     unfolding parseTokensRefusal
     room-decides = rw (ok, parseTokensRefusal)
 
-    pub room-refused : (k : ℕ) → roomRefusal (tokenList count table) (length work) (length tree) ≡ some k
+    pub room-refused : (k : ℕ) → roomRefusal (countOthers (tokenList count table)) (length work) (length tree) ≡ some k
         → _≡_ {A = Answer × List ℕ × List ℕ} (refused k, work, tree) (parsedTokens text table count work tree)
     room-refused k e = list-turned-back k (room-decides ∙ e)
 
-    pub list-read : roomRefusal (tokenList count table) (length work) (length tree) ≡ none
+    pub list-read : roomRefusal (countOthers (tokenList count table)) (length work) (length tree) ≡ none
         → parsedTokens text table count work tree
         ≡ (accepted (values text (tokenList count table)), workAfter (length work), treeAfter text (tokenList count table) (length tree))
     list-read e = list-taken (room-decides ∙ e)
 
-    pub reads-list : roomRefusal (tokenList count table) (length work) (length tree) ≡ none
+    pub reads-list : roomRefusal (countOthers (tokenList count table)) (length work) (length tree) ≡ none
         → (r : Reading) (L y : List ℕ) → Reads (inputOf text (tokenList count table)) (length tree) y r → L ≡ replicate (length work) 0
         → _≡_ {A = Answer × List ℕ × List ℕ} (accepted (r .takes ∷ r .items ∷ bit (eqb (r .items) 0) ∷ []), L, y)
         (parsedTokens text table count work tree)
@@ -187,11 +172,11 @@ module _ (text : List ℕ) (table work tree : ℕ) where
     unfolding parseRefusal
     table-short h = rw (ok, parseRefusal) (rw (lt-ltb table (3 * length (tokens text)) h))
 
-    pub table-long : 3 * length (tokens text) ≤ table → parseRefusal text table work tree ≡ roomRefusal (tokens text) work tree
+    pub table-long : 3 * length (tokens text) ≤ table → parseRefusal text table work tree ≡ roomRefusal (countOthers (tokens text)) work tree
     unfolding parseRefusal
     table-long h = rw (ok, parseRefusal) (rw (le-ltb table (3 * length (tokens text)) h))
 
-    pub none-short : parseRefusal text table work tree ≡ none → (3 * length (tokens text) ≤ table) × (roomRefusal (tokens text) work tree ≡ none)
+    pub none-short : parseRefusal text table work tree ≡ none → (3 * length (tokens text) ≤ table) × (roomRefusal (countOthers (tokens text)) work tree ≡ none)
     none-short p =
         by-lt table (3 * length (tokens text))
         (λ l. met p (table-short l))
@@ -288,12 +273,12 @@ module _ (text table work tree : List ℕ) where
             by-lt (length work) (4 * (m + 1))
             (λ w.
             rw (n, lacks .0 w)
-            (text-turned-back 8 (table-long text _ _ _ ok h ∙ work-short (tokens text) (length work) (length tree) (omega (arith, w, m-is)))))
+            (text-turned-back 8 (table-long text _ _ _ ok h ∙ work-short (countOthers (tokens text)) (length work) (length tree) (omega (arith, w, m-is)))))
             (λ w.
             let tight : length tree / 32 ≤ m = omega (arith, b .2 (omega (arith, w, l, m-is)), l, m-is) in
             rw (n, lacks .1 w)
             (text-turned-back 9 (table-long text _ _ _ ok h
-            ∙ tree-short (tokens text) (length work) (length tree) (omega (arith, w, m-is)) (omega (arith, tight, m-is)))))
+            ∙ tree-short (countOthers (tokens text)) (length work) (length tree) (omega (arith, w, m-is)) (omega (arith, tight, m-is)))))
 
     module _ (m others : ℕ) (q : r ≡ under.Tokens m others)
         (b : (room ≤ length work / 4) × (room ≤ length tree / 32) × (room < length work / 4 → length tree / 32 ≤ room)) where
@@ -323,8 +308,8 @@ module _ (text table work tree : List ℕ) where
       next-is : next ≡ tableWords (tokens text) ++ drop (3 * length (tokens text)) table
       next-is = facts .next-is
 
-      fits : roomRefusal (tokens text) (length work) (length tree) ≡ none
-      fits = room-enough (tokens text) (length work) (length tree) (omega (arith, b, facts .few)) (omega (arith, b, facts .few))
+      fits : roomRefusal (countOthers (tokens text)) (length work) (length tree) ≡ none
+      fits = room-enough (countOthers (tokens text)) (length work) (length tree) (omega (arith, b, facts .few)) (omega (arith, b, facts .few))
 
       enough : parseRefusal text (length table) (length work) (length tree) ≡ none
       enough = table-long text (length table) (length work) (length tree) ok (facts .long) ∙ fits
@@ -335,7 +320,7 @@ module _ (text table work tree : List ℕ) where
       pub list-accepted : listRefusal text m next ≡ none
       list-accepted = rw (m-is, next-is) (accepted-list text (drop (3 * length (tokens text)) table) ok)
 
-      pub list-fits : roomRefusal (tokenList m next) (length work) (length tree) ≡ none
+      pub list-fits : roomRefusal (countOthers (tokenList m next)) (length work) (length tree) ≡ none
       list-fits = rw list-is fits
 
       module _ (a : ParsedTokens) (L y : List ℕ) (d : (listAnswerOf a, L, y) ≡ parsedTokens text next m work tree) where

@@ -7,9 +7,9 @@ use native.Mathlib.Omega.{arith}
 use lib.ListN.{length}
 use lib.Dec.{eqb}
 use Rattle.records.specs.Record.{spaceStart, spaceLen}
-use Rattle.nodes.specs.Buffer.{stored}
+use Rattle.buffer.specs.Buffer.{stored}
 use Rattle.nodes.specs.Nodes.{gapLen, gapWords, gapItems}
-use Rattle.nodes.proofs.Stores.{stored-in, stored-none}
+use Rattle.buffer.proofs.Stores.{stored-in, stored-none}
 use Rattle.parse.specs.Meet.{Gapped}
 use Rattle.parse.proofs.Buffer.{push, wrote-none}
 

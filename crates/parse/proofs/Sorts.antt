@@ -13,7 +13,7 @@ use Rattle.tree.specs.Tree.{Head, Atom, leaf}
 use Rattle.tree.specs.Words.{atomKind, classWord}
 use Rattle.reading.specs.Entries.{Entry}
 use Rattle.reading.specs.Reading.{State, return, Readers, begun, atomEnds}
-use Rattle.nodes.specs.Nodes.{leafKind, leafClass, leafEnds}
+use Rattle.leaves.specs.Leaves.{leafKind, leafClass, leafEnds}
 use Rattle.parse.specs.Meet.{Input, Unary, Binary, stopOf}
 
 class-small : (c : SymbolClass) → classNumber c < 8

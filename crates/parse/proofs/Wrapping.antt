@@ -14,8 +14,8 @@ use Rattle.parse.specs.Buffer.{Wrote}
 use Rattle.records.specs.Record.{afterClose, sepWord, startOf, lenOf}
 use Rattle.parse.specs.Meet.{Input, Given}
 use Rattle.parse.proofs.Buffer.{fill}
-use Rattle.nodes.specs.Buffer.{shifted}
-use Rattle.nodes.proofs.Stores.{shifted-in}
+use Rattle.buffer.specs.Buffer.{shifted}
+use Rattle.buffer.proofs.Stores.{shifted-in}
 use native.Mathlib.Nat.{mod-eq-of-lt, mul-le-mul}
 use Rattle.bounds.proofs.Takes.{takes-bound}
 use Rattle.parse.specs.declared.top.Wrapped.{Wrapped}

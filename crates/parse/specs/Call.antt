@@ -2,13 +2,14 @@
 use mathlib.Core.Bool.{true, false}
 use mathlib.Core.List.{List, [], _∷_, _++_}
 use mathlib.Core.Option.{Option, none, some}
-use Prim.Native.Nat.{ℕ, _+_, _-_, _*_}
+use Prim.Native.Nat.{ℕ, _-_, _*_}
 use lib.Dec.{ltb}
 use lib.ListN.{length, drop, replicate}
 use Rattle.tokens.specs.Lexeme.{Lexeme}
 use Rattle.lexing.specs.Rules.{tokens}
 use Rattle.tokens.specs.Table.{tableWords, tokenList, countOthers}
 use Rattle.tokens.specs.Refusals.{Answer, accepted, refused, textRefusal, listRefusal}
+use Rattle.refusals.specs.Room.{roomRefusal}
 use Rattle.tree.specs.Tree.{count}
 use Rattle.tree.specs.Words.{encodeItems}
 use Rattle.reading.specs.Reading.{readTokens, blank}
@@ -27,29 +28,19 @@ abbrev pub listAnswerOf : ParsedTokens → Answer
 listAnswerOf (list.Read takes items blank) = accepted (takes ∷ items ∷ bit blank ∷ [])
 listAnswerOf (list.Refused k) = refused k
 
--- "Work needs 4 × (n + 1) words, tree 32 × (n + 1)": "8 work too short; 9 tree too short". The buffers have this many words.
-unfoldable pub roomRefusal : List Lexeme → ℕ → ℕ → Option ℕ
-roomRefusal ts work tree =
-    let n = countOthers ts in
-    elim (ltb work (4 * (n + 1))) [
-      | true ↦ some 8
-      | false ↦
-          elim (ltb tree (32 * (n + 1))) [ true ↦ some 9 | false ↦ none ]
-    ]
-
 -- "For text: 1, 2, 7, 8, 9, 10, each where the call has that buffer." "7 token table shorter than 3 words a token"
 unfoldable pub parseRefusal : List ℕ → ℕ → ℕ → ℕ → Option ℕ
 parseRefusal text table work tree =
     elim (textRefusal text) [
       | some k ↦ some k
       | none ↦
-          elim (ltb table (3 * length (tokens text))) [ true ↦ some 7 | false ↦ roomRefusal (tokens text) work tree ]
+          elim (ltb table (3 * length (tokens text))) [ true ↦ some 7 | false ↦ roomRefusal (countOthers (tokens text)) work tree ]
     ]
 
 -- "For a token list: 1, 2, 3, then token by token 4, 5, 6, then 8, 9."
 unfoldable pub parseTokensRefusal : List ℕ → List ℕ → ℕ → ℕ → ℕ → Option ℕ
 parseTokensRefusal text table count work tree =
-    elim (listRefusal text count table) [ some k ↦ some k | none ↦ roomRefusal (tokenList count table) work tree ]
+    elim (listRefusal text count table) [ some k ↦ some k | none ↦ roomRefusal (countOthers (tokenList count table)) work tree ]
 
 -- What an accepted reading of a list answers: takes, the root's items, and "blank".
 unfoldable pub values : List ℕ → List Lexeme → List ℕ

@@ -5,5 +5,4 @@ pub mod Columns
 pub mod Matrix
 pub mod Top
 pub mod Call
-pub mod Checks
 pub mod Answers

@@ -11,6 +11,8 @@ use entries::Prepared;
 use entries::prepare;
 use refusals::list::Checked;
 use refusals::list::check_list;
+use refusals::room::Room;
+use refusals::room::check_room;
 use tokenizer::TokenizedUnder;
 use tokenizer::tokenize_under;
 use top::parse_entries;
@@ -19,9 +21,9 @@ ghost use mathlib.Core.Option.{none};
 ghost use Prim.Native.Nat.{_+_, _*_, _≤_, _<_};
 ghost use lib.ListN.{length};
 ghost use Rattle.tokens.specs.Refusals.{listRefusal};
-ghost use Rattle.tokens.specs.Table.{tokenList};
-ghost use Rattle.parse.specs.Call.{answerOf, listAnswerOf, roomRefusal, parsedText, parsedTokens};
-ghost use Rattle.parse.specs.Checks.{Lacks};
+ghost use Rattle.tokens.specs.Table.{tokenList, countOthers};
+ghost use Rattle.refusals.specs.Room.{roomRefusal};
+ghost use Rattle.parse.specs.Call.{answerOf, listAnswerOf, parsedText, parsedTokens};
 
 // What the reading of a text answers.
 pub enum Parsed {
@@ -40,26 +42,6 @@ pub enum Parsed {
 pub enum ParsedTokens {
     Read { takes: u64, items: u32, blank: bool },
     Refused(u8),
-}
-
-// Whether the buffers are long enough, or the number of the refusal.
-enum Room {
-    Enough,
-    Refused(u8),
-}
-
-// Refusals 8 and 9 for n tokens other than Space, by the buffers' words.
-fn check_room(n: usize, work: usize, tree: usize) -> Room
-    requires { ⌜ n ≤ 4096 ⌝ }
-    ensures { λ r. ⌜ Lacks n work tree r ⌝ }
-{
-    if work < 4 * (n + 1) {
-        return Room::Refused(8);
-    }
-    if tree < 32 * (n + 1) {
-        return Room::Refused(9);
-    }
-    Room::Enough
 }
 
 // The smaller of two numbers.
@@ -85,7 +67,7 @@ fn read_list(
     tree: &mut [u32],
 ) -> ParsedTokens
     requires { ⌜ listRefusal (now text) count (now table) ≡ none ⌝ }
-    requires { ⌜ roomRefusal (tokenList count (now table)) (length (now work)) (length (now tree)) ≡ none ⌝ }
+    requires { ⌜ roomRefusal (countOthers (tokenList count (now table))) (length (now work)) (length (now tree)) ≡ none ⌝ }
     ensures { λ r.
         ⌜
         (listAnswerOf r, now (work .exit), now (tree .exit))

@@ -1,8 +1,8 @@
 // An item that is one leaf, the most common one: read at once, without the readers above a leaf.
 use crate::cursor::Cursor;
 use crate::cursor::Part;
-use nodes::leaves::leaf_ends;
-use nodes::leaves::put_plain;
+use leaves::leaf_ends;
+use leaves::put_plain;
 use records::record::kind_at;
 ghost use mathlib.Core.Path.{_≡_};
 ghost use mathlib.Core.Bool.{true};
@@ -12,7 +12,7 @@ ghost use lib.ListN.{length};
 ghost use lib.Seq.{sets};
 ghost use Rattle.records.specs.Record.{kindOf};
 ghost use Rattle.lookahead.specs.Tests.{testAt, leafOnly, joinsKind, plainAt};
-ghost use Rattle.nodes.specs.Nodes.{leafWords, leafEnds};
+ghost use Rattle.leaves.specs.Leaves.{leafWords, leafEnds};
 ghost use Rattle.parse.specs.Entry.{Placed};
 ghost use Rattle.parse.specs.Meet.{onward, seen};
 

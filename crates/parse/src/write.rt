@@ -3,14 +3,15 @@ use crate::cursor::Cursor;
 use crate::cursor::Gap;
 use crate::cursor::Part;
 use columns::Split;
-use nodes::leaves::leaf_ends;
-use nodes::leaves::put_leaf;
+use leaves::leaf_ends;
+use leaves::put_leaf;
 ghost use mathlib.Core.Path.{_≡_};
 ghost use mathlib.Core.List.{[], _∷_};
 ghost use Prim.Native.Nat.{_+_, _≤_};
 ghost use lib.ListN.{length};
 ghost use lib.Seq.{sets};
-ghost use Rattle.nodes.specs.Nodes.{leafEnds, leafWords, nodeWords, groupWords, matrixWords};
+ghost use Rattle.leaves.specs.Leaves.{leafEnds, leafWords};
+ghost use Rattle.nodes.specs.Nodes.{nodeWords, groupWords, matrixWords};
 ghost use Rattle.parse.specs.Columns.{SplitReady, Splits};
 ghost use Rattle.parse.specs.Meet.{Gapped};
 
@@ -18,14 +19,14 @@ pub(crate) fn put1(tree: &mut [u32], i: usize, a: u32)
     requires { ⌜ i + 1 ≤ length (now tree) ⌝ }
     ensures { λ _. ⌜ now (tree .exit) ≡ sets (now (tree .entry)) i (a ∷ []) ⌝ }
 {
-    nodes::buffer::put1(tree, i, a);
+    buffer::put1(tree, i, a);
 }
 
 pub(crate) fn put6(tree: &mut [u32], i: usize, a: u32, b: u32, c: u32, d: u32, f: u32, g: u32)
     requires { ⌜ i + 6 ≤ length (now tree) ⌝ }
     ensures { λ _. ⌜ now (tree .exit) ≡ sets (now (tree .entry)) i (a ∷ b ∷ c ∷ d ∷ f ∷ g ∷ []) ⌝ }
 {
-    nodes::buffer::put6(tree, i, a, b, c, d, f, g);
+    buffer::put6(tree, i, a, b, c, d, f, g);
 }
 
 // The leaf of the entry i, of kind k.
@@ -63,7 +64,7 @@ pub(crate) fn put_node(
     requires { ⌜ e + 6 ≤ length (now tree) ⌝ }
     ensures { λ _. ⌜ now (tree .exit) ≡ sets (now (tree .entry)) e (nodeWords (now (tok .entry)) (now (work .entry)) i kind extra) ⌝ }
 {
-    nodes::nodes::put_node(tok, work, tree, e, kind, i, extra);
+    nodes::put_node(tok, work, tree, e, kind, i, extra);
 }
 
 // A group from the bracket i to the bracket j; to none, if j is no entry.
@@ -80,7 +81,7 @@ pub(crate) fn put_group(
     requires { ⌜ e + 6 ≤ length (now tree) ⌝ }
     ensures { λ _. ⌜ now (tree .exit) ≡ sets (now (tree .entry)) e (groupWords (now (tok .entry)) (now (work .entry)) n i j count) ⌝ }
 {
-    nodes::nodes::put_group(tok, work, n, tree, e, i, j, count);
+    nodes::put_group(tok, work, n, tree, e, i, j, count);
 }
 
 // A matrix from the bracket i to the bracket j.
@@ -98,7 +99,7 @@ pub(crate) fn put_matrix(
     requires { ⌜ e + 8 ≤ length (now tree) ⌝ }
     ensures { λ _. ⌜ now (tree .exit) ≡ sets (now (tree .entry)) e (matrixWords (now (tok .entry)) (now (work .entry)) i j cells cols lines) ⌝ }
 {
-    nodes::nodes::put_matrix(tok, work, tree, e, i, j, cells, cols, lines);
+    nodes::put_matrix(tok, work, tree, e, i, j, cells, cols, lines);
 }
 
 // The Space before the entry i, if it is kept.
@@ -114,7 +115,7 @@ pub(crate) fn put_space(
     requires { ⌜ e + 7 ≤ length (now tree) ⌝ }
     ensures { λ r. ⌜ Gapped (now (tok .entry)) (now (work .entry)) n first i e (now (tree .entry)) (now (tree .exit)) r ⌝ }
 {
-    if nodes::nodes::put_space(tok, work, n, tree, i, e, first) == 0 {
+    if nodes::put_space(tok, work, n, tree, i, e, first) == 0 {
         Gap { end: e, items: 0 }
     } else {
         Gap {

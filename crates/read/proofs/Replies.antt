@@ -11,11 +11,13 @@ use lib.Seq.{take-at, take-suc-set}
 use borrow.Author.Tests.{lt-ltb, le-ltb}
 use Rattle.tokens.specs.Bytes.{bytes}
 use Rattle.tokens.specs.Refusals.{Answer, accepted, refused, ascii, textRefusal}
+use Rattle.tokens.specs.Table.{countOthers}
+use Rattle.refusals.proofs.Lengths.{room-enough}
 use Rattle.lexing.specs.Rules.{tokens}
 use Rattle.lexing.proofs.Theorems.{never-outnumber}
 use Rattle.tokens.proofs.Cases.{by-lt, by-option, by-test}
 use Rattle.parse.specs.Call.{parseRefusal}
-use Rattle.parse.proofs.Calls.{text-refused, table-long, room-enough, others-within}
+use Rattle.parse.proofs.Calls.{text-refused, table-long, others-within}
 use Rattle.print.specs.declared.Printed.{Printed}
 use Rattle.print.specs.declared.Printed.the-variants.{Whole, Refused}
 use Rattle.print.specs.Decimal.{decimal}
@@ -30,7 +32,7 @@ any-text : (text : List ℕ) (table work tree : ℕ) → textRefusal text ≡ no
 any-text text table work tree ok a b c =
     let n = never-outnumber text in
     let m = others-within (tokens text) in
-    table-long text table work tree ok (omega arith) ∙ room-enough (tokens text) work tree (omega arith) (omega arith)
+    table-long text table work tree ok (omega arith) ∙ room-enough (countOthers (tokens text)) work tree (omega arith) (omega arith)
 
 -- The line of a refusal, byte by byte behind `refused=`.
 module _ (x out : List ℕ) (e : x ≡ bytes "refused=" ++ drop 8 out) (room : 11 ≤ length out) where

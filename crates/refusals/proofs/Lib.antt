@@ -1,3 +1,4 @@
 mod Ascii
 pub mod TextChecks
 mod Checks
+pub mod Lengths

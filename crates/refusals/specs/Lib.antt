@@ -1,2 +1,3 @@
 pub mod TextChecks
 pub mod Checks
+pub mod Room

@@ -1,3 +1,4 @@
-// Which texts and token lists are turned back, by the refusals of document 01 in its order.
+// What is turned back: texts, token lists and buffers, each refusal of document 01 under exactly its condition.
 pub mod list;
+pub mod room;
 pub mod text;

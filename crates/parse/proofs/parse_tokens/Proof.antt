@@ -1,6 +1,9 @@
 -- The list's refusals, those of the buffers, then the reading.
 use mathlib.Core.Path.{sym, ap, _∙_}
-use Rattle.parse.specs.Checks.{refusalIn}
+use Prim.Native.Nat.{ℕ}
+use lib.ListN.{length}
+use Rattle.refusals.specs.Room.{roomRefusal}
+use Rattle.refusals.proofs.Lengths.{refusalIn, refusal-in}
 use Rattle.parse.proofs.Calls.{checked-refused, checked-accepted, list-refused, room-refused}
 use borrow.Author.Needs.{needs}
 use Rattle.parse.proofs.parse_tokens.Statement.{statement}
@@ -16,8 +19,7 @@ enum-known-others : tie.Need-enum-known-others
 enum-known-others c = search needs
 
 check-room-requires : tie.Need-check-room-requires
-check-room-requires c κs = let a = c .before .before .before .before .before .before .before .before .args in
-    checked-accepted (a .text .now) (a .table .now) (a .count) _ (c .before .before .before .check-list .ensures) _ (c .before .others .given .1) .2
+check-room-requires c κs = search needs
 
 enum-known-k-2 : tie.Need-enum-known-k-2
 enum-known-k-2 c = search needs
@@ -28,7 +30,7 @@ enum-told c = search needs
 read-list-requires : tie.Need-read-list-requires
 read-list-requires c κs = let a = c .before .before .before .before .before .before .before .before .before .before .before .before .before .args in
     let k = checked-accepted (a .text .now) (a .table .now) (a .count) _ (c .before .before .before .before .before .before .before .before .check-list .ensures) _ (c .before .before .before .before .before .before .others .given .1) in
-    (k .0, c .before .before .before .before .check-room .ensures _ (sym (k .1)) ∙ ap refusalIn (c .before .before .enum-told .given .1))
+    (k .0, ap (λ (n : ℕ). roomRefusal n (length (a .work .now)) (length (a .tree .now))) (sym (k .1)) ∙ refusal-in _ _ _ _ (c .before .before .before .before .check-room .ensures) ∙ ap refusalIn (c .before .before .enum-told .given .1))
 
 returns : tie.Need-returns
 returns c = let a = c .before .before .before .before .before .before .before .before .args in
@@ -37,7 +39,7 @@ returns c = let a = c .before .before .before .before .before .before .before .b
 returns-2 : tie.Need-returns-2
 returns-2 c = let a = c .before .before .before .before .before .before .before .before .before .before .before .before .args in
     let k = checked-accepted (a .text .now) (a .table .now) (a .count) _ (c .before .before .before .before .before .before .before .check-list .ensures) _ (c .before .before .before .before .before .others .given .1) in
-    room-refused (a .text .now) (a .table .now) (a .count) (a .work .now) (a .tree .now) (k .0) _ (c .before .before .before .check-room .ensures _ (sym (k .1)) ∙ ap refusalIn (c .before .k2 .given .1))
+    room-refused (a .text .now) (a .table .now) (a .count) (a .work .now) (a .tree .now) (k .0) _ (ap (λ (n : ℕ). roomRefusal n (length (a .work .now)) (length (a .tree .now))) (sym (k .1)) ∙ refusal-in _ _ _ _ (c .before .before .before .check-room .ensures) ∙ ap refusalIn (c .before .k2 .given .1))
 
 same-length : tie.Need-same-length
 same-length c = search needs

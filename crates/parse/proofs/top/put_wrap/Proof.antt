@@ -1,4 +1,4 @@
-use Rattle.nodes.proofs.Stores.{seven}
+use Rattle.buffer.proofs.Stores.{seven}
 use native.Mathlib.Numerals.{add-one}
 use borrow.Author.Needs.{needs}
 use Rattle.parse.proofs.top.put_wrap.Statement.{statement}

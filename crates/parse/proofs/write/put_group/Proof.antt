@@ -1,6 +1,6 @@
 -- `write::put_group`: there is room.
 use Rattle.nodes.specs.Nodes.{groupWords}
-use Rattle.nodes.proofs.Stores.{stored-in}
+use Rattle.buffer.proofs.Stores.{stored-in}
 use mathlib.Core.Path.{_∙_}
 use borrow.Author.Needs.{needs}
 use Rattle.parse.proofs.write.put_group.Statement.{statement}

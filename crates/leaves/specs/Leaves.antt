@@ -1,0 +1,27 @@
+-- The words of the leaves that the readers write. t are the words of the token table, K the work words.
+use Prim.Native.Nat.{ℕ, _-_}
+use mathlib.Core.List.{List, [], _∷_}
+use mathlib.Core.Bool.{Bool, true, false}
+use lib.Dec.{eqb, ltb}
+use Rattle.tree.specs.Words.{pick}
+use Rattle.nodes.specs.Nodes.{nodeWords}
+
+-- a leaf's node kind (Number to Operator 1 to 4, Sign 5, any other token a symbol, 7), its class, and whether it ends an operand, by
+-- the kind of its token
+abbrev pub leafKind : ℕ → ℕ
+leafKind k = pick (ltb k 4) 7 (pick (ltb k 8) (k - 3) (pick (ltb k 16) 7 (pick (eqb k 16) 5 7)))
+
+abbrev pub leafClass : ℕ → ℕ
+leafClass k = pick (eqb k 3) 7 (pick (ltb k 8) 0 (pick (ltb k 16) (k - 8) 0))
+
+abbrev pub leafEnds : ℕ → Bool
+leafEnds k =
+    pick (ltb k 3) true
+    (pick (eqb k 3) false (pick (ltb k 7) true (pick (ltb k 8) false (pick (ltb k 10) true (pick (ltb k 22) false true)))))
+
+abbrev pub leafWords : List ℕ → List ℕ → ℕ → ℕ → List ℕ
+leafWords t K i k = nodeWords t K i (leafKind k) (leafClass k)
+
+-- the item that is this leaf alone, in a simple part without script
+abbrev pub plainWords : List ℕ → List ℕ → ℕ → ℕ → List ℕ
+plainWords t K i k = 0 ∷ 13 ∷ 0 ∷ 0 ∷ 0 ∷ 0 ∷ 0 ∷ leafWords t K i k

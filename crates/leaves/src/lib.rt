@@ -1,0 +1,85 @@
+// Leaves: the nodes with no node below.
+use buffer::fits;
+use buffer::put6;
+use nodes::put_node;
+ghost use mathlib.Core.Path.{_≡_};
+ghost use Rattle.buffer.specs.Buffer.{stored};
+ghost use Rattle.leaves.specs.Leaves.{leafKind, leafClass, leafEnds, leafWords, plainWords};
+
+// A leaf's node kind, its class, and whether it ends an operand, by the kind of its token.
+fn leaf_kind(k: u32) -> u32
+    ensures { λ r. ⌜ r ≡ leafKind k ⌝ }
+{
+    if k < 4 {
+        return 7;
+    }
+    if k < 8 {
+        return k - 3;
+    }
+    if k < 16 {
+        return 7;
+    }
+    if k == 16 {
+        return 5;
+    }
+    7
+}
+
+fn leaf_class(k: u32) -> u32
+    ensures { λ r. ⌜ r ≡ leafClass k ⌝ }
+{
+    if k == 3 {
+        return 7;
+    }
+    if k < 8 {
+        return 0;
+    }
+    if k < 16 {
+        return k - 8;
+    }
+    0
+}
+
+pub fn leaf_ends(k: u32) -> bool
+    ensures { λ r. ⌜ r ≡ leafEnds k ⌝ }
+{
+    if k < 3 {
+        return true;
+    }
+    if k == 3 {
+        return false;
+    }
+    if k < 7 {
+        return true;
+    }
+    if k < 8 {
+        return false;
+    }
+    if k < 10 {
+        return true;
+    }
+    if k < 22 {
+        return false;
+    }
+    true
+}
+
+// The leaf of the entry i, of kind k.
+pub fn put_leaf(tok: &[u32], work: &[u32], tree: &mut [u32], e: usize, i: usize, k: u32)
+    ensures { λ _. ⌜ now (tree .exit) ≡ stored (now (tree .entry)) e (leafWords (now (tok .entry)) (now (work .entry)) i k) ⌝ }
+{
+    let kind = leaf_kind(k);
+    let class = leaf_class(k);
+    put_node(tok, work, tree, e, kind, i, class);
+}
+
+// The item that is this leaf alone.
+pub fn put_plain(tok: &[u32], work: &[u32], tree: &mut [u32], e: usize, i: usize, k: u32)
+    ensures { λ _. ⌜ now (tree .exit) ≡ stored (now (tree .entry)) e (plainWords (now (tok .entry)) (now (work .entry)) i k) ⌝ }
+{
+    if fits(tree.len(), e, 13) {
+        tree[e] = 0;
+        put6(tree, e + 1, 13, 0, 0, 0, 0, 0);
+        put_leaf(tok, work, tree, e + 7, i, k);
+    }
+}
