@@ -1,15 +1,16 @@
--- `tokens_in_first` is safe: the part that is lent has as many elements as it says.
-use mathlib.Core.Path.{_≡_, sym}
+-- `tokens_in_first` is safe.
+use mathlib.Core.Path.{sym}
+use lib.ListN.{length}
 use lib.Seq.{length-take-le}
 use borrow.Author.Needs.{needs}
-use Rattle.token_trials.proofs.tokens_in_first.Statement.{statement}
-use Rattle.token_trials.proofs.tokens_in_first.Tie as tie
+use Rattle.token_trials.proofs.answer.tokens_in_first.Statement.{statement}
+use Rattle.token_trials.proofs.answer.tokens_in_first.Tie as tie
 
 slice-relend-prefix-tokens-in : tie.Need-slice-relend-prefix-tokens-in
 slice-relend-prefix-tokens-in c = search needs
 
 slice-aggregate-tokens-in : tie.Need-slice-aggregate-tokens-in
-slice-aggregate-tokens-in c = sym (length-take-le _ _ (c .before .if1 .taken))
+slice-aggregate-tokens-in c = sym (length-take-le _ _ (search needs))
 
 tokens-in-requires : tie.Need-tokens-in-requires
 tokens-in-requires c κs = search needs
