@@ -1,26 +1,26 @@
--- `tokens_are` is safe and ends.
+-- `all_sets` is safe and ends.
 use Prim.Native.Nat.{_≤_, _-_}
 use borrow.Author.Needs.{needs}
-use Rattle.trials.proofs.strings.tokens_are.Statement.{statement}
-use Rattle.trials.proofs.strings.tokens_are.Tie as tie
+use Rattle.trials.proofs.lists.all_sets.Statement.{statement}
+use Rattle.trials.proofs.lists.all_sets.Tie as tie
 
 abbrev Inv-loop : tie.InvT-loop
-Inv-loop table n kind i₀ i = i ≤ n
+Inv-loop set₀ set = set ≤ 256
 
 abbrev μ-loop : tie.MeasureT-loop
-μ-loop table n kind i₀ i = n - i
+μ-loop set₀ set = 256 - set
 
 loop-holds : tie.Need-loop-holds Inv-loop μ-loop
 loop-holds c = search needs
 
-is-token-requires : tie.Need-is-token-requires Inv-loop μ-loop
-is-token-requires c κs = search needs
+try-set-requires : tie.Need-try-set-requires Inv-loop μ-loop
+try-set-requires c κs = search needs
 
 returns : tie.Need-returns Inv-loop μ-loop
 returns c = search needs
 
-add-i : tie.Need-add-i Inv-loop μ-loop
-add-i c = search needs
+add-set : tie.Need-add-set Inv-loop μ-loop
+add-set c = search needs
 
 loop-less : tie.Need-loop-less Inv-loop μ-loop
 loop-less c = search needs
@@ -31,16 +31,16 @@ loop-again c = search needs
 returns-2 : tie.Need-returns-2 Inv-loop μ-loop
 returns-2 c = search needs
 
-pub tokens-are-spec : {M : Type 1} → statement M
-tokens-are-spec =
+pub all-sets-spec : {M : Type 1} → statement M
+all-sets-spec =
     tie.close
     (tie.spec
     Inv-loop
     μ-loop
     loop-holds
-    is-token-requires
+    try-set-requires
     returns
-    add-i
+    add-set
     loop-less
     loop-again
     returns-2)

@@ -1,20 +1,20 @@
--- `all_list_sets` is safe and ends.
+-- `all_sets` is safe and ends.
 use Prim.Native.Nat.{_≤_, _-_}
 use borrow.Author.Needs.{needs}
-use Rattle.trials.proofs.refusals.all_list_sets.Statement.{statement}
-use Rattle.trials.proofs.refusals.all_list_sets.Tie as tie
+use Rattle.trials.proofs.texts.all_sets.Statement.{statement}
+use Rattle.trials.proofs.texts.all_sets.Tie as tie
 
 abbrev Inv-loop : tie.InvT-loop
-Inv-loop set₀ set = set ≤ 256
+Inv-loop call sets set₀ set = set ≤ sets
 
 abbrev μ-loop : tie.MeasureT-loop
-μ-loop set₀ set = 256 - set
+μ-loop call sets set₀ set = sets - set
 
 loop-holds : tie.Need-loop-holds Inv-loop μ-loop
 loop-holds c = search needs
 
-try-list-set-requires : tie.Need-try-list-set-requires Inv-loop μ-loop
-try-list-set-requires c κs = search needs
+try-set-requires : tie.Need-try-set-requires Inv-loop μ-loop
+try-set-requires c κs = search needs
 
 returns : tie.Need-returns Inv-loop μ-loop
 returns c = search needs
@@ -31,14 +31,14 @@ loop-again c = search needs
 returns-2 : tie.Need-returns-2 Inv-loop μ-loop
 returns-2 c = search needs
 
-pub all-list-sets-spec : {M : Type 1} → statement M
-all-list-sets-spec =
+pub all-sets-spec : {M : Type 1} → statement M
+all-sets-spec =
     tie.close
     (tie.spec
     Inv-loop
     μ-loop
     loop-holds
-    try-list-set-requires
+    try-set-requires
     returns
     add-set
     loop-less

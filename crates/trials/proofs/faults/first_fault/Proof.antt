@@ -1,21 +1,21 @@
--- `has` is safe and ends.
+-- `first_fault` is safe and ends.
 use Prim.Native.Nat.{_≤_, _-_}
 use lib.ListN.{length}
 use borrow.Author.Needs.{needs}
-use Rattle.trials.proofs.compare.has.Statement.{statement}
-use Rattle.trials.proofs.compare.has.Tie as tie
+use Rattle.trials.proofs.faults.first_fault.Statement.{statement}
+use Rattle.trials.proofs.faults.first_fault.Tie as tie
 
 abbrev Inv-loop : tie.InvT-loop
-Inv-loop print s i₀ i = i ≤ length print
+Inv-loop set numbers rest₀ i₀ rest i = i ≤ length numbers
 
 abbrev μ-loop : tie.MeasureT-loop
-μ-loop print s i₀ i = length print - i
+μ-loop set numbers rest₀ i₀ rest i = length numbers - i
 
 loop-holds : tie.Need-loop-holds Inv-loop μ-loop
 loop-holds c = search needs
 
-piece-requires : tie.Need-piece-requires Inv-loop μ-loop
-piece-requires c κs = search needs
+shared-slice-read-result : tie.Need-shared-slice-read-result Inv-loop μ-loop
+shared-slice-read-result c = search needs
 
 returns : tie.Need-returns Inv-loop μ-loop
 returns c = search needs
@@ -32,14 +32,14 @@ loop-again c = search needs
 returns-2 : tie.Need-returns-2 Inv-loop μ-loop
 returns-2 c = search needs
 
-pub has-spec : {M : Type 1} → statement M
-has-spec =
+pub first-fault-spec : {M : Type 1} → statement M
+first-fault-spec =
     tie.close
     (tie.spec
     Inv-loop
     μ-loop
     loop-holds
-    piece-requires
+    shared-slice-read-result
     returns
     add-i
     loop-less
