@@ -5,8 +5,9 @@
 
 SPELLINGS is tokenizer.rs of the original or the project's list of rows. Each family gives its
 fixed texts and then `count` random ones; the same arguments give the same texts. The families
-`lists`, `kinds`, `wild` and `bars` are different: their lines are `HEX start,len,kind
-start,len,kind ..`, token lists over a text, and they are not among the default families.
+`lists`, `kinds`, `wild`, `bars` and `string_lists` are different: their lines are `HEX
+start,len,kind start,len,kind ..`, token lists over a text. They, `strings` and `examples` are not
+among the default families.
 """
 
 import argparse
@@ -32,6 +33,16 @@ TEXTS = os.path.join(os.path.dirname(os.path.abspath(__file__)), "bench", "texts
 # ways to go deeper
 NESTED = ["(", "|", "[(", "[(a,", "[(a,b),(", "|(a,b),(", "x^", "x_1^", "sqrt ", "frac x", "1/", "sin ", "sin^", "-", "sin_1^"]
 COUNTS = [2, 3, 64, 126, 127, 128, 129, 255, 256, 257, 258, 512, 1024, 2048, 4096]
+
+# document 01's 'Strings to try', in its order
+STRINGS = ["", "1...", "\\", "text (a b)c", "text(", '"ab', "[[1,2],[3,4]]", "{(a,b),(c,d)}", "[(a,|,b),(c,|,d)]", "[(a)]", "[(a,b)]", "|x|", "x^", "(a"]
+STRINGS += ["(" * 127 + "x", "(" * 128 + "x", ")" * 256, ")" * 257]
+# its token lists, over one blank: an empty Space then a Space, and a Space of 1 then an empty one
+STRING_LISTS = [" 0,0,23 0,1,23", " 0,1,23 1,0,23"]
+# document 01's other texts; 127 matrices, each in the last cell of the one before it, in 256 groups, whose print has depth 894; and bars
+# whose tree the memory of failed attempts changes
+EXAMPLES = ["x^2/3", "a-b", "-b", "[(a," * 127 + "x" + ")]" * 127 + ")" * 256, "| " * 127 + "-|"]
+NAMED = {"strings": STRINGS, "examples": EXAMPLES}
 
 
 class Maker:
@@ -397,7 +408,7 @@ LISTS = {"lists": token_list, "wild": wild_list, "bars": bar_list}
 def main():
     parser = argparse.ArgumentParser(description=__doc__.splitlines()[0])
     parser.add_argument("spellings")
-    parser.add_argument("--families", default=",".join(FAMILIES), help=f"default: %(default)s; also kinds, {', '.join(LISTS)}")
+    parser.add_argument("--families", default=",".join(FAMILIES), help=f"default: %(default)s; also {', '.join(NAMED)}, string_lists, kinds, {', '.join(LISTS)}")
     parser.add_argument("--seed", default="1")
     parser.add_argument("--count", type=int, default=1000, help="random texts of each family (%(default)s)")
     parser.add_argument("--max-length", type=int, default=200, help="bytes of a text at most (%(default)s)")
@@ -408,6 +419,12 @@ def main():
     for family in args.families.split(","):
         rng = random.Random(f"{args.seed} {family}")
         make = Maker(rng, rows, args.max_length, args.pieces, args.letters)
+        if family in NAMED:
+            print(*(text.encode().hex() for text in NAMED[family]), sep="\n")
+            continue
+        if family == "string_lists":
+            print(*(" ".encode().hex() + tokens for tokens in STRING_LISTS), sep="\n")
+            continue
         if family == "kinds":
             print(*kind_lists(), sep="\n")
             continue

@@ -4,8 +4,9 @@
 #   make_token_trials.sh SRC
 #
 # SRC holds the four files of the original (tools/oracle/build.sh). Writes crates/token_trials/stdin, the texts as lines of hex, and
-# crates/token_trials/stdout, the Rust's tokens of each. The last texts are refused by document 01, and have no answer of the Rust's:
-# 4,097 bytes, bytes of 128 and 255, and both faults at once, where the first number wins.
+# crates/token_trials/stdout, the Rust's tokens of each. Document 01's 'Strings to try' come first, in its order. The last texts are
+# refused by document 01, and have no answer of the Rust's: 4,097 bytes, bytes of 128 and 255, and both faults at once, where the first
+# number wins.
 set -euo pipefail
 [ $# -eq 1 ] || { echo "usage: make_token_trials.sh SRC" >&2; exit 2; }
 root=$(cd "$(dirname "$0")/.." && pwd)
@@ -17,6 +18,7 @@ corpus() { python3 "$root/tools/corpus.py" "$root/crates/lexing/specs/Spellings.
 # sample FIRST STEP: the first lines, and of the rest each STEP-th
 sample() { awk -v first="$1" -v step="$2" 'NR <= first || (NR - first) % step == 0'; }
 {
+    corpus --families strings,examples
     corpus --families spellings --count 0 | sample 429 7
     corpus --families blanks,numbers --count 50 --max-length 60
     corpus --families quotes --count 50 --max-length 60 | sample 0 3

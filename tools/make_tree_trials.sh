@@ -4,6 +4,7 @@
 #   make_tree_trials.sh SRC
 #
 # SRC holds the four files of the original (tools/oracle/build.sh). Writes crates/tree_trials/stdin and crates/tree_trials/stdout.
+# Document 01's 'Strings to try' come first, the 18 texts and the two token lists, in its order.
 # The last lines are refused by document 01, and have no answer of the Rust's: 4,097 bytes, and a byte of 128.
 set -euo pipefail
 [ $# -eq 1 ] || { echo "usage: make_tree_trials.sh SRC" >&2; exit 2; }
@@ -16,10 +17,19 @@ trap 'rm -rf "$work"' EXIT
 corpus() { python3 "$root/tools/corpus.py" "$root/crates/lexing/specs/Spellings.antt" --seed 2 "$@"; }
 # each STEP: of the lines each STEP-th
 each() { awk -v step="$1" 'NR % step == 1 % step'; }
-hex() { python3 -c 'import sys; print(eval(sys.argv[1]).encode().hex())' "$1"; }
+# lines LISTS: `HEX a,b,c d,e,f` as `HEX:a,b,c,d,e,f,`
+lines() { sed -e '/ /!s/$/:/' -e '/:$/!s/$/,/' -e 's/ /:/' -e 's/ /,/g' "$1"; }
+# the Rust's answers to texts and to lists
+tree() { "$work/oracle" tree < "$1"; }
+words() { "$work/oracle" list < "$1" | python3 "$root/tools/tree_words.py"; }
+
+corpus --families strings > "$work/strings"
+corpus --families string_lists > "$work/string_lists"
 
 # texts, by the section of document 01 that they try
 {
+    # its other examples, and the deepest tree
+    corpus --families examples
     # tokenizer.rs: spellings, blanks, numbers, quotes, `text`, single bytes
     corpus --families spellings --count 60 --max-length 40 | each 60
     corpus --families blanks,numbers --count 40 --max-length 40 | each 8
@@ -36,26 +46,23 @@ hex() { python3 -c 'import sys; print(eval(sys.argv[1]).encode().hex())' "$1"; }
     # depth 256, unmatched closers, the memory of failed attempts
     corpus --families deep --count 40 --max-length 140 | each 24
     corpus --families deep --count 0 --max-length 600 | each 200
-    # the strings to try, and the deepest tree
-    for text in "''" "'1...'" "'\\\\'" "'text (a b)c'" "'text('" "'\"ab'" "'[[1,2],[3,4]]'" "'{(a,b),(c,d)}'" "'[(a,|,b),(c,|,d)]'" \
-        "'[(a)]'" "'[(a,b)]'" "'|x|'" "'x^'" "'(a'" "'('*127+'x'" "'('*128+'x'" "')'*256" "')'*257" "'a-b'" "'-b'" "'x^2/3'" \
-        "'[(a,'*127+'x'+')]'*127+')'*256" "'| '*127+'-|'"; do
-        hex "$text"
-    done
-} | awk '!seen[$0]++' > "$work/texts"
+} | awk '!seen[$0]++' | grep -vxFf "$work/strings" > "$work/texts"
 corpus --families lists --count 2700 | awk '!seen[$0]++' > "$work/lists"
 
 {
+    cat "$work/strings"
+    lines "$work/string_lists"
     cat "$work/texts"
-    # `HEX a,b,c d,e,f` as `HEX:a,b,c,d,e,f,`
-    sed -e '/ /!s/$/:/' -e '/:$/!s/$/,/' -e 's/ /:/' -e 's/ /,/g' "$work/lists"
+    lines "$work/lists"
     printf '%08194d\n' 0 | sed 's/00/41/g'
     printf '4180\n'
 } > "$out/stdin"
 {
-    "$work/oracle" tree < "$work/texts"
-    "$work/oracle" list < "$work/lists" | python3 "$root/tools/tree_words.py"
+    tree "$work/strings"
+    words "$work/string_lists"
+    tree "$work/texts"
+    words "$work/lists"
     printf 'refused=1\n--\nrefused=2\n--\n'
 } > "$out/stdout"
-wc -l "$work/texts" "$work/lists"
+wc -l "$work"/{strings,string_lists,texts,lists}
 wc -c "$out/stdin" "$out/stdout"

@@ -1,58 +1,38 @@
 // The answers to one text or one token list. A refusal is `refused=` and its number, and each answer ends in a line `--`.
+use crate::input::read_words;
 use libc::STDOUT_FILENO;
 use parse::ParsedTokens;
 use print::Printed;
 
+fn print_number(name: &[u8], n: u64) {
+    io::write_all(STDOUT_FILENO, name);
+    io::print_decimal(STDOUT_FILENO, n);
+}
+
 fn print_refusal(number: u8) {
-    io::write_all(STDOUT_FILENO, b"refused=");
-    io::print_decimal(STDOUT_FILENO, number as u64);
-    io::write_all(STDOUT_FILENO, b"\n--\n");
+    print_number(b"refused=", number as u64);
+    io::write_all(STDOUT_FILENO, b"\n");
 }
 
 fn print_first(out: &[u8], len: usize) {
     if len <= out.len() {
         io::write_all(STDOUT_FILENO, &out[..len]);
     }
-    io::write_all(STDOUT_FILENO, b"--\n");
 }
 
-fn print_text_by(
-    text: &[u8],
-    table: &mut [u32],
-    work: &mut [u32],
-    tree: &mut [u32],
-    out: &mut [u8],
-) {
-    match print::print(text, table, work, tree, out) {
+// A text of at most 1,023 bytes.
+pub(crate) fn print_text(text: &[u8]) {
+    let mut table = [0u32; 3072];
+    let mut work = [0u32; 4096];
+    let mut tree = [0u32; 32768];
+    let mut out = [0u8; 60000];
+    match print::print(text, &mut table, &mut work, &mut tree, &mut out) {
         Printed::Whole {
             len,
             takes: _,
             blank: _,
-        } => print_first(out, len),
+        } => print_first(&out, len),
         Printed::Refused(number) => print_refusal(number),
-    }
-}
-
-// Buffers for 100 bytes or tokens, since most lines are short and a long buffer takes time to clear.
-fn print_short_text(text: &[u8], table: &mut [u32]) {
-    let mut work = [0u32; 404];
-    let mut tree = [0u32; 3232];
-    let mut out = [0u8; 20000];
-    print_text_by(text, table, &mut work, &mut tree, &mut out);
-}
-
-fn print_long_text(text: &[u8], table: &mut [u32]) {
-    let mut work = [0u32; 16388];
-    let mut tree = [0u32; 131104];
-    let mut out = [0u8; 400000];
-    print_text_by(text, table, &mut work, &mut tree, &mut out);
-}
-
-pub(crate) fn print_text(text: &[u8], table: &mut [u32]) {
-    if text.len() <= 100 {
-        print_short_text(text, table);
-    } else {
-        print_long_text(text, table);
     }
 }
 
@@ -68,92 +48,46 @@ fn words_before_zeros(tree: &[u32]) -> usize {
     0
 }
 
-// A number and the byte behind it, in the buffer; where they end. What passes the buffer is dropped.
-fn put_number(out: &mut [u8], at: usize, n: u32, behind: u8) -> usize {
-    let mut digits = [0u8; 20];
-    let k = io::decimal(n as u64, &mut digits);
-    let end = put_bytes(out, at, &digits[..k]);
-    let last = [behind];
-    put_bytes(out, end, &last)
+fn print_word(word: u32) {
+    io::print_decimal(STDOUT_FILENO, word as u64);
+    io::write_all(STDOUT_FILENO, b" ");
 }
 
-fn put_bytes(out: &mut [u8], at: usize, s: &[u8]) -> usize {
-    let mut end = at;
+fn print_words(words: &[u32]) {
+    let n = words_before_zeros(words);
     let mut i = 0;
-    while i < s.len() {
-        end = put_byte(out, end, s[i]);
+    while i < words.len() && i < n {
+        print_word(words[i]);
         i += 1;
     }
-    end
-}
-
-fn put_byte(out: &mut [u8], at: usize, b: u8) -> usize {
-    if at < out.len() {
-        out[at] = b;
-        return at + 1;
-    }
-    at
-}
-
-fn put_words(out: &mut [u8], words: &[u32]) -> usize {
-    let mut end = 0;
-    let mut i = 0;
-    while i < words.len() {
-        end = put_number(out, end, words[i], b' ');
-        i += 1;
-    }
-    put_byte(out, end, b'\n')
-}
-
-fn print_tree(takes: u64, items: u32, tree: &[u32], out: &mut [u8]) {
-    io::write_all(STDOUT_FILENO, b"takes=");
-    io::print_decimal(STDOUT_FILENO, takes);
-    io::write_all(STDOUT_FILENO, b" items=");
-    io::print_decimal(STDOUT_FILENO, items as u64);
     io::write_all(STDOUT_FILENO, b"\n");
-    let n = words_before_zeros(tree);
-    if n <= tree.len() {
-        let len = put_words(out, &tree[..n]);
-        print_first(out, len);
-    }
 }
 
-fn print_list_by(
-    text: &[u8],
-    table: &[u32],
-    count: usize,
-    work: &mut [u32],
-    tree: &mut [u32],
-    out: &mut [u8],
-) {
-    match parse::parse_tokens(text, table, count, work, tree) {
+fn print_tree(takes: u64, items: u32, tree: &[u32]) {
+    print_number(b"takes=", takes);
+    print_number(b" items=", items as u64);
+    io::write_all(STDOUT_FILENO, b"\n");
+    print_words(tree);
+}
+
+fn print_list_by(text: &[u8], table: &[u32]) {
+    let mut work = [0u32; 404];
+    let mut tree = [0u32; 3232];
+    match parse::parse_tokens(text, table, table.len() / 3, &mut work, &mut tree) {
         ParsedTokens::Read {
             takes,
             items,
             blank: _,
-        } => print_tree(takes, items, tree, out),
+        } => print_tree(takes, items, &tree),
         ParsedTokens::Refused(number) => print_refusal(number),
     }
 }
 
-fn print_short_list(text: &[u8], table: &[u32], count: usize) {
-    let mut work = [0u32; 404];
-    let mut tree = [0u32; 3232];
-    let mut out = [0u8; 20000];
-    print_list_by(text, table, count, &mut work, &mut tree, &mut out);
-}
-
-fn print_long_list(text: &[u8], table: &[u32], count: usize) {
-    let mut work = [0u32; 16388];
-    let mut tree = [0u32; 131104];
-    let mut out = [0u8; 400000];
-    print_list_by(text, table, count, &mut work, &mut tree, &mut out);
-}
-
-pub(crate) fn print_list(text: &[u8], table: &[u32], count: usize) {
-    if count <= 100 {
-        print_short_list(text, table, count);
-    } else {
-        print_long_list(text, table, count);
+// A list of at most 100 tokens.
+pub(crate) fn print_list(text: &[u8]) {
+    let mut table = [0u32; 300];
+    let n = read_words(&mut table);
+    if n <= 300 {
+        print_list_by(text, &table[..n]);
     }
 }
