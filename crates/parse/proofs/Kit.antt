@@ -18,7 +18,8 @@ use Rattle.reading.specs.Reading.{State, M, return, _>>=_, if_then_else_, here,
 use Rattle.lookahead.proofs.Testing.{test-below}
 use Rattle.records.specs.Record.{placeOf, isPlaced, kindOf, startOf, lenOf, spaceStart, spaceLen}
 use Rattle.lookahead.specs.Tests.{testAt, isKind, headsKind, marksKind, beginsKind}
-use Rattle.parse.specs.Entry.{Safe, Kept, looked}
+use Rattle.lookahead.specs.Takes.{looked}
+use Rattle.parse.specs.Entry.{Safe, Kept}
 use Rattle.parse.specs.Meet.{Input, Row, Stands, Given, At, Known, readers, stopOf}
 
 -- The monad.

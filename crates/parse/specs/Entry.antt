@@ -1,12 +1,10 @@
 -- What the readers need of the entries' words, and what they leave of them. t are the words of the token table, K the work words,
 -- X the text.
-use Prim.Native.Nat.{ℕ, _+_, _*_, _%_, _^_, _≤_, _<_}
+use Prim.Native.Nat.{ℕ, _+_, _*_, _≤_, _<_}
 use mathlib.Core.Path.{_≡_}
 use mathlib.Core.List.{List}
 use mathlib.Core.Bool.{Bool, true, false}
 use lib.ListN.{length}
-use lib.Dec.{ltb}
-use Rattle.tree.specs.Words.{pick}
 use Rattle.records.specs.Record.{placeOf, afterClose, sepWord, startOf, lenOf}
 
 -- the entry i has its four words, and its token stands in the table
@@ -26,10 +24,6 @@ pub record Kept (K L : List ℕ) : Type 0 where
   pub place : (i : ℕ) → placeOf L i ≡ placeOf K i
   pub close : (i : ℕ) → afterClose L i ≡ afterClose K i
   pub sep : (i : ℕ) → sepWord L i ≡ sepWord K i
-
--- the takes after a look at the next token: a take, if there is one
-unfoldable pub looked : ℕ → ℕ → ℕ → ℕ
-looked n p u = pick (ltb p n) ((u + 1) % 2 ^ 32) u
 
 abbrev pub bit : Bool → ℕ
 bit true = 1

@@ -25,7 +25,8 @@ use Rattle.parse.specs.declared.cursor.Gap.{Gap}
 use Rattle.parse.specs.Buffer.{Wrote}
 use Rattle.records.specs.Record.{afterClose, sepWord, marksOf, kindOf, startOf, lenOf, spaceStart, spaceLen}
 use Rattle.nodes.specs.Nodes.{gapWords, gapItems}
-use Rattle.parse.specs.Entry.{Safe, Kept, bit, marksWord, looked}
+use Rattle.lookahead.specs.Takes.{taken, looked}
+use Rattle.parse.specs.Entry.{Safe, Kept, bit, marksWord}
 
 -- What the definition reads.
 pub record Input : Type 0 where
@@ -312,7 +313,7 @@ pub record Gapped (t K : List ℕ) (n : ℕ) (first : Bool) (i e : ℕ) (x y : L
 
 -- The cursor's moves.
 abbrev pub onward : Cursor → Cursor
-onward c = record { pos = c .pos + 1; depth = c .depth; takes = (c .takes + 1) % 2 ^ 32 }
+onward c = record { pos = c .pos + 1; depth = c .depth; takes = taken (c .takes) }
 
 abbrev pub seen : ℕ → Cursor → Cursor
 seen n c = record { pos = c .pos; depth = c .depth; takes = looked n (c .pos) (c .takes) }

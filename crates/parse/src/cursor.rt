@@ -1,4 +1,6 @@
 // Where a reader stands, and what readers answer.
+use lookahead::takes::count_look;
+use lookahead::takes::count_take;
 ghost use mathlib.Core.Path.{_≡_};
 ghost use Prim.Native.Nat.{_≤_, _<_};
 ghost use Rattle.parse.specs.Meet.{onward, seen, passing, inner, atDepth, rewound};
@@ -19,7 +21,7 @@ impl Cursor {
         Cursor {
             pos: self.pos + 1,
             depth: self.depth,
-            takes: std::num::wrapping_add_u32(self.takes, 1),
+            takes: count_take(self.takes),
         }
     }
 
@@ -27,14 +29,10 @@ impl Cursor {
     pub(crate) fn look(self, n: usize) -> Cursor
         ensures { λ r. ⌜ r ≡ seen n self ⌝ }
     {
-        if (self.pos as usize) < n {
-            Cursor {
-                pos: self.pos,
-                depth: self.depth,
-                takes: std::num::wrapping_add_u32(self.takes, 1),
-            }
-        } else {
-            self
+        Cursor {
+            pos: self.pos,
+            depth: self.depth,
+            takes: count_look(self.takes, n, self.pos as usize),
         }
     }
 

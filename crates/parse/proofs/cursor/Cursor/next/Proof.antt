@@ -3,17 +3,14 @@ use borrow.Author.Needs.{needs}
 use Rattle.parse.proofs.cursor.Cursor.next.Statement.{statement}
 use Rattle.parse.proofs.cursor.Cursor.next.Tie as tie
 
--- src/cursor.rt:20:18
 add-t2 : tie.Need-add-t2
 add-t2 c = search needs
 
--- src/cursor.rt:22:20
-wrapping-add-u32-requires : tie.Need-wrapping-add-u32-requires
-wrapping-add-u32-requires c κs = search needs
+count-take-requires : tie.Need-count-take-requires
+count-take-requires c κs = search needs
 
--- src/cursor.rt:15:5
 returns : tie.Need-returns
-returns c = simp (c .wrapping-add-u32 .ensures)
+returns c = simp (c .count-take .ensures)
 
 pub next-spec : {M : Type 1} → statement M
-next-spec = tie.close (tie.spec add-t2 wrapping-add-u32-requires returns)
+next-spec = tie.close (tie.spec add-t2 count-take-requires returns)
