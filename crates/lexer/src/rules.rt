@@ -82,15 +82,14 @@ fn strip_text(text: &[u8], table: &mut [u32], p: Listed) -> Listed
     ensures { λ r. ⌜ AddedRead (fromQuotation (now (text .entry)) (p .next)) p (now (table .entry)) r (now (table .exit)) ⌝ }
 {
     let at = p.next;
-    if text[at] != 34 {
-        return put_other(table, p, at, 1, 7, at + 1);
-    }
     let from = at + 1;
-    let e = find_end(text, from, 34);
-    if e < text.len() {
-        return put_other(table, p, from, e - from, 5, e + 1);
+    if text[at] == 34 {
+        let e = find_end(text, from, 34);
+        if e < text.len() {
+            return put_other(table, p, from, e - from, 5, e + 1);
+        }
     }
-    put_other(table, p, at, 1, 7, at + 1)
+    put_other(table, p, at, 1, 7, from)
 }
 
 // Where digits with at most one point end.
