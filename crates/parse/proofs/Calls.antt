@@ -13,8 +13,7 @@ use Rattle.tokenizer.specs.declared.TokenizedUnder.the-variants as under
 use Rattle.tokens.specs.Lexeme.{Lexeme}
 use Rattle.lexing.specs.Rules.{tokens}
 use Rattle.tokens.specs.Table.{tableWords, tokenList, countOthers}
-use Rattle.tokens.specs.Refusals.{Answer, accepted, refused, textRefusal, listRefusal}
-use Rattle.refusals.specs.Room.{roomRefusal}
+use Rattle.tokens.specs.Refusals.{Answer, accepted, refused, textRefusal, listRefusal, roomRefusal}
 use Rattle.refusals.proofs.Lengths.{work-short, tree-short, room-enough}
 use Rattle.tokenizer.specs.Call as call
 use Rattle.tokens.proofs.Cases.{by-lt, by-option}

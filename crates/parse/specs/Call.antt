@@ -8,8 +8,7 @@ use lib.ListN.{length, drop, replicate}
 use Rattle.tokens.specs.Lexeme.{Lexeme}
 use Rattle.lexing.specs.Rules.{tokens}
 use Rattle.tokens.specs.Table.{tableWords, tokenList, countOthers}
-use Rattle.tokens.specs.Refusals.{Answer, accepted, refused, textRefusal, listRefusal}
-use Rattle.refusals.specs.Room.{roomRefusal}
+use Rattle.tokens.specs.Refusals.{Answer, accepted, refused, textRefusal, listRefusal, roomRefusal}
 use Rattle.tree.specs.Tree.{count}
 use Rattle.tree.specs.Words.{encodeItems}
 use Rattle.reading.specs.Reading.{readTokens, blank}

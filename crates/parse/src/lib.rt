@@ -20,9 +20,8 @@ ghost use mathlib.Core.Path.{_≡_};
 ghost use mathlib.Core.Option.{none};
 ghost use Prim.Native.Nat.{_+_, _*_, _≤_, _<_};
 ghost use lib.ListN.{length};
-ghost use Rattle.tokens.specs.Refusals.{listRefusal};
+ghost use Rattle.tokens.specs.Refusals.{listRefusal, roomRefusal};
 ghost use Rattle.tokens.specs.Table.{tokenList, countOthers};
-ghost use Rattle.refusals.specs.Room.{roomRefusal};
 ghost use Rattle.parse.specs.Call.{answerOf, listAnswerOf, parsedText, parsedTokens};
 
 // What the reading of a text answers.

@@ -3,7 +3,7 @@ use Prim.Native.Nat.{ℕ, _+_, _*_, _≤_, _<_}
 use mathlib.Core.Path.{_≡_, refl, sym, ap, _∙_}
 use mathlib.Core.Option.{Option, none, some}
 use borrow.Author.Tests.{lt-ltb, le-ltb}
-use Rattle.refusals.specs.Room.{roomRefusal}
+use Rattle.tokens.specs.Refusals.{roomRefusal}
 use Rattle.refusals.specs.declared.room.Room.{Room}
 use Rattle.refusals.specs.declared.room.Room.the-variants.{Enough, Refused}
 use Rattle.refusals.specs.Room.{roomOf, roomAnswer}

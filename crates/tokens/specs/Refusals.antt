@@ -68,6 +68,16 @@ unfoldable pub listRefusal : List ℕ → ℕ → List ℕ → Option ℕ
 listRefusal text count table =
     elim (textRefusal text) [ some k ↦ some k | none ↦ tableRefusal (length text) count table ]
 
+-- "Work needs 4 × (n + 1) words, tree 32 × (n + 1)": "8 work too short; 9 tree too short". n is the number of tokens other than
+-- Space; the buffers have this many words.
+unfoldable pub roomRefusal : ℕ → ℕ → ℕ → Option ℕ
+roomRefusal n work tree =
+    elim (ltb work (4 * (n + 1))) [
+      | true ↦ some 8
+      | false ↦
+          elim (ltb tree (32 * (n + 1))) [ true ↦ some 9 | false ↦ none ]
+    ]
+
 -- "For condition 3 a text or token list is accepted if none of the refusals 1 to 6 meets it, whatever the buffers."
 abbrev pub AcceptedText : List ℕ → Type 0
 AcceptedText text = textRefusal text ≡ none
