@@ -1,6 +1,8 @@
 // Where a reader stands, and what readers answer.
 ghost use mathlib.Core.Path.{_≡_};
+ghost use mathlib.Core.Bool.{true};
 ghost use Prim.Native.Nat.{_≤_, _<_};
+ghost use Rattle.tree.specs.Words.{pick};
 ghost use Rattle.parse.specs.Meet.{onward, seen, passing, inner, atDepth, rewound};
 
 // Readers of that depth find nothing.
@@ -51,6 +53,14 @@ impl Cursor {
         } else {
             self
         }
+    }
+
+    // Past the next token, if it is taken; else a look at it.
+    pub(crate) fn past(self, n: usize, taken: bool) -> Cursor
+        requires { ⌜ (taken ≡ true → self .pos < 4096) ⌝ }
+        ensures { λ r. ⌜ r ≡ pick taken (onward self) (seen n self) ⌝ }
+    {
+        if taken { self.next() } else { self.look(n) }
     }
 
     // One reader deeper.
