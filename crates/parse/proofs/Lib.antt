@@ -5,6 +5,7 @@ pub mod Arms
 pub mod Scripting
 pub mod Sorts
 pub mod Begins
+pub mod Choices
 pub mod Alone
 pub mod Loop
 pub mod Gaps

@@ -1,6 +1,7 @@
 pub mod Entry
 pub mod Buffer
 pub mod Meet
+pub mod Choices
 pub mod Columns
 pub mod Matrix
 pub mod Top

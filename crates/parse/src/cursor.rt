@@ -2,7 +2,9 @@
 use lookahead::takes::count_look;
 use lookahead::takes::count_take;
 ghost use mathlib.Core.Path.{_≡_};
+ghost use mathlib.Core.Bool.{true};
 ghost use Prim.Native.Nat.{_≤_, _<_};
+ghost use Rattle.tree.specs.Words.{pick};
 ghost use Rattle.parse.specs.Meet.{onward, seen, passing, inner, atDepth, rewound};
 
 // The position, the depth of the readers, and the takes so far, counted round 2^32.
@@ -46,6 +48,14 @@ impl Cursor {
         } else {
             self
         }
+    }
+
+    // Past the next token, if it is taken; else a look at it.
+    pub(crate) fn past(self, n: usize, taken: bool) -> Cursor
+        requires { ⌜ (taken ≡ true → self .pos < 4096) ⌝ }
+        ensures { λ r. ⌜ r ≡ pick taken (onward self) (seen n self) ⌝ }
+    {
+        if taken { self.next() } else { self.look(n) }
     }
 
     // One reader deeper.

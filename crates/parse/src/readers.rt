@@ -17,20 +17,18 @@ use crate::kinds::NODE_BINARY;
 use crate::kinds::NODE_CELL;
 use crate::kinds::NODE_FUNC;
 use crate::kinds::NODE_MISSING;
-use crate::kinds::NODE_SFUNC;
 use crate::kinds::NODE_SIGNED;
 use crate::kinds::NODE_SIMPLE;
-use crate::kinds::NODE_SSIGNED;
-use crate::kinds::NODE_UNARY;
 use crate::kinds::OPEN_BRACKET;
 use crate::kinds::OPEN_CLOSE_BRACKET;
 use crate::kinds::SEP;
-use crate::kinds::SIGN;
 use crate::kinds::SUPER;
-use crate::kinds::UNARY;
 use crate::plain::plain_item;
 use crate::tests::bar_after;
 use crate::tests::opens;
+use crate::tests::prefix_kind;
+use crate::tests::prefix_stop;
+use crate::tests::scripted;
 use crate::write::leaf;
 use crate::write::put_group;
 use crate::write::put_matrix;
@@ -141,41 +139,28 @@ fn next_script(
     ensures { λ r. ⌜ Scripts (now (text .entry)) (now (tok .entry)) n (now (work .entry)) (now (work .exit)) c e (now (tree .entry)) (now (tree .exit)) r ⌝ }
 {
     let pos = c.pos as usize;
-    if marks_at(tok, work, n, pos) {
-        if is_at(tok, work, n, pos, SUPER) {
-            let a = arg(text, tok, n, work, tree, c.next(), e, false);
-            let ac = a.cur;
-            Scripted {
-                cur: ac,
-                end: a.end,
-                script: 2,
-            }
-        } else {
-            let a = arg(text, tok, n, work, tree, c.next(), e, false);
-            let ac = a.cur;
-            let at = ac.pos as usize;
-            if is_at(tok, work, n, at, SUPER) {
-                let b = arg(text, tok, n, work, tree, ac.next(), a.end, false);
-                let bc = b.cur;
-                Scripted {
-                    cur: bc,
-                    end: b.end,
-                    script: 3,
-                }
-            } else {
-                Scripted {
-                    cur: ac.look(n),
-                    end: a.end,
-                    script: 1,
-                }
-            }
-        }
-    } else {
-        Scripted {
+    if !marks_at(tok, work, n, pos) {
+        return Scripted {
             cur: c.look(n),
             end: e,
             script: 0,
-        }
+        };
+    }
+    let sup = is_at(tok, work, n, pos, SUPER);
+    let a = arg(text, tok, n, work, tree, c.next(), e, false);
+    if sup {
+        return scripted(a, 2);
+    }
+    let ac = a.cur;
+    let at = ac.pos as usize;
+    if is_at(tok, work, n, at, SUPER) {
+        let b = arg(text, tok, n, work, tree, ac.next(), a.end, false);
+        return scripted(b, 3);
+    }
+    Scripted {
+        cur: ac.look(n),
+        end: a.end,
+        script: 1,
     }
 }
 
@@ -564,48 +549,25 @@ fn try_matrix(
     requires { ⌜ i < n ⌝ }
     ensures { λ r. ⌜ TryMatrix (now (text .entry)) (now (tok .entry)) n (now (work .entry)) (now (work .exit)) i c e (now (tree .entry)) (now (tree .exit)) r ⌝ }
 {
-    if could_be_matrix(text, tok, work, n, i) {
-        if failed_at(work, i, MATRIX_MARK) {
-            return Step::Nothing(c);
-        }
-        let from = c.pos;
-        let rows = next_rows(text, tok, n, work, tree, c, e + 8);
-        let cur = rows.cur;
-        let p = cur.pos as usize;
-        let why = rows.why;
-        match why {
-            Why::Done => {
-                let split = split_column_lines(text, tree, e + 8, rows.end, rows.cells, rows.cols);
-                if makes_matrix(text, tok, work, n, i, rows.left, split.cells, p) {
-                    put_matrix(
-                        tok,
-                        work,
-                        tree,
-                        e,
-                        i,
-                        p,
-                        split.cells as u32,
-                        split.cols as u32,
-                        split.lines as u32,
-                    );
-                    Step::Found(cur.next(), split.end, true)
-                } else {
-                    mark_failed(work, i, MATRIX_MARK);
-                    Step::Nothing(cur.rewind(from))
-                }
-            }
-            Why::Differs => {
-                mark_failed(work, i, MATRIX_MARK);
-                Step::Nothing(cur.rewind(from))
-            }
-            Why::Broken => {
-                mark_failed(work, i, MATRIX_MARK);
-                Step::Nothing(cur.rewind(from))
-            }
-        }
-    } else {
-        Step::Nothing(c)
+    if !could_be_matrix(text, tok, work, n, i) {
+        return Step::Nothing(c);
     }
+    if failed_at(work, i, MATRIX_MARK) {
+        return Step::Nothing(c);
+    }
+    let rows = next_rows(text, tok, n, work, tree, c, e + 8);
+    let cur = rows.cur;
+    let why = rows.why;
+    if let Why::Done = why {
+        let p = cur.pos as usize;
+        let split = split_column_lines(text, tree, e + 8, rows.end, rows.cells, rows.cols);
+        if makes_matrix(text, tok, work, n, i, rows.left, split.cells, p) {
+            put_matrix(tok, work, tree, e, i, p, split);
+            return Step::Found(cur.next(), split.end, true);
+        }
+    }
+    mark_failed(work, i, MATRIX_MARK);
+    Step::Nothing(cur.rewind(c.pos))
 }
 
 // The group that the bracket at i opens.
@@ -626,20 +588,12 @@ fn open_group(
     let run = extend(text, tok, n, work, tree, c, e + 6, n, false, true, true);
     let cur = run.cur;
     let at = cur.pos as usize;
-    if is_at(tok, work, n, at, CLOSE_BRACKET) {
-        put_group(tok, work, n, tree, e, i, at, run.count);
-        Part {
-            cur: cur.next(),
-            end: run.end,
-            ends: true,
-        }
-    } else {
-        put_group(tok, work, n, tree, e, i, n, run.count);
-        Part {
-            cur: cur.look(n),
-            end: run.end,
-            ends: true,
-        }
+    let shut = is_at(tok, work, n, at, CLOSE_BRACKET);
+    put_group(tok, work, n, tree, e, i, bar_after(shut, at, n), run.count);
+    Part {
+        cur: cur.past(n, shut),
+        end: run.end,
+        ends: true,
     }
 }
 
@@ -792,21 +746,15 @@ fn other(
     requires { ⌜ opening k ≡ false ⌝ }
     ensures { λ r. ⌜ Begun (now (text .entry)) (now (tok .entry)) n (now (work .entry)) (now (work .exit)) i stop sign c e (now (tree .entry)) (now (tree .exit)) r ⌝ }
 {
-    if k == UNARY {
-        unary(text, tok, n, work, tree, c, e, false, i, NODE_UNARY)
-    } else if k == FUNCTION {
-        unary(text, tok, n, work, tree, c, e, false, i, NODE_SFUNC)
-    } else if k == BINARY {
-        binary(text, tok, n, work, tree, c, e, i)
-    } else if k == SIGN {
-        if sign {
-            unary(text, tok, n, work, tree, c, e, stop, i, NODE_SSIGNED)
-        } else {
-            leaf(tok, work, tree, c, e, i, k)
-        }
-    } else {
-        leaf(tok, work, tree, c, e, i, k)
+    if k == BINARY {
+        return binary(text, tok, n, work, tree, c, e, i);
     }
+    let kind = prefix_kind(k, sign);
+    if kind == NODE_MISSING {
+        return leaf(tok, work, tree, c, e, i, k);
+    }
+    let within = prefix_stop(k, stop);
+    unary(text, tok, n, work, tree, c, e, within, i, kind)
 }
 
 // What the entry i, just taken, begins.

@@ -1,9 +1,19 @@
 // Small choices of the readers.
+use crate::cursor::Part;
+use crate::cursor::Scripted;
+use crate::kinds::FUNCTION;
+use crate::kinds::NODE_MISSING;
+use crate::kinds::NODE_SFUNC;
+use crate::kinds::NODE_SSIGNED;
+use crate::kinds::NODE_UNARY;
 use crate::kinds::OPEN_BRACKET;
 use crate::kinds::OPEN_CLOSE_BRACKET;
+use crate::kinds::SIGN;
+use crate::kinds::UNARY;
 ghost use mathlib.Core.Path.{_≡_};
 ghost use Rattle.tree.specs.Words.{pick};
 ghost use Rattle.parse.specs.Meet.{opening};
+ghost use Rattle.parse.specs.Choices.{prefixNumber, prefixStop};
 
 // A token of kind k opens a group: a bracket or a bar.
 pub(crate) fn opens(k: u32) -> bool
@@ -21,4 +31,41 @@ pub(crate) fn bar_after(first: bool, n: usize, until: usize) -> usize
     ensures { λ r. ⌜ r ≡ pick first n until ⌝ }
 {
     if first { n } else { until }
+}
+
+// The kind of node that a token of kind k makes of one argument; Missing, if it takes none. `sign`: a sign here prefixes.
+pub(crate) fn prefix_kind(k: u32, sign: bool) -> u32
+    ensures { λ r. ⌜ r ≡ prefixNumber k sign ⌝ }
+{
+    if k == UNARY {
+        return NODE_UNARY;
+    }
+    if k == FUNCTION {
+        return NODE_SFUNC;
+    }
+    if k == SIGN {
+        if sign {
+            return NODE_SSIGNED;
+        }
+    }
+    NODE_MISSING
+}
+
+// Whether that argument ends at a separator: a sign's does where the sign's own reader does.
+pub(crate) fn prefix_stop(k: u32, stop: bool) -> bool
+    ensures { λ r. ⌜ r ≡ prefixStop k stop ⌝ }
+{
+    if k == SIGN { stop } else { false }
+}
+
+// The script of that number whose last argument was read.
+pub(crate) fn scripted(g: Part, script: u32) -> Scripted
+    ensures { λ r. ⌜ r ≡ record { cur = g .cur; end = g .end; script = script } ⌝ }
+{
+    let gc = g.cur;
+    Scripted {
+        cur: gc,
+        end: g.end,
+        script: script,
+    }
 }

@@ -92,14 +92,25 @@ pub(crate) fn put_matrix(
     e: usize,
     i: usize,
     j: usize,
-    cells: u32,
-    cols: u32,
-    lines: u32,
+    split: Split,
 )
     requires { ⌜ e + 8 ≤ length (now tree) ⌝ }
-    ensures { λ _. ⌜ now (tree .exit) ≡ sets (now (tree .entry)) e (matrixWords (now (tok .entry)) (now (work .entry)) i j cells cols lines) ⌝ }
+    requires { ⌜ split .cells ≤ 4096 ⌝ }
+    requires { ⌜ split .cols ≤ 4096 ⌝ }
+    requires { ⌜ split .lines ≤ 4096 ⌝ }
+    ensures { λ _. ⌜ now (tree .exit) ≡ sets (now (tree .entry)) e (matrixWords (now (tok .entry)) (now (work .entry)) i j (split .cells) (split .cols) (split .lines)) ⌝ }
 {
-    nodes::put_matrix(tok, work, tree, e, i, j, cells, cols, lines);
+    nodes::put_matrix(
+        tok,
+        work,
+        tree,
+        e,
+        i,
+        j,
+        split.cells as u32,
+        split.cols as u32,
+        split.lines as u32,
+    );
 }
 
 // The Space before the entry i, if it is kept.
