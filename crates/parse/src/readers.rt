@@ -30,9 +30,9 @@ use crate::tests::prefix_kind;
 use crate::tests::prefix_stop;
 use crate::tests::scripted;
 use crate::write::leaf;
+use crate::write::node_before;
 use crate::write::put_group;
 use crate::write::put_matrix;
-use crate::write::put_node;
 use crate::write::put_space;
 use crate::write::put1;
 use crate::write::put6;
@@ -242,23 +242,10 @@ fn headed(
         let m = next_script(text, tok, n, work, tree, c, e + 6);
         let mc = m.cur;
         let g = operand(text, tok, n, work, tree, mc, m.end, false);
-        let gc = g.cur;
-        put_node(tok, work, tree, e, NODE_FUNC, i, m.script);
-        Part {
-            cur: gc,
-            end: g.end,
-            ends: true,
-        }
-    } else {
-        let g = operand(text, tok, n, work, tree, c, e + 6, stop);
-        let gc = g.cur;
-        put_node(tok, work, tree, e, NODE_SIGNED, i, 0);
-        Part {
-            cur: gc,
-            end: g.end,
-            ends: true,
-        }
+        return node_before(tok, work, tree, e, NODE_FUNC, i, m.script, g);
     }
+    let g = operand(text, tok, n, work, tree, c, e + 6, stop);
+    node_before(tok, work, tree, e, NODE_SIGNED, i, 0, g)
 }
 
 // One item: a scripted part, or a fraction of two.
@@ -689,13 +676,7 @@ fn unary(
     ensures { λ r. ⌜ Unary (now (text .entry)) (now (tok .entry)) n (now (work .entry)) (now (work .exit)) i kind stop c e (now (tree .entry)) (now (tree .exit)) r ⌝ }
 {
     let g = arg(text, tok, n, work, tree, c, e + 6, stop);
-    let gc = g.cur;
-    put_node(tok, work, tree, e, kind, i, 0);
-    Part {
-        cur: gc,
-        end: g.end,
-        ends: true,
-    }
+    node_before(tok, work, tree, e, kind, i, 0, g)
 }
 
 // The binary operation at i, with its two arguments.
@@ -716,13 +697,7 @@ fn binary(
     let g = arg(text, tok, n, work, tree, c, e + 6, false);
     let gc = g.cur;
     let h = arg(text, tok, n, work, tree, gc, g.end, false);
-    let hc = h.cur;
-    put_node(tok, work, tree, e, NODE_BINARY, i, 0);
-    Part {
-        cur: hc,
-        end: h.end,
-        ends: true,
-    }
+    node_before(tok, work, tree, e, NODE_BINARY, i, 0, h)
 }
 
 // What the entry i of another kind k, just taken, begins: an operation or a leaf.

@@ -5,7 +5,9 @@ use crate::cursor::Part;
 use columns::Split;
 use leaves::leaf_ends;
 use leaves::put_leaf;
+use nodes::put_node;
 ghost use mathlib.Core.Path.{_≡_};
+ghost use mathlib.Core.Bool.{true};
 ghost use mathlib.Core.List.{[], _∷_};
 ghost use Prim.Native.Nat.{_+_, _≤_};
 ghost use lib.ListN.{length};
@@ -51,8 +53,8 @@ pub(crate) fn leaf(
     }
 }
 
-// A node of the entry i: its kind, its span and one word more.
-pub(crate) fn put_node(
+// The node of the entry i before its arguments, of which g is the last: its kind, its span and one word more.
+pub(crate) fn node_before(
     tok: &[u32],
     work: &[u32],
     tree: &mut [u32],
@@ -60,11 +62,19 @@ pub(crate) fn put_node(
     kind: u32,
     i: usize,
     extra: u32,
-)
+    g: Part,
+) -> Part
     requires { ⌜ e + 6 ≤ length (now tree) ⌝ }
-    ensures { λ _. ⌜ now (tree .exit) ≡ sets (now (tree .entry)) e (nodeWords (now (tok .entry)) (now (work .entry)) i kind extra) ⌝ }
+    ensures { λ r. ⌜ r ≡ record { cur = g .cur; end = g .end; ends = true } ⌝ }
+    ensures { λ r. ⌜ now (tree .exit) ≡ sets (now (tree .entry)) e (nodeWords (now (tok .entry)) (now (work .entry)) i kind extra) ⌝ }
 {
-    nodes::put_node(tok, work, tree, e, kind, i, extra);
+    put_node(tok, work, tree, e, kind, i, extra);
+    let gc = g.cur;
+    Part {
+        cur: gc,
+        end: g.end,
+        ends: true,
+    }
 }
 
 // A group from the bracket i to the bracket j; to none, if j is no entry.
