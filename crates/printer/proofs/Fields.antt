@@ -5,7 +5,7 @@ use mathlib.Core.List.{List, [], _∷_, _++_, append-assoc, append-nil}
 use native.Mathlib.Omega.{arith}
 use lib.ListN.{length, getD, take, drop, List·getD-eq-default}
 use native.Mathlib.Numerals.{add-one}
-use lib.Seq.{take-suc, take-length}
+use lib.Seq.{take-suc, take-all}
 use lib.Dec.{eqb}
 use borrow.Author.Tests.{ne-eqb}
 use borrow.Author.Count.{below-more}
@@ -49,20 +49,28 @@ unfolding more
 more-snoc [] n = rw append-nil
 more-snoc (m ∷ l) n = ap (λ (x : List ℕ). 44 ∷ (decimal m ++ x)) (more-snoc l n) ∙ ap (λ (x : List ℕ). 44 ∷ x) (sym (append-assoc (decimal m) (more l) (44 ∷ decimal n)))
 
-pub more-take : (l : List ℕ) (i : ℕ) → i < length l → more (take i l) ++ (44 ∷ decimal (getD l i 0)) ≡ more (take (i + 1) l)
-more-take l i h = rw (add-one, take-suc l i 0 h, more-snoc (take i l) (getD l i 0))
+more-take : (l : List ℕ) (i : ℕ) → i < length l → more (take i l) ++ (44 ∷ decimal (getD l i 0)) ≡ more (take (suc i) l)
+more-take l i h = rw (take-suc l i 0 h, more-snoc (take i l) (getD l i 0))
 
 pub commas-none : (l : List ℕ) → length l ≡ 0 → bytes "none" ≡ commas l
 unfolding commas
 commas-none [] h = refl
 commas-none (n ∷ l) h = absurd (omega arith)
 
-pub commas-some : (l : List ℕ) → (length l ≡ 0 → ⊥) → decimal (getD l 0 0) ++ more (take (length l - 1) (drop 1 l)) ≡ commas l
+-- the numbers from the second on, up to i
+pub commas-next : (l : List ℕ) (i : ℕ) → 1 ≤ i → i < length l →
+    more (take (i - 1) (drop 1 l)) ++ (44 ∷ decimal (getD l i 0)) ≡ more (take (i + 1 - 1) (drop 1 l))
+commas-next l zero h k = absurd (omega arith)
+commas-next [] (suc i) h k = absurd (omega arith)
+commas-next (n ∷ l) (suc i) h k =
+    let a : suc i - 1 ≡ i = omega arith in
+    let b : suc i + 1 - 1 ≡ suc i = omega arith in
+    rw (a, b) (more-take l i (omega arith))
+
+pub commas-all : (l : List ℕ) (i : ℕ) → (length l ≡ 0 → ⊥) → length l ≤ i → decimal (getD l 0 0) ++ more (take (i - 1) (drop 1 l)) ≡ commas l
 unfolding commas
-commas-some [] h = absurd (h refl)
-commas-some (n ∷ l) h =
-    let s : suc (length l) - 1 ≡ length l = omega arith in
-    rw (s, take-length l)
+commas-all [] i h k = absurd (h refl)
+commas-all (n ∷ l) i h k = let m : length l ≤ i - 1 = omega arith in rw (take-all (i - 1) l m)
 
 -- at and len
 module _ (kind start len : ℕ) where
@@ -118,16 +126,13 @@ module _ (words : List ℕ) (o : Opened) where
   unfolding addedOf addedBy
   added-func e x = rw (e, x)
 
-  pub added-group : {r s : ℕ} → o .kind ≡ 15 → r ≡ wordOf words o 4 → s ≡ wordOf words o 5 → groupOf r s (o .count) ≡ addedOf words o
+  pub added-group : o .kind ≡ 15 → groupOf (wordOf words o 4) (wordOf words o 5) (o .count) ≡ addedOf words o
   unfolding addedOf addedBy
-  added-group e r s = rw (e, r, s)
+  added-group e = rw e
 
-  pub added-matrix : {r s k : ℕ} {lines : List ℕ} → o .kind ≡ 16 → r ≡ wordOf words o 4 → s ≡ wordOf words o 5 → k ≡ wordOf words o 6 →
-      lines ≡ linesOf words o → matrixOf r s k (o .count) lines ≡ addedOf words o
+  pub added-matrix : o .kind ≡ 16 → matrixOf (wordOf words o 4) (wordOf words o 5) (wordOf words o 6) (o .count) (linesOf words o) ≡ addedOf words o
   unfolding addedOf addedBy
-  added-matrix e r s k l =
-      let is : (n : ℕ) → eqb (o .kind) n ≡ eqb 16 n = λ n. ap (λ (q : ℕ). eqb q n) e in
-      rw (is 7, is 13, is 14, is 15, is 16, r, s, k, l)
+  added-matrix e = let is : (n : ℕ) → eqb (o .kind) n ≡ eqb 16 n = λ n. ap (λ (q : ℕ). eqb q n) e in rw (is 7, is 13, is 14, is 15, is 16)
 
   pub added-cell : o .kind ≡ 17 → number "items" (o .count) ≡ addedOf words o
   unfolding addedOf addedBy

@@ -3,6 +3,7 @@ mod line;
 mod put;
 mod row;
 
+use line::put_items;
 use put::put_byte;
 use put::put_number;
 use row::put_row;
@@ -25,7 +26,7 @@ fn put_first(out: &mut [u8], text: usize, tokens: usize, takes: u64, items: usiz
     let a = put_number(out, 0, b"text=", text as u64);
     let b = put_number(out, a, b" tokens=", tokens as u64);
     let c = put_number(out, b, b" takes=", takes);
-    let d = put_number(out, c, b" items=", items as u64);
+    let d = put_items(out, c, items);
     put_byte(out, d, 10)
 }
 

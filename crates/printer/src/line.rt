@@ -1,9 +1,9 @@
 // One line of the printed tree, from the words of its node.
-ghost use Prim.Native.Nat.{_≤_};
-ghost use lib.ListN.{length};
+ghost use Prim.Native.Nat.{_+_, _≤_};
+ghost use lib.ListN.{length, getD, drop};
 ghost use Rattle.printer.specs.Put.{Put};
-ghost use Rattle.printer.specs.Print.{nameOf, more, commas};
-ghost use Rattle.printer.specs.Lines.{scriptOf, leftOf, rightOf, groupOf, matrixOf, addedOf, startOf, lineOf};
+ghost use Rattle.printer.specs.Print.{nameOf, field, number, more, commas};
+ghost use Rattle.printer.specs.Lines.{scriptOf, leftOf, rightOf, groupOf, matrixOf, linesOf, wordOf, addedOf, startOf, lineOf};
 use crate::put::put_byte;
 use crate::put::put_bytes;
 use crate::put::put_decimal;
@@ -34,38 +34,29 @@ fn put_name(out: &mut [u8], at: usize, kind: u32) -> usize
 fn put_script(out: &mut [u8], at: usize, script: u32) -> usize
     ensures { λ r. ⌜ Put (now (out .entry)) at (now (out .exit)) r (scriptOf script) ⌝ }
 {
-    let end = put_bytes(out, at, b" script=");
     match script {
-        0 => put_bytes(out, end, b"none"),
-        1 => put_bytes(out, end, b"sub"),
-        2 => put_bytes(out, end, b"super"),
-        _ => put_bytes(out, end, b"subsuper"),
+        0 => put_bytes(out, at, b" script=none"),
+        1 => put_bytes(out, at, b" script=sub"),
+        2 => put_bytes(out, at, b" script=super"),
+        _ => put_bytes(out, at, b" script=subsuper"),
     }
 }
 
-// Further numbers, each after a comma.
-fn put_more(out: &mut [u8], at: usize, numbers: &[u32]) -> usize
-    ensures { λ r. ⌜ Put (now (out .entry)) at (now (out .exit)) r (more (now (numbers .entry))) ⌝ }
+// The column lines with commas, or none.
+fn put_lines(out: &mut [u8], at: usize, lines: &[u32]) -> usize
+    ensures { λ r. ⌜ Put (now (out .entry)) at (now (out .exit)) r (field "lines" (commas (now (lines .entry)))) ⌝ }
 {
-    let mut end = at;
-    let mut i = 0;
-    while i < numbers.len() {
+    if lines.len() == 0 {
+        return put_bytes(out, at, b" lines=none");
+    }
+    let mut end = put_number(out, at, b" lines=", lines[0] as u64);
+    let mut i = 1;
+    while i < lines.len() {
         end = put_byte(out, end, b',');
-        end = put_decimal(out, end, numbers[i] as u64);
+        end = put_decimal(out, end, lines[i] as u64);
         i += 1;
     }
     end
-}
-
-// The numbers with commas, or none.
-fn put_commas(out: &mut [u8], at: usize, numbers: &[u32]) -> usize
-    ensures { λ r. ⌜ Put (now (out .entry)) at (now (out .exit)) r (commas (now (numbers .entry))) ⌝ }
-{
-    if numbers.len() == 0 {
-        return put_bytes(out, at, b"none");
-    }
-    let end = put_decimal(out, at, numbers[0] as u64);
-    put_more(out, end, &numbers[1..])
 }
 
 // at and len, for every node that stands for a token or a left bracket.
@@ -84,36 +75,43 @@ fn put_left(out: &mut [u8], at: usize, kind: u32, start: u32, len: u32) -> usize
     }
 }
 
-fn put_right(out: &mut [u8], at: usize, start: u32, len: u32) -> usize
-    ensures { λ r. ⌜ Put (now (out .entry)) at (now (out .exit)) r (rightOf start len) ⌝ }
+fn put_class(out: &mut [u8], at: usize, class: u32) -> usize
+    ensures { λ r. ⌜ Put (now (out .entry)) at (now (out .exit)) r (number "class" class) ⌝ }
 {
-    let end = put_number(out, at, b" rat=", start as u64);
-    put_number(out, end, b" rlen=", len as u64)
+    put_number(out, at, b" class=", class as u64)
 }
 
-fn put_group(out: &mut [u8], at: usize, start: u32, len: u32, items: usize) -> usize
-    ensures { λ r. ⌜ Put (now (out .entry)) at (now (out .exit)) r (groupOf start len items) ⌝ }
+pub(crate) fn put_items(out: &mut [u8], at: usize, items: usize) -> usize
+    ensures { λ r. ⌜ Put (now (out .entry)) at (now (out .exit)) r (number "items" items) ⌝ }
 {
-    let end = put_right(out, at, start, len);
-    put_number(out, end, b" items=", items as u64)
+    put_number(out, at, b" items=", items as u64)
 }
 
-fn put_matrix(
-    out: &mut [u8],
-    at: usize,
-    start: u32,
-    len: u32,
-    cols: u32,
-    cells: usize,
-    lines: &[u32],
-) -> usize
-    ensures { λ r. ⌜ Put (now (out .entry)) at (now (out .exit)) r (matrixOf start len cols cells (now (lines .entry))) ⌝ }
+// rat and rlen, from the words of the node whose own begin at `head`.
+fn put_right(words: &[u32], out: &mut [u8], at: usize, head: usize) -> usize
+    requires { ⌜ head ≤ length (now words) ⌝ }
+    ensures { λ r. ⌜ Put (now (out .entry)) at (now (out .exit)) r (rightOf (getD (now (words .entry)) (head + 4) 0) (getD (now (words .entry)) (head + 5) 0)) ⌝ }
 {
-    let a = put_right(out, at, start, len);
-    let b = put_number(out, a, b" cols=", cols as u64);
-    let c = put_number(out, b, b" cells=", cells as u64);
-    let d = put_bytes(out, c, b" lines=");
-    put_commas(out, d, lines)
+    let end = put_number(out, at, b" rat=", word(words, head + 4) as u64);
+    put_number(out, end, b" rlen=", word(words, head + 5) as u64)
+}
+
+fn put_group(words: &[u32], out: &mut [u8], at: usize, o: Opened) -> usize
+    requires { ⌜ o .head ≤ length (now words) ⌝ }
+    ensures { λ r. ⌜ Put (now (out .entry)) at (now (out .exit)) r (groupOf (wordOf (now (words .entry)) o 4) (wordOf (now (words .entry)) o 5) (o .count)) ⌝ }
+{
+    let end = put_right(words, out, at, o.head);
+    put_items(out, end, o.count)
+}
+
+fn put_matrix(words: &[u32], out: &mut [u8], at: usize, o: Opened) -> usize
+    requires { ⌜ o .head ≤ length (now words) ⌝ }
+    ensures { λ r. ⌜ Put (now (out .entry)) at (now (out .exit)) r (matrixOf (wordOf (now (words .entry)) o 4) (wordOf (now (words .entry)) o 5) (wordOf (now (words .entry)) o 6) (o .count) (linesOf (now (words .entry)) o)) ⌝ }
+{
+    let a = put_right(words, out, at, o.head);
+    let b = put_number(out, a, b" cols=", word(words, o.head + 6) as u64);
+    let c = put_number(out, b, b" cells=", o.count as u64);
+    put_lines(out, c, column_lines(words, o))
 }
 
 // What the kind adds.
@@ -122,29 +120,14 @@ fn put_added(words: &[u32], out: &mut [u8], at: usize, o: Opened) -> usize
     ensures { λ r. ⌜ Put (now (out .entry)) at (now (out .exit)) r (addedOf (now (words .entry)) o) ⌝ }
 {
     let kind = o.kind;
-    let head = o.head;
-    let x = word(words, head + 3);
+    let x = word(words, o.head + 3);
     match kind {
-        7 => put_number(out, at, b" class=", x as u64),
+        7 => put_class(out, at, x),
         13 => put_script(out, at, x),
         14 => put_script(out, at, x),
-        15 => put_group(
-            out,
-            at,
-            word(words, head + 4),
-            word(words, head + 5),
-            o.count,
-        ),
-        16 => put_matrix(
-            out,
-            at,
-            word(words, head + 4),
-            word(words, head + 5),
-            word(words, head + 6),
-            o.count,
-            column_lines(words, o),
-        ),
-        17 => put_number(out, at, b" items=", o.count as u64),
+        15 => put_group(words, out, at, o),
+        16 => put_matrix(words, out, at, o),
+        17 => put_items(out, at, o.count),
         _ => at,
     }
 }
@@ -152,10 +135,9 @@ fn put_added(words: &[u32], out: &mut [u8], at: usize, o: Opened) -> usize
 fn put_start(out: &mut [u8], at: usize, depth: usize, kind: u32) -> usize
     ensures { λ r. ⌜ Put (now (out .entry)) at (now (out .exit)) r (startOf depth kind) ⌝ }
 {
-    let a = put_bytes(out, at, b"depth=");
-    let b = put_decimal(out, a, depth as u64);
-    let c = put_bytes(out, b, b" node=");
-    put_name(out, c, kind)
+    let a = put_number(out, at, b"depth=", depth as u64);
+    let b = put_bytes(out, a, b" node=");
+    put_name(out, b, kind)
 }
 
 pub(crate) fn put_line(words: &[u32], out: &mut [u8], at: usize, o: Opened, depth: usize) -> usize

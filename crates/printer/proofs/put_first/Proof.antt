@@ -26,11 +26,8 @@ slice-aggregate-put-number-3 c = search needs
 put-number-requires-3 : tie.Need-put-number-requires-3
 put-number-requires-3 c κs = search needs
 
-slice-aggregate-put-number-4 : tie.Need-slice-aggregate-put-number-4
-slice-aggregate-put-number-4 c = search needs
-
-put-number-requires-4 : tie.Need-put-number-requires-4
-put-number-requires-4 c κs = search needs
+put-items-requires : tie.Need-put-items-requires
+put-items-requires c κs = search needs
 
 put-byte-requires : tie.Need-put-byte-requires
 put-byte-requires c κs = search needs
@@ -40,7 +37,7 @@ same-length c = search needs
 
 returns : tie.Need-returns
 unfolding first
-returns c = put-as (append-assoc (bytes "text=") (decimal (c .before .before .before .before .before .before .before .before .before .before .before .before .before .before .before .before .before .before .before .before .before .before .before .before .before .args .text)) _) (then (c .before .before .before .before .before .before .before .before .before .before .before .before .before .before .before .before .before .before .before .before .before .put-number .ensures) (then (c .before .before .before .before .before .before .before .before .before .before .before .before .before .before .before .before .put-number2 .ensures) (then (c .before .before .before .before .before .before .before .before .before .before .before .put-number3 .ensures) (then (c .before .before .before .before .before .before .put-number4 .ensures) (c .before .before .put-byte .ensures)))))
+returns c = put-as (append-assoc (bytes "text=") (decimal (c .before .before .before .before .before .before .before .before .before .before .before .before .before .before .before .before .before .before .before .before .before .before .before .before .args .text)) _) (then (c .before .before .before .before .before .before .before .before .before .before .before .before .before .before .before .before .before .before .before .before .put-number .ensures) (then (c .before .before .before .before .before .before .before .before .before .before .before .before .before .before .before .put-number2 .ensures) (then (c .before .before .before .before .before .before .before .before .before .before .put-number3 .ensures) (then (c .before .before .before .before .before .before .put-items .ensures) (c .before .before .put-byte .ensures)))))
 
 pub put-first-spec : {M : Type 1} → statement M
 put-first-spec =
@@ -52,8 +49,7 @@ put-first-spec =
     put-number-requires-2
     slice-aggregate-put-number-3
     put-number-requires-3
-    slice-aggregate-put-number-4
-    put-number-requires-4
+    put-items-requires
     put-byte-requires
     same-length
     returns)

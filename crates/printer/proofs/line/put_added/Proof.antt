@@ -2,7 +2,6 @@
 use native.Mathlib.Omega.{arith}
 use Rattle.printer.proofs.Puts.{none, put-as}
 use Rattle.printer.proofs.Fields.{added-class, added-simple, added-func, added-group, added-matrix, added-cell, added-none}
-use Rattle.printer.specs.Lines.{linesOf}
 use borrow.Author.Needs.{needs}
 use Rattle.printer.proofs.line.put_added.Statement.{statement}
 use Rattle.printer.proofs.line.put_added.Tie as tie
@@ -13,14 +12,8 @@ add-word c = search needs
 word-requires : tie.Need-word-requires
 word-requires c κs = search needs
 
-slice-aggregate-put-number : tie.Need-slice-aggregate-put-number
-slice-aggregate-put-number c = search needs
-
-cast-put-number : tie.Need-cast-put-number
-cast-put-number c = search needs
-
-put-number-requires : tie.Need-put-number-requires
-put-number-requires c κs = search needs
+put-class-requires : tie.Need-put-class-requires
+put-class-requires c κs = search needs
 
 put-script-requires : tie.Need-put-script-requires
 put-script-requires c κs = search needs
@@ -28,56 +21,20 @@ put-script-requires c κs = search needs
 put-script-requires-2 : tie.Need-put-script-requires-2
 put-script-requires-2 c κs = search needs
 
-add-word-2 : tie.Need-add-word-2
-add-word-2 c = search needs
-
-word-requires-2 : tie.Need-word-requires-2
-word-requires-2 c κs = search needs
-
-add-word-3 : tie.Need-add-word-3
-add-word-3 c = search needs
-
-word-requires-3 : tie.Need-word-requires-3
-word-requires-3 c κs = search needs
-
 put-group-requires : tie.Need-put-group-requires
 put-group-requires c κs = search needs
-
-add-word-4 : tie.Need-add-word-4
-add-word-4 c = search needs
-
-word-requires-4 : tie.Need-word-requires-4
-word-requires-4 c κs = search needs
-
-add-word-5 : tie.Need-add-word-5
-add-word-5 c = search needs
-
-word-requires-5 : tie.Need-word-requires-5
-word-requires-5 c κs = search needs
-
-add-word-6 : tie.Need-add-word-6
-add-word-6 c = search needs
-
-word-requires-6 : tie.Need-word-requires-6
-word-requires-6 c κs = search needs
-
-column-lines-requires : tie.Need-column-lines-requires
-column-lines-requires c κs = search needs
 
 put-matrix-requires : tie.Need-put-matrix-requires
 put-matrix-requires c κs = search needs
 
-slice-aggregate-put-number-2 : tie.Need-slice-aggregate-put-number-2
-slice-aggregate-put-number-2 c = search needs
-
-put-number-requires-2 : tie.Need-put-number-requires-2
-put-number-requires-2 c κs = search needs
+put-items-requires : tie.Need-put-items-requires
+put-items-requires c κs = search needs
 
 same-length : tie.Need-same-length
 same-length c = search needs
 
 returns : tie.Need-returns
-returns c = put-as (added-class _ _ (c .before .before .before .before .before .match .keys1) (c .before .before .before .before .before .before .word .ensures)) (c .before .before .put-number .ensures)
+returns c = put-as (added-class _ _ (c .before .before .before .before .match .keys1) (c .before .before .before .before .before .word .ensures)) (c .before .before .put-class .ensures)
 
 same-length-2 : tie.Need-same-length-2
 same-length-2 c = search needs
@@ -95,23 +52,23 @@ same-length-4 : tie.Need-same-length-4
 same-length-4 c = search needs
 
 returns-4 : tie.Need-returns-4
-returns-4 c = put-as (added-group _ _ (c .before .before .before .before .before .before .match .keys4) (c .before .before .before .before .word2 .ensures) (c .before .before .before .word3 .ensures)) (c .before .before .put-group .ensures)
+returns-4 c = put-as (added-group _ _ (c .before .before .before .before .match .keys4)) (c .before .before .put-group .ensures)
 
 same-length-5 : tie.Need-same-length-5
 same-length-5 c = search needs
 
 returns-5 : tie.Need-returns-5
-unfolding linesOf
-returns-5 c = put-as (added-matrix _ _ (c .before .before .before .before .before .before .before .before .match .keys5) (c .before .before .before .before .before .before .word4 .ensures) (c .before .before .before .before .before .word5 .ensures) (c .before .before .before .before .word6 .ensures) (c .before .before .before .column-lines .ensures)) (c .before .before .put-matrix .ensures)
+returns-5 c = put-as (added-matrix _ _ (c .before .before .before .before .match .keys5)) (c .before .before .put-matrix .ensures)
 
 same-length-6 : tie.Need-same-length-6
 same-length-6 c = search needs
 
 returns-6 : tie.Need-returns-6
-returns-6 c = put-as (added-cell _ _ (c .before .before .before .before .before .match .keys6)) (c .before .before .put-number2 .ensures)
+returns-6 c = put-as (added-cell _ _ (c .before .before .before .before .match .keys6)) (c .before .before .put-items .ensures)
 
 returns-7 : tie.Need-returns-7
-returns-7 c = let r = c .match .rest in
+returns-7 c = 
+    let r = c .match .rest in
     put-as (added-none _ _ (r .0 .0 .0 .0 .0 .1) (r .0 .0 .0 .0 .1) (r .0 .0 .0 .1) (r .0 .0 .1) (r .0 .1) (r .1)) (none _ _ (omega arith))
 
 pub put-added-spec : {M : Type 1} → statement M
@@ -120,26 +77,12 @@ put-added-spec =
     (tie.spec
     add-word
     word-requires
-    slice-aggregate-put-number
-    cast-put-number
-    put-number-requires
+    put-class-requires
     put-script-requires
     put-script-requires-2
-    add-word-2
-    word-requires-2
-    add-word-3
-    word-requires-3
     put-group-requires
-    add-word-4
-    word-requires-4
-    add-word-5
-    word-requires-5
-    add-word-6
-    word-requires-6
-    column-lines-requires
     put-matrix-requires
-    slice-aggregate-put-number-2
-    put-number-requires-2
+    put-items-requires
     same-length
     returns
     same-length-2

@@ -1,5 +1,5 @@
 -- A script by its number.
-use Rattle.printer.proofs.Puts.{then, put-as}
+use Rattle.printer.proofs.Puts.{put-as}
 use Rattle.printer.proofs.Fields.{script-none, script-sub, script-super, script-both}
 use borrow.Author.Needs.{needs}
 use Rattle.printer.proofs.line.put_script.Statement.{statement}
@@ -29,36 +29,29 @@ slice-aggregate-put-bytes-4 c = search needs
 put-bytes-requires-4 : tie.Need-put-bytes-requires-4
 put-bytes-requires-4 c κs = search needs
 
-slice-aggregate-put-bytes-5 : tie.Need-slice-aggregate-put-bytes-5
-slice-aggregate-put-bytes-5 c = search needs
-
-put-bytes-requires-5 : tie.Need-put-bytes-requires-5
-put-bytes-requires-5 c κs = search needs
-
 same-length : tie.Need-same-length
 same-length c = search needs
 
 returns : tie.Need-returns
-returns c = put-as (script-none _ (c .before .before .before .before .before .match .keys1)) (then (c .before .before .before .before .before .before .before .before .put-bytes .ensures) (c .before .before .put-bytes2 .ensures))
+returns c = put-as (script-none _ (c .before .before .before .before .before .match .keys1)) (c .before .before .put-bytes .ensures)
 
 same-length-2 : tie.Need-same-length-2
 same-length-2 c = search needs
 
 returns-2 : tie.Need-returns-2
-returns-2 c = put-as (script-sub _ (c .before .before .before .before .before .match .keys2)) (then (c .before .before .before .before .before .before .before .before .put-bytes .ensures) (c .before .before .put-bytes3 .ensures))
+returns-2 c = put-as (script-sub _ (c .before .before .before .before .before .match .keys2)) (c .before .before .put-bytes2 .ensures)
 
 same-length-3 : tie.Need-same-length-3
 same-length-3 c = search needs
 
 returns-3 : tie.Need-returns-3
-returns-3 c = put-as (script-super _ (c .before .before .before .before .before .match .keys3)) (then (c .before .before .before .before .before .before .before .before .put-bytes .ensures) (c .before .before .put-bytes4 .ensures))
+returns-3 c = put-as (script-super _ (c .before .before .before .before .before .match .keys3)) (c .before .before .put-bytes3 .ensures)
 
 same-length-4 : tie.Need-same-length-4
 same-length-4 c = search needs
 
 returns-4 : tie.Need-returns-4
-returns-4 c = let r = c .before .before .before .before .before .match .rest in
-    put-as (script-both _ (r .0 .0 .1) (r .0 .1) (r .1)) (then (c .before .before .before .before .before .before .before .before .put-bytes .ensures) (c .before .before .put-bytes5 .ensures))
+returns-4 c = let r = c .before .before .before .before .before .match .rest in put-as (script-both _ (r .0 .0 .1) (r .0 .1) (r .1)) (c .before .before .put-bytes4 .ensures)
 
 pub put-script-spec : {M : Type 1} → statement M
 put-script-spec =
@@ -72,8 +65,6 @@ put-script-spec =
     put-bytes-requires-3
     slice-aggregate-put-bytes-4
     put-bytes-requires-4
-    slice-aggregate-put-bytes-5
-    put-bytes-requires-5
     same-length
     returns
     same-length-2
