@@ -17,9 +17,11 @@ use Rattle.bounds.proofs.Theorems.{bounds}
 use Rattle.parse.specs.Entry.{bit}
 use Rattle.parse.specs.Call as read
 use Rattle.parse.specs.Call.{parseRefusal, parsedText, workAfter, treeAfter}
-use Rattle.print.specs.declared.row.Fitted.{Fitted}
-use Rattle.print.specs.declared.row.Fitted.the-variants.{Whole, Short}
-use Rattle.print.specs.Rows.{Prints, TreePrinted}
+use Rattle.printer.specs.declared.Fitted.{Fitted}
+use Rattle.printer.specs.declared.Fitted.the-variants.{Whole, Short}
+use Rattle.printer.specs.Call.{printWords, fitted}
+use Rattle.printer.proofs.Printing.{tree-printed}
+use Rattle.printer.proofs.Fits.{fits, short}
 use Rattle.print.specs.Call.{printOf, values, printedText}
 
 -- the answer and the buffers of the reading, and with them the print buffer
@@ -107,25 +109,32 @@ module _ (text table work tree out : List ℕ) where
       unfolding treeAfter
       words-are = ap (λ (x : Left). x .3) (sym is ∙ text-read accepts)
 
-      module _ (after : List ℕ) (r : Fitted) (put : TreePrinted y out (length text) n takes items after r) where
-        prints : Prints (printOf text) out after r
+      module _ (after : List ℕ) (r : Fitted) (put : _≡_ {A = Fitted × List ℕ} (r, after) (fitted (printWords y (length text) n takes items) out)) where
+        prints : (r, after) ≡ fitted (printOf text) out
         unfolding printOf
-        prints = rw (n-is, takes-are) at (put (readText text .tree) _ (bounds text (tokens text) .well-formed) items-are words-are)
+        prints =
+            put
+            ∙ ap (λ (print : List ℕ). fitted print out)
+            (rw (n-is, takes-are, items-are) (tree-printed y (length text) (length (tokens text)) (readText text .takes) (readText text .tree) _ (bounds text (tokens text) .well-formed) words-are))
 
         pub too-short : r ≡ Short → _≡_ {A = LeftAll} (refused 10, t, w, y, after) (printedText text table work tree out)
         unfolding printedText
         too-short s =
             by-lt (length out) (length (printOf text))
-            (λ l. let d = prints .short l in sym (rw (is, printedText) (rw (lt-ltb (length out) (length (printOf text)) l, is, d .1))))
-            (λ l. let d = prints .whole l .0 in apart cc)
+            (λ l.
+            let d = ap (λ (x : Fitted × List ℕ). x .1) (prints ∙ short (printOf text) out l) in
+            sym (rw (is, printedText) (rw (lt-ltb (length out) (length (printOf text)) l, is, d))))
+            (λ l. let d = ap (λ (x : Fitted × List ℕ). x .0) (prints ∙ fits (printOf text) out l) in apart cc)
 
         pub printed-whole : (len : ℕ) → r ≡ Whole len
             → _≡_ {A = LeftAll} (accepted (len ∷ takes ∷ b ∷ []), t, w, y, after) (printedText text table work tree out)
         unfolding printedText values
         printed-whole len s =
             by-lt (length out) (length (printOf text))
-            (λ l. let d = prints .short l .0 in apart cc)
+            (λ l. let d = ap (λ (x : Fitted × List ℕ). x .0) (prints ∙ short (printOf text) out l) in apart cc)
             (λ l.
-            let d = prints .whole l in
+            let q = prints ∙ fits (printOf text) out l in
+            let d = ap (λ (x : Fitted × List ℕ). x .1) q in
+            let f = ap (λ (x : Fitted × List ℕ). x .0) q in
             let n : len ≡ length (printOf text) = cc in
-            sym (rw (is, printedText) (rw (le-ltb (length out) (length (printOf text)) l, is, d .1, n, takes-are, blank-is))))
+            sym (rw (is, printedText) (rw (le-ltb (length out) (length (printOf text)) l, is, d, n, takes-are, blank-is))))

@@ -9,9 +9,9 @@ use Rattle.tokens.specs.Refusals.{Answer, accepted, refused}
 use Rattle.reading.specs.Reading.{readText, blank}
 use Rattle.parse.specs.Entry.{bit}
 use Rattle.parse.specs.Call.{parsedText}
+use Rattle.printer.specs.Print.{printed}
 use Rattle.print.specs.declared.Printed.{Printed}
 use Rattle.print.specs.declared.Printed.the-variants.{Whole, Refused}
-use Rattle.print.specs.Print.{printed}
 
 -- The code's answer in the words of document 01. Blank is 1 or 0.
 abbrev pub answerOf : Printed → Answer

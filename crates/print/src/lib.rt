@@ -1,12 +1,8 @@
 // The printed tree of document 01: the call that reads a text and prints its tree.
-mod line;
-mod put;
-mod row;
-
 use parse::Parsed;
 use parse::parse;
-use row::Fitted;
-use row::print_tree;
+use printer::Fitted;
+use printer::print_tree;
 ghost use mathlib.Core.Path.{_≡_};
 ghost use Rattle.print.specs.Call.{answerOf, printedText};
 
