@@ -25,6 +25,7 @@ use crate::kinds::SEP;
 use crate::kinds::SUPER;
 use crate::plain::plain_item;
 use crate::tests::bar_after;
+use crate::tests::close_at;
 use crate::tests::opens;
 use crate::tests::prefix_kind;
 use crate::tests::prefix_stop;
@@ -576,7 +577,7 @@ fn open_group(
     let cur = run.cur;
     let at = cur.pos as usize;
     let shut = is_at(tok, work, n, at, CLOSE_BRACKET);
-    put_group(tok, work, n, tree, e, i, bar_after(shut, at, n), run.count);
+    put_group(tok, work, n, tree, e, i, close_at(shut, at, n), run.count);
     Part {
         cur: cur.past(n, shut),
         end: run.end,

@@ -33,6 +33,13 @@ pub(crate) fn bar_after(first: bool, n: usize, until: usize) -> usize
     if first { n } else { until }
 }
 
+// A group's closing bracket; none, if it is left open.
+pub(crate) fn close_at(shut: bool, at: usize, n: usize) -> usize
+    ensures { λ r. ⌜ r ≡ pick shut at n ⌝ }
+{
+    if shut { at } else { n }
+}
+
 // The kind of node that a token of kind k makes of one argument; Missing, if it takes none. `sign`: a sign here prefixes.
 pub(crate) fn prefix_kind(k: u32, sign: bool) -> u32
     ensures { λ r. ⌜ r ≡ prefixNumber k sign ⌝ }

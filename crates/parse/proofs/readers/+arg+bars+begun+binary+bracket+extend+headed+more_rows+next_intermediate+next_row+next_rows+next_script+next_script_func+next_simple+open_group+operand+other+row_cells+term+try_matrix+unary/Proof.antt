@@ -429,7 +429,7 @@ pub +arg+bars+begun+binary+bracket+extend+headed+more-rows+next-intermediate+nex
     (open-group-need.extend-requires t)
     (open-group-need.cast-at t)
     (open-group-need.is-at-requires t)
-    (open-group-need.bar-after-requires t)
+    (open-group-need.close-at-requires t)
     (open-group-need.put-group-requires t)
     (open-group-need.past-requires t)
     (open-group-need.same-length t)
