@@ -67,7 +67,7 @@ returns-6 : tie.Need-returns-6
 returns-6 c = put-as (added-cell _ _ (c .before .before .before .before .match .keys6)) (c .before .before .put-items .ensures)
 
 returns-7 : tie.Need-returns-7
-returns-7 c = 
+returns-7 c =
     let r = c .match .rest in
     put-as (added-none _ _ (r .0 .0 .0 .0 .0 .1) (r .0 .0 .0 .0 .1) (r .0 .0 .0 .1) (r .0 .0 .1) (r .0 .1) (r .1)) (none _ _ (omega arith))
 

@@ -41,7 +41,7 @@ same-length c = search needs
 
 returns : tie.Need-returns
 unfolding matrixOf linesOf
-returns c = 
+returns c =
     let a = c .before .before .before .before .before .before .before .before .before .before .before .before .before .before .before .before .before .before .before .before .before .before .before .args in
     let w = a .words .now in
     let same : matrixOf (wordOf w (a .o) 4) (wordOf w (a .o) 5) (c .before .before .before .before .before .before .before .before .before .before .before .before .before .word .result) (a .o .count) (c .before .before .before .column-lines .result .now)

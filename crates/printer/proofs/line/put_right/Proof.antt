@@ -43,7 +43,7 @@ same-length c = search needs
 
 returns : tie.Need-returns
 unfolding rightOf
-returns c = 
+returns c =
     let w = c .before .before .before .before .before .before .before .before .before .before .before .before .before .before .args .words .now in
     let h = c .before .before .before .before .before .before .before .before .before .before .before .before .before .before .args .head in
     let same : rightOf (c .before .before .before .before .before .before .before .before .before .word .result) (c .before .before .before .word2 .result) ≡ rightOf (getD w (h + 4) 0) (getD w (h + 5) 0) = rw ((c .before .before .before .before .before .before .before .before .before .word .ensures), (c .before .before .before .word2 .ensures)) in
