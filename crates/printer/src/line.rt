@@ -1,8 +1,8 @@
 // One line of the printed tree, from the words of its node.
 ghost use Prim.Native.Nat.{_+_, _≤_};
-ghost use lib.ListN.{length, getD, drop};
+ghost use lib.ListN.{length, getD};
 ghost use Rattle.printer.specs.Put.{Put};
-ghost use Rattle.printer.specs.Print.{nameOf, field, number, more, commas};
+ghost use Rattle.printer.specs.Print.{nameOf, field, number, commas};
 ghost use Rattle.printer.specs.Lines.{scriptOf, leftOf, rightOf, groupOf, matrixOf, linesOf, wordOf, addedOf, startOf, lineOf};
 use crate::put::put_byte;
 use crate::put::put_bytes;
