@@ -44,10 +44,6 @@ withClose K i after = withField K i 1 after
 abbrev pub withSep : List ℕ → ℕ → ℕ → List ℕ
 withSep K i w = withField K i 2 w
 
--- other marks; they are the record's last word, so that here too nothing changes where it is not whole
-abbrev pub withMarks : List ℕ → ℕ → ℕ → List ℕ
-withMarks K i w = set K (4 * i + 3) w
-
 -- the entry has its four words, and its token stands in the table
 unfoldable pub isPlaced : List ℕ → List ℕ → ℕ → Bool
 isPlaced t K i = pick (isWhole K i) (ltb (3 * placeOf K i + 2) (length t)) false

@@ -1,7 +1,9 @@
 // The marks of an entry: what was tried there and failed.
 use crate::record::field;
 ghost use mathlib.Core.Path.{_≡_};
-ghost use Rattle.records.specs.Record.{marksOf, withMarks};
+ghost use Prim.Native.Nat.{_+_, _*_};
+ghost use lib.ListN.{set};
+ghost use Rattle.records.specs.Record.{marksOf};
 ghost use Rattle.records.specs.Marks.{isMarked, withMark, openMark};
 
 // The mark of this number (1, 2 or 4) in a mark word.
@@ -9,18 +11,20 @@ fn is_marked(word: u32, mark: u32) -> bool
     ensures { λ r. ⌜ r ≡ isMarked word mark ⌝ }
 {
     if mark == 0 {
-        return false;
+        false
+    } else {
+        word / mark % 2 == 1
     }
-    word / mark % 2 == 1
 }
 
 fn with_mark(word: u32, mark: u32) -> u32
     ensures { λ r. ⌜ r ≡ withMark word mark ⌝ }
 {
     if is_marked(word, mark) {
-        return word;
+        word
+    } else {
+        std::num::wrapping_add_u32(word, mark)
     }
-    std::num::wrapping_add_u32(word, mark)
 }
 
 pub fn failed_at(work: &[u32], i: usize, mark: u32) -> bool
@@ -30,12 +34,11 @@ pub fn failed_at(work: &[u32], i: usize, mark: u32) -> bool
 }
 
 pub fn mark_failed(work: &mut [u32], i: usize, mark: u32)
-    ensures { λ _. ⌜ now (work .exit) ≡ withMarks (now (work .entry)) i (withMark (marksOf (now (work .entry)) i) mark) ⌝ }
+    ensures { λ _. ⌜ now (work .exit) ≡ set (now (work .entry)) (4 * i + 3) (withMark (marksOf (now (work .entry)) i) mark) ⌝ }
 {
     if i < work.len() / 4 {
-        let at = 4 * i + 3;
-        let word = with_mark(work[at], mark);
-        work[at] = word;
+        let word = with_mark(work[4 * i + 3], mark);
+        work[4 * i + 3] = word;
     }
 }
 

@@ -8,11 +8,10 @@ pub fn put_record(work: &mut [u32], i: usize, place: u32)
     ensures { λ _. ⌜ now (work .exit) ≡ withRecord (now (work .entry)) i place ⌝ }
 {
     if i < work.len() / 4 {
-        let at = 4 * i;
-        work[at] = place;
-        work[at + 1] = 0;
-        work[at + 2] = 0;
-        work[at + 3] = 0;
+        work[4 * i] = place;
+        work[4 * i + 1] = 0;
+        work[4 * i + 2] = 0;
+        work[4 * i + 3] = 0;
     }
 }
 

@@ -18,4 +18,4 @@ unfolding isMarked
 returns-2 c = refl
 
 pub is-marked-spec : {M : Type 1} → statement M
-is-marked-spec = tie.close (tie.spec returns div-result returns-2)
+is-marked-spec = tie.close (tie.spec div-result returns returns-2)

@@ -20,4 +20,4 @@ returns-2 c = simp (← c .before .before .is-marked .ensures, c .before .if1 .l
 
 pub with-mark-spec : {M : Type 1} → statement M
 with-mark-spec =
-    tie.close (tie.spec is-marked-requires returns wrapping-add-u32-requires returns-2)
+    tie.close (tie.spec is-marked-requires wrapping-add-u32-requires returns returns-2)

@@ -7,21 +7,39 @@ use borrow.Author.Needs.{needs}
 use Rattle.records.proofs.record.field.Statement.{statement}
 use Rattle.records.proofs.record.field.Tie as tie
 
+sub-if1 : tie.Need-sub-if1
+sub-if1 c = search needs
+
+add-if1 : tie.Need-add-if1
+add-if1 c = search needs
+
+mul-result : tie.Need-mul-result
+mul-result c = search needs
+
+add-result : tie.Need-add-result
+add-result c = search needs
+
+mul-result-2 : tie.Need-mul-result-2
+mul-result-2 c = search needs
+
+shared-slice-read-result : tie.Need-shared-slice-read-result
+shared-slice-read-result c = search needs
+
 returns : tie.Need-returns
-returns c = let a = c .before .before .args in
-    sym (List·getD-eq-default (a .work .now) 0 {n = 4 * a .i + a .k} (omega arith))
-
-mul-word : tie.Need-mul-word
-mul-word c = search needs
-
-add-word : tie.Need-add-word
-add-word c = search needs
-
-word-requires : tie.Need-word-requires
-word-requires c κs = search needs
+returns c = search needs
 
 returns-2 : tie.Need-returns-2
-returns-2 c = search needs
+returns-2 c = sym (List·getD-eq-default (c .before .args .work .now) 0 {n = 4 * c .before .args .i + c .before .args .k} (omega arith))
 
 pub field-spec : {M : Type 1} → statement M
-field-spec = tie.close (tie.spec returns mul-word add-word word-requires returns-2)
+field-spec =
+    tie.close
+    (tie.spec
+    sub-if1
+    add-if1
+    mul-result
+    add-result
+    mul-result-2
+    shared-slice-read-result
+    returns
+    returns-2)

@@ -1,30 +1,28 @@
--- `record::place_at`: the first word of the record, if it has four.
-use Prim.Native.Nat.{_+_, _*_}
-use lib.ListN.{length}
-use native.Mathlib.Omega.{arith}
-use borrow.Author.Tests.{lt-ltb, le-ltb}
+-- `record::place_at`: the first word of the record.
 use Rattle.records.specs.Record.{placeOf}
+use mathlib.Core.Path.{refl}
+use Prim.Native.Nat.{_*_}
+use native.Mathlib.Omega.{arith}
 use borrow.Author.Needs.{needs}
 use Rattle.records.proofs.record.place_at.Statement.{statement}
 use Rattle.records.proofs.record.place_at.Tie as tie
 
-returns : tie.Need-returns
-returns c = let a = c .before .before .args in
-    rw (le-ltb (4 * a .i + 3) (length (a .work .now)) (omega arith))
+mul-result : tie.Need-mul-result
+mul-result c = search needs
 
-mul-word : tie.Need-mul-word
-mul-word c = search needs
+mul-result-2 : tie.Need-mul-result-2
+mul-result-2 c = search needs
 
-word-requires : tie.Need-word-requires
-word-requires c κs = search needs
+shared-slice-read-result : tie.Need-shared-slice-read-result
+shared-slice-read-result c = search needs
 
 cast-result : tie.Need-cast-result
-cast-result c = search needs
+cast-result c = omega (arith, c .shared-slice-known .given (4 * c .before .args .i))
 
-returns-2 : tie.Need-returns-2
+returns : tie.Need-returns
 unfolding placeOf
-returns-2 c = let a = c .before .before .before .args in
-    rw (lt-ltb (4 * a .i + 3) (length (a .work .now)) (omega arith)) (c .word .ensures)
+returns c = (refl, omega (arith, c .shared-slice-known .given (4 * c .before .args .i)))
 
 pub place-at-spec : {M : Type 1} → statement M
-place-at-spec = tie.close (tie.spec returns mul-word word-requires cast-result returns-2)
+place-at-spec =
+    tie.close (tie.spec mul-result mul-result-2 shared-slice-read-result cast-result returns)

@@ -1,53 +1,63 @@
 -- `record::space_word`: the token before the place, if it is a Space.
-use Prim.Native.Nat.{_+_, _*_, _-_}
-use mathlib.Core.Path.{sym, _∙_}
-use native.Mathlib.Omega.{arith}
-use lib.ListN.{length}
-use borrow.Author.Tests.{lt-ltb, le-ltb}
 use Rattle.records.proofs.Places.{space-first, space-there, space-absent}
+use mathlib.Core.Path.{sym}
 use borrow.Author.Needs.{needs}
 use Rattle.records.proofs.record.space_word.Statement.{statement}
 use Rattle.records.proofs.record.space_word.Tie as tie
 
+sub-if2 : tie.Need-sub-if2
+sub-if2 c = search needs
+
+mul-if2 : tie.Need-mul-if2
+mul-if2 c = search needs
+
+add-if2 : tie.Need-add-if2
+add-if2 c = search needs
+
+mul-if2-2 : tie.Need-mul-if2-2
+mul-if2-2 c = search needs
+
+shared-slice-read-if2 : tie.Need-shared-slice-read-if2
+shared-slice-read-if2 c = search needs
+
+sub-result : tie.Need-sub-result
+sub-result c = search needs
+
+mul-result : tie.Need-mul-result
+mul-result c = search needs
+
+add-result : tie.Need-add-result
+add-result c = search needs
+
+mul-result-2 : tie.Need-mul-result-2
+mul-result-2 c = search needs
+
+shared-slice-read-result : tie.Need-shared-slice-read-result
+shared-slice-read-result c = search needs
+
 returns : tie.Need-returns
-returns c = let a = c .before .before .args in
-    rw (le-ltb (3 * a .place + 2) (length (a .tok .now)) (omega arith))
+returns c = sym (space-first (c .before .args .tok .now) (c .before .args .j) (c .before .args .k) (c .if1 .taken))
 
 returns-2 : tie.Need-returns-2
-returns-2 c = let a = c .before .before .before .args in
-    rw (lt-ltb (3 * a .place + 2) (length (a .tok .now)) (omega arith)) (sym (space-first (a .tok .now) (a .place) (a .k) (c .if2 .taken)))
-
-sub-token-word : tie.Need-sub-token-word
-sub-token-word c = search needs
-
-token-word-requires : tie.Need-token-word-requires
-token-word-requires c κs = search needs
-
-sub-token-word-2 : tie.Need-sub-token-word-2
-sub-token-word-2 c = search needs
-
-token-word-requires-2 : tie.Need-token-word-requires-2
-token-word-requires-2 c κs = search needs
+returns-2 c = sym (space-there (c .before .before .before .before .args .tok .now) (c .before .before .before .before .args .j) (c .before .before .before .before .args .k) (c .before .before .before .if1 .left) (c .before .if2 .taken))
 
 returns-3 : tie.Need-returns-3
-returns-3 c = let a = c .before .before .before .before .before .before .args in
-    let inside = lt-ltb (3 * (a .place - 1) + 2) (length (a .tok .now)) (omega arith) in
-    rw (lt-ltb (3 * a .place + 2) (length (a .tok .now)) (omega arith)) (rw inside at (c .token-word2 .ensures) ∙ sym (space-there (a .tok .now) (a .place) (a .k) (c .before .before .before .if2 .left) (rw inside at (sym (c .before .before .token-word .ensures) ∙ c .before .if3 .taken))))
-
-returns-4 : tie.Need-returns-4
-returns-4 c = let a = c .before .before .before .before .before .args in
-    let inside = lt-ltb (3 * (a .place - 1) + 2) (length (a .tok .now)) (omega arith) in
-    rw (lt-ltb (3 * a .place + 2) (length (a .tok .now)) (omega arith)) (sym (space-absent (a .tok .now) (a .place) (a .k) (c .before .before .if2 .left) (λ z. c .if3 .left (rw inside at (c .before .token-word .ensures) ∙ z))))
+returns-3 c = sym (space-absent (c .before .before .before .args .tok .now) (c .before .before .before .args .j) (c .before .before .before .args .k) (c .before .before .if1 .left) (c .if2 .left))
 
 pub space-word-spec : {M : Type 1} → statement M
 space-word-spec =
     tie.close
     (tie.spec
+    sub-if2
+    mul-if2
+    add-if2
+    mul-if2-2
+    shared-slice-read-if2
+    sub-result
+    mul-result
+    add-result
+    mul-result-2
+    shared-slice-read-result
     returns
     returns-2
-    sub-token-word
-    token-word-requires
-    sub-token-word-2
-    token-word-requires-2
-    returns-3
-    returns-4)
+    returns-3)

@@ -1,25 +1,17 @@
--- `record::start_at`: the first word of its token.
-use Prim.Native.Nat.{ℕ, _+_, _*_}
-use mathlib.Core.Path.{_∙_}
+-- `record::start_at`: the first word of the token.
 use native.Mathlib.Nat.{add-zero}
-use native.Mathlib.Omega.{arith}
-use lib.ListN.{getD}
+use mathlib.Core.Path.{_∙_}
 use Rattle.records.specs.Record.{startOf}
-use Rattle.records.proofs.Places.{by-place}
 use borrow.Author.Needs.{needs}
 use Rattle.records.proofs.record.start_at.Statement.{statement}
 use Rattle.records.proofs.record.start_at.Tie as tie
-
-place-at-requires : tie.Need-place-at-requires
-place-at-requires c κs = search needs
 
 token-word-requires : tie.Need-token-word-requires
 token-word-requires c κs = search needs
 
 returns : tie.Need-returns
 unfolding startOf
-returns c = let a = c .before .before .before .before .args in
-    c .token-word .ensures ∙ by-place (a .tok .now) (a .work .now) (a .i) (λ (p : ℕ). getD (a .tok .now) (3 * p + 0) 0) 0 (omega arith) (c .before .place-at .ensures) ∙ simp add-zero
+returns c = c .token-word .ensures ∙ simp add-zero
 
 pub start-at-spec : {M : Type 1} → statement M
-start-at-spec = tie.close (tie.spec place-at-requires token-word-requires returns)
+start-at-spec = tie.close (tie.spec token-word-requires returns)
