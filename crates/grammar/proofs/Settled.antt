@@ -14,7 +14,7 @@ use Rattle.reading.specs.Stop.{Stop}
 use Rattle.reading.specs.Entries.{Entry, is, entries}
 use Rattle.grammar.specs.Grammar.{Constant, tok, S, const, bracketed, unary, binary, I, bare, sub, super, subsuper}
 use Rattle.grammar.specs.Grammar.{E, more, fraction, alone, treeS, treeI, treeE, others, Short, Settled}
-use Rattle.grammar.specs.Strip.{isSpace, strip}
+use Rattle.grammar.specs.Strip.{isSpaceItem, strip}
 use Rattle.reading.specs.Reading.{State, M, Readers, marksScript, heads, begins, prefixes, isAt, advance, argument}
 use Rattle.reading.specs.Reading.{nextScript, nextScriptFunc, nextIntermediate, atOpenClose, intermediates, tryMatrix}
 use Rattle.reading.specs.Reading.{nextOpenGroup, nextBracket, begun, nextSimple, step, level, lastOf, parse}
@@ -116,10 +116,10 @@ module _ (text : List ℕ) (es : List Entry) (remember : Bool) where
 
       constant-is : {i : ℕ} {k : Token} {a : Atom} {sp : Span} → Constant k a → Tok es i (tok k sp) →
           From i (nextSimple text es remember R Stop.none sg) (suc i) (Is (leaf (Head.atom a sp)))
-      unfolding begun strip isSpace
+      unfolding begun strip isSpaceItem
       constant-is {i} {sp} c h = simple-took h (constant-plain c) (begun-is c)
         where
-          atom : {a : Atom} → isSpace (Head.atom a sp) ≡ false →
+          atom : {a : Atom} → isSpaceItem (Head.atom a sp) ≡ false →
               Is (leaf (Head.atom a sp)) (some (leaf (Head.atom a (h .entry .span))))
           atom {a} b = (_, refl, comes (ap (Head.atom a) (h .place)) b refl)
 
@@ -134,7 +134,7 @@ module _ (text : List ℕ) (es : List Entry) (remember : Bool) where
       unary-is : {i j : ℕ} {a : Node} {sp : Span} → Tok es i (tok token.Unary sp) →
           From (suc i) (R .simple Stop.none true) j (Is a) →
           From i (nextSimple text es remember R Stop.none sg) j (Is (one (Head.prefix Prefix.unary sp) a))
-      unfolding begun isSpace
+      unfolding begun isSpaceItem
       unary-is h g =
           simple-took h unary-plain
           (call (argument-is g) λ n c.
@@ -143,7 +143,7 @@ module _ (text : List ℕ) (es : List Entry) (remember : Bool) where
       binary-is : {i j k : ℕ} {a b : Node} {sp : Span} → Tok es i (tok token.Binary sp) →
           From (suc i) (R .simple Stop.none true) j (Is a) → From j (R .simple Stop.none true) k (Is b) →
           From i (nextSimple text es remember R Stop.none sg) k (Is (node (Head.prefix Prefix.binary sp) (a ▸ b ▸ end)))
-      unfolding begun isSpace
+      unfolding begun isSpaceItem
       binary-is h f g =
           simple-took h binary-plain
           (call (argument-is f) λ n c. call (argument-is g) λ m d.
@@ -153,7 +153,7 @@ module _ (text : List ℕ) (es : List Entry) (remember : Bool) where
           Tok es i (tok token.OpenBracket l) → Tok es j (tok token.CloseBracket r) →
           From (suc i) (intermediates text es remember R (suc (length es)) none Stop.none none) j (λ x. strip x ≡ m) →
           From i (nextSimple text es remember R Stop.none sg) (suc j) (Is (node (Head.group l r) m))
-      unfolding begun nextBracket tryMatrix nextOpenGroup isSpace is
+      unfolding begun nextBracket tryMatrix nextOpenGroup isSpaceItem is
       bracket-is {i} {j} {l} {r} {m} free o c g =
           simple-took o open-plain
           (call (given _ (on-false _ (gate-shut text es free (o .entry) i) (give none refl)) group) λ n d.
@@ -168,7 +168,7 @@ module _ (text : List ℕ) (es : List Entry) (remember : Bool) where
       scripted : {i j k : ℕ} {a : Node} {sc : Script} {l : Nodes} → Unmarked i → From i (R .simple Stop.none sg) j (Is a) →
           From j (nextScript text es remember R) k (Marks sc l) →
           From i (nextScriptFunc text es remember R Stop.none sg) k (Is (node (Head.simple sc) (a ▸ l)))
-      unfolding nextScriptFunc isSpace
+      unfolding nextScriptFunc isSpaceItem
       scripted {a} u g h =
           given _ (passes (heads sg) (u .head sg))
           (call-node _ g λ n c. call h λ q m.
@@ -183,7 +183,7 @@ module _ (text : List ℕ) (es : List Entry) (remember : Bool) where
       item-fraction : {i j k : ℕ} {a b : Node} {sp : Span} → From i (R .scriptFunc Stop.none sg) j (Is a) →
           Tok es j (tok token.Frac sp) → From (suc j) (R .scriptFunc Stop.none true) k (Is b) →
           From i (nextIntermediate text es remember R Stop.none sg) k (Is (node Head.frac (a ▸ b ▸ end)))
-      unfolding nextIntermediate isSpace is
+      unfolding nextIntermediate isSpaceItem is
       item-fraction f h g =
           call-node _ f λ n c. given _ (takes (is token.Frac) h (rw (h .kind)))
           (call-node _ g λ m d. give _ (_, refl, comes refl refl (strip-two c d)))

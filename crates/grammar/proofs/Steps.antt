@@ -5,7 +5,7 @@ use mathlib.Core.Bool.{Bool, true, false}
 use mathlib.Core.Option.{Option, none, some}
 use Rattle.tree.specs.Tree.{Script, Head, Atom, Node, node, Nodes, end, _▸_, leaf}
 use Rattle.reading.specs.Entries.{Entry}
-use Rattle.grammar.specs.Strip.{isSpace, strip}
+use Rattle.grammar.specs.Strip.{isSpaceItem, strip}
 use Rattle.reading.specs.Reading.{State, M, return, _>>=_, here, if_then_else_, Scripted, spaced}
 
 -- The node n without its Space items is a, which is none itself.
@@ -19,7 +19,7 @@ Is a x = (n : Node) × (x ≡ some n) × Comes a n
 abbrev pub Marks : Script → Nodes → Scripted → Type 0
 Marks sc l q = (q .0 ≡ sc) × (strip (q .1) ≡ l)
 
-pub comes : {h g : Head} {l m : Nodes} → h ≡ g → isSpace g ≡ false → strip l ≡ m → Comes (node g m) (node h l)
+pub comes : {h g : Head} {l m : Nodes} → h ≡ g → isSpaceItem g ≡ false → strip l ≡ m → Comes (node g m) (node h l)
 unfolding strip
 comes {g} {l} {m} e i q = record { before = λ k. rw e (subst (kept k) (sym i) (ap (λ n. node g n ▸ strip k) q)) }
   where
@@ -35,7 +35,7 @@ strip-two {a} {m} c d = c .before (m ▸ end) ∙ ap (λ l. a ▸ l) (strip-one 
 
 pub strip-spaced : {a n : Node} (before : Option Node) (e : Option Entry) (l : Nodes) → Comes a n →
     strip (spaced before e n l) ≡ a ▸ strip l
-unfolding spaced strip isSpace
+unfolding spaced strip isSpaceItem
 strip-spaced none e l c = c .before l
 strip-spaced (some p) none l c = c .before l
 strip-spaced {a} {n} (some p) (some e) l c = go (e .space .len)
