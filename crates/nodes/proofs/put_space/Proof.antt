@@ -1,7 +1,7 @@
 -- `put_space`: the seven words, if the Space is kept.
 use Rattle.buffer.proofs.Stores.{stored-in, stored-out, stored-none}
 use borrow.Author.Tests.{leb-true, leb-false, lt-ltb, le-ltb}
-use Rattle.nodes.proofs.Gaps.{one-item, seven-words}
+use Rattle.nodes.proofs.Gaps.{one-item, seven-words, no-item, no-words}
 use Prim.Native.Nat.{_+_, _≤_}
 use Rattle.nodes.specs.Nodes.{gapLen, gapWords, gapItems}
 use native.Mathlib.Numerals.{add-one}
@@ -13,9 +13,8 @@ use Rattle.nodes.proofs.put_space.Statement.{statement}
 use Rattle.nodes.proofs.put_space.Tie as tie
 
 returns : tie.Need-returns
-unfolding gapWords gapItems gapLen
 returns c = let a = c .before .before .before .before .args in
-    rw (c .if1 .taken) (refl, sym (stored-none (a .tree .now) (a .e)))
+    (sym (no-item (a .tok .now) (a .work .now) (a .n) (a .first) (a .i) (c .if1 .taken)), rw (no-words (a .tok .now) (a .work .now) (a .n) (a .first) (a .i) (c .if1 .taken)) (sym (stored-none (a .tree .now) (a .e))))
 
 returns-2 : tie.Need-returns-2
 unfolding gapWords gapItems gapLen
