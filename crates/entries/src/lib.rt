@@ -1,5 +1,5 @@
 // Parser::new of parse.rs over lent words: a record for each token other than Space.
-use records::record::after_close;
+use fields::after_close;
 use stores::put_record;
 use stores::set_close;
 use stores::set_sep;

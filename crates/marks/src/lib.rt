@@ -1,5 +1,5 @@
 // The marks of an entry: what was tried there and failed.
-use records::record::marks_word;
+use fields::marks_word;
 ghost use mathlib.Core.Path.{_≡_};
 ghost use Rattle.records.specs.Record.{marksOf, withMarks};
 ghost use Rattle.marks.specs.Marks.{isMarked, withMark, openMark};

@@ -20,7 +20,8 @@ use Rattle.parse.specs.declared.cursor.Items.{Items}
 use Rattle.parse.specs.Buffer.{Wrote}
 use Rattle.records.specs.Record.{marksOf}
 use Rattle.lookahead.specs.Tests.{testAt, isKind}
-use Rattle.brackets.specs.Brackets.{sameAt, barAt}
+use Rattle.spans.specs.Spans.{sameAt}
+use Rattle.brackets.specs.Brackets.{barAt}
 use Rattle.marks.specs.Marks.{isMarked, withMark}
 use Rattle.leaves.specs.Leaves.{leafEnds, leafWords}
 use Rattle.nodes.specs.Nodes.{groupWords}

@@ -19,7 +19,8 @@ use Rattle.parse.specs.declared.cursor.Step.the-variants.{Found, Nothing
 use Rattle.parse.specs.Buffer.{Wrote}
 use Rattle.records.specs.Record.{afterClose, sepWord, marksOf, kindOf}
 use Rattle.lookahead.specs.Tests.{testAt, isKind}
-use Rattle.brackets.specs.Brackets.{byteAt, barAt, closesAt, couldBeMatrixAt, setAt, makesAt}
+use Rattle.spans.specs.Spans.{byteAt}
+use Rattle.brackets.specs.Brackets.{barAt, closesAt, couldBeMatrixAt, setAt, makesAt}
 use Rattle.marks.specs.Marks.{isMarked, withMark}
 use Rattle.nodes.specs.Nodes.{matrixWords}
 use Rattle.parse.specs.Entry.{Kept, bit}

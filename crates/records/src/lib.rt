@@ -1,2 +1,2 @@
-// The record of an entry, a token other than Space, in the work words: what the readers ask of it.
+// The record of an entry, a token other than Space, in the work words; and its token.
 pub mod record;
