@@ -1,27 +1,13 @@
 -- What the readers ask of brackets and bars, by their words and their texts. X is the text, t are the words of the token table, K
 -- the work words, n the number of entries.
 use Prim.Native.Nat.{ℕ, _+_}
-use mathlib.Core.List.{List, [], _∷_}
+use mathlib.Core.List.{List}
 use mathlib.Core.Bool.{Bool, true, false}
-use lib.ListN.{take, drop}
 use lib.Dec.{eqb, ltb}
 use Rattle.tree.specs.Words.{pick}
-use Rattle.reading.specs.Reading.{same}
-use Rattle.records.specs.Record.{afterClose, sepWord, kindOf, startOf, lenOf}
+use Rattle.records.specs.Record.{afterClose, sepWord, kindOf}
 use Rattle.lookahead.specs.Tests.{testAt, isKind}
-
--- the bytes of a span; two spans have the same; a span is this one byte
-abbrev pub bytesOf : List ℕ → ℕ → ℕ → List ℕ
-bytesOf X a l = take l (drop a X)
-
-abbrev pub sameSpan : List ℕ → ℕ → ℕ → ℕ → ℕ → Bool
-sameSpan X a l b m = same (bytesOf X a l) (bytesOf X b m)
-
-unfoldable pub sameAt : List ℕ → List ℕ → List ℕ → ℕ → ℕ → Bool
-sameAt X t K i j = sameSpan X (startOf t K i) (lenOf t K i) (startOf t K j) (lenOf t K j)
-
-unfoldable pub byteAt : List ℕ → List ℕ → List ℕ → ℕ → ℕ → Bool
-byteAt X t K i b = same (bytesOf X (startOf t K i) (lenOf t K i)) (b ∷ [])
+use Rattle.spans.specs.Spans.{sameAt, byteAt}
 
 -- the entry at j is a bar with the text of the entry i, if both are there
 unfoldable pub barAt : List ℕ → List ℕ → List ℕ → ℕ → ℕ → ℕ → Bool
@@ -39,15 +25,6 @@ couldBeMatrixAt X t K n i =
     (pick (testAt t K n (isKind 3) (afterClose K (i + 1))) true
     (pick (closesAt X t K n i (afterClose K (i + 1))) (eqb (sepWord K (i + 1)) 1) false)))
     false
-
--- "Matrix rows are `(` `)` or `[` `]` by their text, so `left(` opens no row."
-unfoldable pub rowsAt : List ℕ → List ℕ → List ℕ → ℕ → ℕ → Bool
-rowsAt X t K l r =
-    pick (byteAt X t K l 40) (byteAt X t K r 41) (pick (byteAt X t K l 91) (byteAt X t K r 93) false)
-
--- the brackets of a row like the first: "the row loop is left at the first row that differs from the first"
-unfoldable pub likeAt : List ℕ → List ℕ → List ℕ → ℕ → ℕ → ℕ → ℕ → Bool
-likeAt X t K l r l′ r′ = pick (sameAt X t K l l′) (sameAt X t K r r′) false
 
 -- "Rows of `(` before text `}` make no matrix": rows that open at l, with the entry p behind them
 unfoldable pub setAt : List ℕ → List ℕ → List ℕ → ℕ → ℕ → Bool

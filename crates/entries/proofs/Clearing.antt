@@ -5,7 +5,7 @@ use mathlib.Core.List.{List}
 use native.Mathlib.Omega.{arith}
 use native.Mathlib.Numerals.{add-one}
 use Rattle.records.specs.Record.{afterClose, withClose}
-use Rattle.records.proofs.Stores.{close-other}
+use Rattle.stores.proofs.Stores.{close-other}
 use Rattle.entries.specs.Open.{Chain, clearAll}
 use Rattle.entries.proofs.Matching.{chain-top, chain-none, chain-kept, Popped, popped}
 

@@ -21,7 +21,7 @@ use Rattle.tree.specs.Tree.{nowhere}
 use Rattle.tree.specs.Words.{pick}
 use Rattle.reading.specs.Entries.{Entry, is, entries, closeAfter, hasSep}
 use Rattle.records.specs.Record.{placeOf, afterClose, sepWord, marksOf, withRecord}
-use Rattle.records.proofs.Stores.{record-whole}
+use Rattle.stores.proofs.Stores.{record-whole}
 use Rattle.entries.specs.Prepared.{places, closeFrom, ofBracket, records, workWords}
 use Rattle.entries.specs.Open.{Link, Filled, clearAll}
 use Rattle.entries.proofs.Words.{sets-before, sets-behind, sets-at, Stored, stored, unstored, close-stored, close-kept, sep-kept, sep-stored, sep-beside, close-beside, length-clear, clear-other, clear-close}

@@ -8,7 +8,7 @@ use lib.Seq.{sets, getD-set-same, getD-set-other}
 use borrow.Author.Tests.{eq-eqb, ne-eqb}
 use Rattle.tokens.proofs.Cases.{by-eq}
 use Rattle.records.specs.Record.{placeOf, afterClose, sepWord, marksOf, withField, withClose, withSep}
-use Rattle.records.proofs.Stores.{field-length, field-other, field-place, field-marks, close-same, close-other, sep-same, sep-other, close-of-sep, sep-of-close}
+use Rattle.stores.proofs.Stores.{field-length, field-other, field-place, field-marks, close-same, close-other, sep-same, sep-other, close-of-sep, sep-of-close}
 use Rattle.entries.specs.Open.{Chain, clearAll}
 use Rattle.entries.proofs.Matching.{comes}
 

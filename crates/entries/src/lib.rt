@@ -1,8 +1,8 @@
 // Parser::new of parse.rs over lent words: a record for each token other than Space.
-use records::record::after_close;
-use records::store::put_record;
-use records::store::set_close;
-use records::store::set_sep;
+use fields::after_close;
+use stores::put_record;
+use stores::set_close;
+use stores::set_sep;
 ghost use mathlib.Core.Path.{_≡_};
 ghost use mathlib.Core.List.{List};
 ghost use Prim.Native.Nat.{ℕ, _+_, _*_, _≤_};

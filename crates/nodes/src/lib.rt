@@ -2,9 +2,9 @@
 use buffer::fits;
 use buffer::put6;
 use records::record::len_at;
-use records::record::space_len;
-use records::record::space_start;
 use records::record::start_at;
+use spaces::space_len;
+use spaces::space_start;
 ghost use mathlib.Core.Path.{_≡_};
 ghost use mathlib.Core.List.{[], _∷_};
 ghost use Rattle.records.specs.Record.{startOf, lenOf};

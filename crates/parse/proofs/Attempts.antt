@@ -13,7 +13,7 @@ use Rattle.reading.specs.Stop.{Stop}
 use Rattle.reading.specs.Entries.{Entry}
 use Rattle.reading.specs.Reading.{State, M, Mark, openMark, matrixMark, slot, Try, made, lost, nought, failed, giveUp, attempt}
 use Rattle.records.specs.Record.{placeOf, afterClose, sepWord, marksOf}
-use Rattle.records.specs.Marks.{isMarked, withMark}
+use Rattle.marks.specs.Marks.{isMarked, withMark}
 use Rattle.parse.specs.Entry.{Kept, marksWord}
 use Rattle.parse.specs.Meet.{Input, Marks, At, Known}
 use Rattle.parse.proofs.Kit.{bind, ret, at-here, if-true, if-false, given-kept}

@@ -20,12 +20,13 @@ use Rattle.parse.specs.declared.cursor.Items.{Items}
 use Rattle.parse.specs.Buffer.{Wrote}
 use Rattle.records.specs.Record.{marksOf}
 use Rattle.lookahead.specs.Tests.{testAt, isKind}
-use Rattle.brackets.specs.Brackets.{sameAt, barAt}
-use Rattle.records.specs.Marks.{isMarked, withMark}
+use Rattle.spans.specs.Spans.{sameAt}
+use Rattle.brackets.specs.Brackets.{barAt}
+use Rattle.marks.specs.Marks.{isMarked, withMark}
 use Rattle.leaves.specs.Leaves.{leafEnds, leafWords}
 use Rattle.nodes.specs.Nodes.{groupWords}
 use Rattle.parse.specs.Entry.{Kept}
-use Rattle.records.specs.Marks as entry
+use Rattle.marks.specs.Marks as entry
 use Rattle.parse.specs.Meet.{Input, Row, At, Known, readers, Intermediates, OpenGroup, Bracket, TryMatrix, Bars, stopOf, intermediateAt, itemsAt, itemsFrom, bracketAt, onward, rewound}
 use Rattle.parse.proofs.Buffer.{push, fill, seq, back}
 use Rattle.lookahead.proofs.Testing.{test-below}

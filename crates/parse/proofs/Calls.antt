@@ -14,16 +14,16 @@ use Rattle.tokens.specs.Lexeme.{Lexeme}
 use Rattle.lexing.specs.Rules.{tokens}
 use Rattle.tokens.specs.Table.{tableWords, tokenList, countOthers}
 use Rattle.tokens.specs.Refusals.{Answer, accepted, refused, textRefusal, listRefusal, roomRefusal}
-use Rattle.refusals.proofs.Lengths.{work-short, tree-short, room-enough}
+use Rattle.room.proofs.Lengths.{work-short, tree-short, room-enough}
 use Rattle.tokenizer.specs.Call as call
 use Rattle.tokens.proofs.Cases.{by-lt, by-option}
 use Rattle.tokens.proofs.TokenList.{others-few}
 use Rattle.lexing.proofs.Theorems.{never-outnumber, list-of-words, accepted-list}
 use Rattle.tree.specs.Tree.{Nodes, end, _▸_, count}
 use Rattle.reading.specs.Reading.{readingBy, blank}
-use Rattle.refusals.specs.declared.list.Checked.{Checked}
-use Rattle.refusals.specs.declared.list.Checked.the-variants as list
-use Rattle.refusals.specs.Checks.{answer, checked}
+use Rattle.lists.specs.declared.Checked.{Checked}
+use Rattle.lists.specs.declared.Checked.the-variants as list
+use Rattle.lists.specs.Checks.{answer, checked}
 use Rattle.tokens.proofs.Accepted as lists
 use Rattle.tokens.proofs.Accepted.{met}
 use Rattle.entries.specs.declared.Prepared.{Prepared}

@@ -19,7 +19,8 @@ use Rattle.parse.specs.declared.cursor.Gap.{Gap}
 use Rattle.parse.specs.Buffer.{Wrote}
 use Rattle.records.specs.Record.{kindOf, spaceLen}
 use Rattle.lookahead.specs.Tests.{testAt, isKind}
-use Rattle.brackets.specs.Brackets.{sameAt, barAt}
+use Rattle.spans.specs.Spans.{sameAt}
+use Rattle.brackets.specs.Brackets.{barAt}
 use Rattle.nodes.specs.Nodes.{gapLen, gapWords, gapItems}
 use Rattle.parse.specs.Meet.{Input, Row, Stands, Given, At, Known, readers, Moves, Each, Intermediate, Intermediates, Gapped, Until, lastAfter, isNone, stopOf, itemsAt, itemsFrom}
 use Rattle.parse.proofs.Buffer.{seq, back, wrote-none}

@@ -18,8 +18,8 @@ use Rattle.reading.specs.Reading.{State, M, return, advance, any, Readers, isAt
 use Rattle.parse.specs.declared.cursor.Cursor.{Cursor}
 use Rattle.parse.specs.Buffer.{Wrote}
 use Rattle.lookahead.specs.Tests.{testAt, isKind}
-use Rattle.brackets.specs.Brackets.{sameAt, byteAt}
-use Rattle.brackets.specs.Brackets as entry
+use Rattle.spans.specs.Spans.{sameAt, byteAt}
+use Rattle.rows.specs.Rows as entry
 use Rattle.parse.specs.Meet.{Input, Row, Given, At, Known, readers, Each, onward}
 use Rattle.parse.proofs.Buffer.{seq, back, wrote-none}
 use Rattle.lookahead.proofs.Testing.{test-below}

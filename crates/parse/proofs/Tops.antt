@@ -21,7 +21,7 @@ use Rattle.lookahead.specs.Tests.{testAt, isKind}
 use Rattle.parse.specs.Entry.{Safe, Kept}
 use Rattle.parse.specs.Meet.{Input, Row, Given, Marks, At, Known, Intermediates, lastAfter, isNone, onward, seen}
 use Rattle.lookahead.proofs.Testing.{test-below}
-use Rattle.records.proofs.Stores.{field-length, field-place, field-marks, close-same, close-other, sep-same, sep-other, close-of-sep, sep-of-close}
+use Rattle.stores.proofs.Stores.{field-length, field-place, field-marks, close-same, close-other, sep-same, sep-other, close-of-sep, sep-of-close}
 use Rattle.parse.proofs.Whole.{whole-items}
 use Rattle.parse.proofs.Kit.{bind, ret, tick, at-tick, same-kind, same-start, same-len, same-row, Places, safe-same, safe-kept, took, passed, test-kind, same-is}
 use Rattle.parse.specs.Top.{Wrap, Chained, wrapWords, wrapsWords, TopReady, Topped}

@@ -9,10 +9,10 @@ mod write;
 
 use entries::Prepared;
 use entries::prepare;
-use refusals::list::Checked;
-use refusals::list::check_list;
-use refusals::room::Room;
-use refusals::room::check_room;
+use lists::Checked;
+use lists::check_list;
+use room::Room;
+use room::check_room;
 use tokenizer::TokenizedUnder;
 use tokenizer::tokenize_under;
 use top::parse_entries;

@@ -12,7 +12,7 @@ use borrow.Author.Tests.{lt-ltb, le-ltb}
 use Rattle.tokens.specs.Bytes.{bytes}
 use Rattle.tokens.specs.Refusals.{Answer, accepted, refused, ascii, textRefusal}
 use Rattle.tokens.specs.Table.{countOthers}
-use Rattle.refusals.proofs.Lengths.{room-enough}
+use Rattle.room.proofs.Lengths.{room-enough}
 use Rattle.lexing.specs.Rules.{tokens}
 use Rattle.lexing.proofs.Theorems.{never-outnumber}
 use Rattle.tokens.proofs.Cases.{by-lt, by-option, by-test}

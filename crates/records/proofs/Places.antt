@@ -3,11 +3,12 @@ use Prim.Native.Nat.{ℕ, _+_, _*_, _-_, _≤_, _<_}
 use mathlib.Core.Path.{_≡_, refl}
 use mathlib.Core.Bool.{Bool, true, false}
 use mathlib.Core.List.{List}
+use native.Mathlib.Nat.{add-zero}
 use lib.ListN.{length, getD}
 use lib.Dec.{ltb}
 use borrow.Author.Tests.{lt-ltb, le-ltb, eq-eqb, ne-eqb}
 use Rattle.tree.specs.Words.{pick}
-use Rattle.records.specs.Record.{placeOf, isPlaced, spaceWord}
+use Rattle.records.specs.Record.{placeOf, isPlaced, startOf, spaceWord}
 
 never : (b : Bool) → pick b false false ≡ false
 never true = refl
@@ -25,6 +26,11 @@ module _ (t K : List ℕ) (i : ℕ) where
   pub is-outside : length t ≤ 3 * placeOf K i + 2 → isPlaced t K i ≡ false
   unfolding isPlaced
   is-outside h = rw (le-ltb _ _ h) (never (ltb (4 * i + 3) (length K)))
+
+  -- the first word of its token
+  pub start-word : pick (isPlaced t K i) (getD t (3 * placeOf K i + 0) 0) 0 ≡ startOf t K i
+  unfolding startOf
+  start-word = simp add-zero
 
 -- A word of the Space before a place.
 module _ (t : List ℕ) (j k : ℕ) where

@@ -20,7 +20,7 @@ afterClose K i = getD K (4 * i + 1) 0
 unfoldable pub sepWord : List ℕ → ℕ → ℕ
 sepWord K i = getD K (4 * i + 2) 0
 
--- the marks, see Marks
+-- the marks, see the crate `marks`
 unfoldable pub marksOf : List ℕ → ℕ → ℕ
 marksOf K i = getD K (4 * i + 3) 0
 
@@ -43,6 +43,10 @@ withClose K i after = withField K i 1 after
 -- another Sep word
 abbrev pub withSep : List ℕ → ℕ → ℕ → List ℕ
 withSep K i w = withField K i 2 w
+
+-- another mark word; past the words nothing is stored
+abbrev pub withMarks : List ℕ → ℕ → ℕ → List ℕ
+withMarks K i w = set K (4 * i + 3) w
 
 -- the entry has its four words, and its token stands in the table
 unfoldable pub isPlaced : List ℕ → List ℕ → ℕ → Bool

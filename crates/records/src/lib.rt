@@ -1,4 +1,2 @@
-// The records of the entries, the tokens other than Space, in the work words: what the readers ask of an entry, and its marks.
-pub mod marks;
+// The record of an entry, a token other than Space, in the work words; and its token.
 pub mod record;
-pub mod store;

@@ -1,4 +1,2 @@
 mod Ascii
 pub mod TextChecks
-mod Checks
-pub mod Lengths

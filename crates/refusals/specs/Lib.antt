@@ -1,3 +1,1 @@
 pub mod TextChecks
-pub mod Checks
-pub mod Room

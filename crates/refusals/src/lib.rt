@@ -1,4 +1,2 @@
-// What is turned back: texts, token lists and buffers, each refusal of document 01 under exactly its condition.
-pub mod list;
-pub mod room;
+// The refusals of a text, 1 and 2, each under exactly its condition.
 pub mod text;

@@ -3,7 +3,7 @@ use mathlib.Core.Path.{sym, ap, _∙_}
 use Prim.Native.Nat.{ℕ}
 use lib.ListN.{length}
 use Rattle.tokens.specs.Refusals.{roomRefusal}
-use Rattle.refusals.proofs.Lengths.{refusalIn, refusal-in}
+use Rattle.room.proofs.Lengths.{refusalIn, refusal-in}
 use Rattle.parse.proofs.Calls.{checked-refused, checked-accepted, list-refused, room-refused}
 use borrow.Author.Needs.{needs}
 use Rattle.parse.proofs.parse_tokens.Statement.{statement}

@@ -1,7 +1,6 @@
 -- `record::start_at`: the first word of the token.
-use native.Mathlib.Nat.{add-zero}
 use mathlib.Core.Path.{_∙_}
-use Rattle.records.specs.Record.{startOf}
+use Rattle.records.proofs.Places.{start-word}
 use borrow.Author.Needs.{needs}
 use Rattle.records.proofs.record.start_at.Statement.{statement}
 use Rattle.records.proofs.record.start_at.Tie as tie
@@ -10,8 +9,7 @@ token-word-requires : tie.Need-token-word-requires
 token-word-requires c κs = search needs
 
 returns : tie.Need-returns
-unfolding startOf
-returns c = c .token-word .ensures ∙ simp add-zero
+returns c = c .token-word .ensures ∙ start-word _ _ _
 
 pub start-at-spec : {M : Type 1} → statement M
 start-at-spec = tie.close (tie.spec token-word-requires returns)

@@ -5,9 +5,9 @@ use Rattle.parse.proofs.readers.extend.Reads as extend
 use Rattle.parse.proofs.cursor.Cursor.next.Reads as next-reads
 use Rattle.parse.proofs.cursor.Cursor.rewind.Reads as rewind-reads
 use Rattle.brackets.proofs.bar_at.Reads as bar-at-reads
-use Rattle.records.proofs.marks.failed_at.Reads as failed-at-reads
-use Rattle.records.proofs.marks.mark_failed.Reads as mark-failed-reads
-use Rattle.records.proofs.marks.open_mark.Reads as open-mark-reads
+use Rattle.marks.proofs.failed_at.Reads as failed-at-reads
+use Rattle.marks.proofs.mark_failed.Reads as mark-failed-reads
+use Rattle.marks.proofs.open_mark.Reads as open-mark-reads
 use Rattle.parse.proofs.write.leaf.Reads as leaf-reads
 use Rattle.parse.proofs.write.put_group.Reads as put-group-reads
 use Rattle.parse.proofs.readers.+arg+bars+begun+binary+bracket+extend+headed+more_rows+next_intermediate+next_row+next_rows+next_script+next_script_func+next_simple+open_group+operand+other+row_cells+term+try_matrix+unary.Lts-bars as bars-lts

@@ -4,7 +4,7 @@ use Rattle.parse.proofs.readers.more_rows.Reads as more-rows
 use Rattle.parse.proofs.readers.next_row.Reads as next-row
 use Rattle.parse.proofs.cursor.Cursor.next.Reads as next-reads
 use Rattle.lookahead.proofs.tests.is_at.Reads as is-at-reads
-use Rattle.brackets.proofs.same_brackets.Reads as same-brackets-reads
+use Rattle.rows.proofs.same_brackets.Reads as same-brackets-reads
 use Rattle.parse.proofs.readers.+arg+bars+begun+binary+bracket+extend+headed+more_rows+next_intermediate+next_row+next_rows+next_script+next_script_func+next_simple+open_group+operand+other+row_cells+term+try_matrix+unary.Lts-more_rows as more-rows-lts
 use Rattle.parse.proofs.readers.+arg+bars+begun+binary+bracket+extend+headed+more_rows+next_intermediate+next_row+next_rows+next_script+next_script_func+next_simple+open_group+operand+other+row_cells+term+try_matrix+unary.Proof.Setting.{next-row-below, more-rows-at}
 use mathlib.Core.Path.{_≡_, sym, _∙_}

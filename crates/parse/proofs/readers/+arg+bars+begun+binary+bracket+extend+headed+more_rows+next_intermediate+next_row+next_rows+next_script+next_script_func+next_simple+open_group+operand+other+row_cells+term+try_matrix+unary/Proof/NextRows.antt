@@ -3,7 +3,7 @@ use Prim.Native.Nat.{ℕ}
 use Rattle.parse.proofs.readers.more_rows.Reads as more-rows
 use Rattle.parse.proofs.readers.next_row.Reads as next-row
 use Rattle.parse.proofs.readers.next_rows.Reads as next-rows
-use Rattle.brackets.proofs.row_brackets.Reads as row-brackets-reads
+use Rattle.rows.proofs.row_brackets.Reads as row-brackets-reads
 use Rattle.parse.proofs.readers.+arg+bars+begun+binary+bracket+extend+headed+more_rows+next_intermediate+next_row+next_rows+next_script+next_script_func+next_simple+open_group+operand+other+row_cells+term+try_matrix+unary.Lts-next_rows as next-rows-lts
 use Rattle.parse.proofs.readers.+arg+bars+begun+binary+bracket+extend+headed+more_rows+next_intermediate+next_row+next_rows+next_script+next_script_func+next_simple+open_group+operand+other+row_cells+term+try_matrix+unary.Proof.Setting.{more-rows-below, next-row-below, next-rows-at}
 use mathlib.Core.Path.{sym, _∙_}

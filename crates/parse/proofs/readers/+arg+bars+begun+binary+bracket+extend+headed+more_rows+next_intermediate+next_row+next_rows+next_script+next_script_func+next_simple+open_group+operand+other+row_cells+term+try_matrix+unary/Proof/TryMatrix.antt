@@ -6,9 +6,9 @@ use Rattle.parse.proofs.write.split_column_lines.Reads as split-column-
 use Rattle.parse.proofs.cursor.Cursor.next.Reads as next-reads
 use Rattle.parse.proofs.cursor.Cursor.rewind.Reads as rewind-reads
 use Rattle.brackets.proofs.could_be_matrix.Reads as could-be-matrix-reads
-use Rattle.records.proofs.marks.failed_at.Reads as failed-at-reads
+use Rattle.marks.proofs.failed_at.Reads as failed-at-reads
 use Rattle.brackets.proofs.makes_matrix.Reads as makes-matrix-reads
-use Rattle.records.proofs.marks.mark_failed.Reads as mark-failed-reads
+use Rattle.marks.proofs.mark_failed.Reads as mark-failed-reads
 use Rattle.parse.proofs.write.put_matrix.Reads as put-matrix-reads
 use Rattle.parse.proofs.readers.+arg+bars+begun+binary+bracket+extend+headed+more_rows+next_intermediate+next_row+next_rows+next_script+next_script_func+next_simple+open_group+operand+other+row_cells+term+try_matrix+unary.Lts-try_matrix as try-matrix-lts
 use Rattle.parse.proofs.readers.+arg+bars+begun+binary+bracket+extend+headed+more_rows+next_intermediate+next_row+next_rows+next_script+next_script_func+next_simple+open_group+operand+other+row_cells+term+try_matrix+unary.Proof.Setting.{next-rows-below, try-matrix-at}

@@ -1,0 +1,48 @@
+// The marks of an entry: what was tried there and failed.
+use fields::marks_word;
+ghost use mathlib.Core.Path.{_≡_};
+ghost use Rattle.records.specs.Record.{marksOf, withMarks};
+ghost use Rattle.marks.specs.Marks.{isMarked, withMark, openMark};
+
+// The mark of this number (1, 2 or 4) in a mark word.
+fn is_marked(word: u32, mark: u32) -> bool
+    ensures { λ r. ⌜ r ≡ isMarked word mark ⌝ }
+{
+    if mark == 0 {
+        false
+    } else {
+        word / mark % 2 == 1
+    }
+}
+
+fn with_mark(word: u32, mark: u32) -> u32
+    ensures { λ r. ⌜ r ≡ withMark word mark ⌝ }
+{
+    if is_marked(word, mark) {
+        word
+    } else {
+        std::num::wrapping_add_u32(word, mark)
+    }
+}
+
+pub fn failed_at(work: &[u32], i: usize, mark: u32) -> bool
+    ensures { λ r. ⌜ r ≡ isMarked (marksOf (now (work .entry)) i) mark ⌝ }
+{
+    is_marked(marks_word(work, i), mark)
+}
+
+pub fn mark_failed(work: &mut [u32], i: usize, mark: u32)
+    ensures { λ _. ⌜ now (work .exit) ≡ withMarks (now (work .entry)) i (withMark (marksOf (now (work .entry)) i) mark) ⌝ }
+{
+    if i < work.len() / 4 {
+        let word = with_mark(work[4 * i + 3], mark);
+        work[4 * i + 3] = word;
+    }
+}
+
+// The number of the open mark for a stop.
+pub fn open_mark(stop: bool) -> u32
+    ensures { λ r. ⌜ r ≡ openMark stop ⌝ }
+{
+    if stop { 2 } else { 1 }
+}

@@ -1,0 +1,50 @@
+// The Space directly before an entry.
+ghost use mathlib.Core.Path.{_≡_};
+ghost use Prim.Native.Nat.{_+_, _*_, _<_};
+ghost use lib.ListN.{length};
+ghost use Rattle.tree.specs.Words.{pick};
+ghost use Rattle.records.specs.Record.{placeOf, isPlaced, spaceWord, spaceStart, spaceLen};
+
+// A word of the Space directly before the token j, or 0.
+fn space_word(tok: &[u32], j: usize, k: usize) -> u32
+    requires { ⌜ 3 * j + 2 < length (now tok) ⌝ }
+    requires { ⌜ k < 2 ⌝ }
+    ensures { λ r. ⌜ r ≡ spaceWord (now (tok .entry)) j k ⌝ }
+{
+    if j == 0 {
+        0
+    } else if tok[3 * (j - 1) + 2] == 23 {
+        tok[3 * (j - 1) + k]
+    } else {
+        0
+    }
+}
+
+// A word of the Space directly before the entry, or 0.
+fn space_before(tok: &[u32], work: &[u32], i: usize, k: usize) -> u32
+    requires { ⌜ k < 2 ⌝ }
+    ensures { λ r. ⌜ r ≡ pick (isPlaced (now (tok .entry)) (now (work .entry)) i) (spaceWord (now (tok .entry)) (placeOf (now (work .entry)) i) k) 0 ⌝ }
+{
+    if i < work.len() / 4 {
+        let j = work[4 * i] as usize;
+        if 3 * j + 2 < tok.len() {
+            space_word(tok, j, k)
+        } else {
+            0
+        }
+    } else {
+        0
+    }
+}
+
+pub fn space_start(tok: &[u32], work: &[u32], i: usize) -> u32
+    ensures { λ r. ⌜ r ≡ spaceStart (now (tok .entry)) (now (work .entry)) i ⌝ }
+{
+    space_before(tok, work, i, 0)
+}
+
+pub fn space_len(tok: &[u32], work: &[u32], i: usize) -> u32
+    ensures { λ r. ⌜ r ≡ spaceLen (now (tok .entry)) (now (work .entry)) i ⌝ }
+{
+    space_before(tok, work, i, 1)
+}

@@ -1,0 +1,87 @@
+-- `put_record`: four stores, one after the other, and none where the record is not whole.
+use mathlib.Core.Path.{sym}
+use native.Mathlib.Numerals.{unary-clauses}
+use native.Mathlib.Omega.{arith}
+use lib.ListN.{length-set}
+use borrow.Author.Needs.{needs}
+use Rattle.stores.proofs.Stores.{record-whole, record-short}
+use Rattle.stores.proofs.put_record.Statement.{statement}
+use Rattle.stores.proofs.put_record.Tie as tie
+
+mul-work : tie.Need-mul-work
+mul-work c = search needs
+
+mul-work-2 : tie.Need-mul-work-2
+mul-work-2 c = search needs
+
+slice-write-work : tie.Need-slice-write-work
+slice-write-work c = search needs
+
+mul-work-3 : tie.Need-mul-work-3
+mul-work-3 c = search needs
+
+add-work : tie.Need-add-work
+add-work c = search needs
+
+mul-work-4 : tie.Need-mul-work-4
+mul-work-4 c = search needs
+
+slice-write-work-2 : tie.Need-slice-write-work-2
+slice-write-work-2 c = simp length-set (omega arith)
+
+mul-work-5 : tie.Need-mul-work-5
+mul-work-5 c = search needs
+
+add-work-2 : tie.Need-add-work-2
+add-work-2 c = search needs
+
+mul-work-6 : tie.Need-mul-work-6
+mul-work-6 c = search needs
+
+slice-write-work-3 : tie.Need-slice-write-work-3
+slice-write-work-3 c = simp length-set (omega arith)
+
+mul-work-7 : tie.Need-mul-work-7
+mul-work-7 c = search needs
+
+add-work-3 : tie.Need-add-work-3
+add-work-3 c = search needs
+
+mul-work-8 : tie.Need-mul-work-8
+mul-work-8 c = search needs
+
+slice-write-work-4 : tie.Need-slice-write-work-4
+slice-write-work-4 c = simp length-set (omega arith)
+
+same-length : tie.Need-same-length
+same-length c = simp length-set
+
+returns : tie.Need-returns
+returns c = let a = c .before .args in
+    rw (record-whole (a .work .now) (a .i) (a .place) (omega arith)) (simp unary-clauses)
+
+returns-2 : tie.Need-returns-2
+returns-2 c = sym (record-short _ _ _ (omega arith))
+
+pub put-record-spec : {M : Type 1} → statement M
+put-record-spec =
+    tie.close
+    (tie.spec
+    mul-work
+    mul-work-2
+    slice-write-work
+    mul-work-3
+    add-work
+    mul-work-4
+    slice-write-work-2
+    mul-work-5
+    add-work-2
+    mul-work-6
+    slice-write-work-3
+    mul-work-7
+    add-work-3
+    mul-work-8
+    slice-write-work-4
+    same-length
+    returns
+    returns-2)
