@@ -4,9 +4,7 @@ mod Lookup
 mod RuleCases
 mod ByteKinds
 mod Adding
-mod Stops
+pub mod Stops
 mod Passes
-mod Whole
-mod Single
+mod Answers
 pub mod Into
-pub mod Lexing

@@ -7,7 +7,8 @@ use lib.ListN.{length}
 use Rattle.lexer.specs.declared.table.Listed.{Listed}
 use Rattle.tokens.specs.Lexeme.{Lexeme}
 use Rattle.lexing.specs.Rules.{byteAt, readAt}
-use Rattle.lexer.specs.Coded.{Reads, readsTo, listed, Placed, Added, AddedRead}
+use Rattle.lexer.specs.Listing.{Reads, readsTo}
+use Rattle.lexer.specs.Coded.{listed, Placed, Added, AddedRead}
 use Rattle.lexing.proofs.Moves.{read-moves, byteAt-sound}
 use Rattle.tokens.proofs.TokenList.{others-bound}
 use Rattle.lexer.proofs.Adding.{added-none, added-more}
@@ -21,19 +22,17 @@ module _ (stop : ℕ) (text : List ℕ) (from : ℕ) (before : List ℕ) where
     pub next-is : readsTo stop text from .next ≡ readsTo stop text (p .next) .next
     pub added : Added done (p .next) (listed 0 0 from) before p table
     pub size : length table ≡ length before
-    pub inside : p .next ≤ length text
     pub fewer : p .all ≤ p .next
     pub few : p .others ≤ p .all
 
-  pub listing-start : from ≤ length text → Listing (listed 0 0 from) before
-  listing-start h =
+  pub listing-start : Listing (listed 0 0 from) before
+  listing-start =
       record {
         done = [];
         list-is = refl;
         next-is = refl;
         added = added-none (listed 0 0 from) before;
         size = refl;
-        inside = h;
         fewer = omega arith;
         few = omega arith;
       }
@@ -52,10 +51,8 @@ module _ (stop : ℕ) (text : List ℕ) (from : ℕ) (before : List ℕ) where
       listing-placed = record { short = short; inside = omega arith; fewer = w .fewer; few = w .few }
 
       module _ (r : Listed) (after : List ℕ) (a : AddedRead (readAt byteAt text (p .next)) p table r after) where
-        pub listing-on : (p .next < r .next) × (r .next ≤ length text)
-        listing-on =
-            let m = read-moves byteAt-sound text (p .next) (omega arith) in
-            (omega (arith, a .next-is, m .on), omega (arith, a .next-is, m .inside))
+        pub listing-on : p .next < r .next
+        listing-on = omega (arith, a .next-is, read-moves byteAt-sound text (p .next) (omega arith) .on)
 
         pub listing-next : length after ≡ length table → Listing r after
         listing-next z =
@@ -72,7 +69,6 @@ module _ (stop : ℕ) (text : List ℕ) (from : ℕ) (before : List ℕ) where
               added = subst (λ (k : ℕ). Added (w .done ++ (q .first ∷ q .waiting)) k (listed 0 0 from) before r after) n
                   (added-more (w .added) a);
               size = z ∙ w .size;
-              inside = listing-on .1;
               fewer = omega (arith, a .all-are, a .next-is, m .fewer, w .fewer);
               few = omega (arith, a .all-are, a .others-are, others-bound (q .first ∷ q .waiting), w .few);
             }

@@ -1,24 +1,22 @@
--- The reads from a place on that begin before another: how many are enough, all of a text, and a single one.
+-- The reads from a place on that begin before another: how many are enough.
 use mathlib.Core.Path.{_≡_, refl, sym, ap, _∙_}
-use mathlib.Core.List.{List, [], _∷_, _++_, append-nil}
+use mathlib.Core.List.{List, []}
 use Prim.Native.Nat.{ℕ, zero, suc, _+_, _≤_, _<_}
 use native.Mathlib.Omega.{arith}
 use lib.ListN.{length}
 use borrow.Author.Tests.{lt-ltb, le-ltb}
-use Rattle.tokens.specs.Lexeme.{Lexeme}
-use Rattle.lexing.specs.Rules.{byteAt, readAt, tokensFrom, tokensBy, tokens}
-use Rattle.lexer.specs.Coded.{Reads, behind, readsOf, readsTo}
+use Rattle.lexing.specs.Rules.{byteAt, readAt}
+use Rattle.lexer.specs.Listing.{behind, readsOf, readsTo}
 use Rattle.tokens.proofs.Cases.{by-lt}
 use Rattle.lexing.proofs.Moves.{read-moves, byteAt-sound}
-use Rattle.lexing.proofs.Tokens.{read-on, tokens-end}
 
 module _ (stop : ℕ) (text : List ℕ) where
-  reads-on : (f at : ℕ) → at < stop
+  pub reads-on : (f at : ℕ) → at < stop
       → readsOf stop (suc f) text at ≡ behind (readAt byteAt text at) (readsOf stop f text (readAt byteAt text at .next))
   unfolding readsOf
   reads-on f at h = rw (lt-ltb at stop h, readsOf)
 
-  reads-end : (f at : ℕ) → stop ≤ at → readsOf stop f text at ≡ record { list = []; next = at }
+  pub reads-end : (f at : ℕ) → stop ≤ at → readsOf stop f text at ≡ record { list = []; next = at }
   unfolding readsOf
   reads-end zero at h = refl
   reads-end (suc f) at h = rw (le-ltb at stop h, readsOf)
@@ -42,27 +40,3 @@ module _ (stop : ℕ) (text : List ℕ) where
     pub step : (at : ℕ) → at < stop → readsTo stop text at ≡ behind (readAt byteAt text at) (readsTo stop text (readAt byteAt text at .next))
     unfolding readsTo
     step at h = fuel (length text) (suc (length text)) at (omega arith) (omega arith) ∙ reads-on (length text) at h
-
-reads-all : (text : List ℕ) (f at : ℕ) → readsOf (length text) f text at .list ≡ tokensFrom byteAt f text at
-unfolding readsOf tokensFrom
-reads-all text zero at = refl
-reads-all text (suc f) at =
-    by-lt at (length text)
-    (λ e.
-    ap (λ (q : Reads). q .list) (reads-on (length text) text f at e)
-    ∙ ap (λ (ts : List Lexeme). readAt byteAt text at .first ∷ (readAt byteAt text at .waiting ++ ts)) (reads-all text f (readAt byteAt text at .next))
-    ∙ sym (read-on byteAt text f at e))
-    (λ e. ap (λ (q : Reads). q .list) (reads-end (length text) text (suc f) at e) ∙ sym (tokens-end byteAt text (suc f) at e))
-
-pub whole : (text : List ℕ) → readsTo (length text) text 0 .list ≡ tokens text
-unfolding readsTo tokensBy
-whole text = reads-all text (length text) 0
-
-pub single : (text : List ℕ) (at : ℕ) → at < length text
-    → readsTo (at + 1) text at ≡ record { list = readAt byteAt text at .first ∷ readAt byteAt text at .waiting; next = readAt byteAt text at .next }
-single text at h =
-    let r = readAt byteAt text at in
-    let m = read-moves byteAt-sound text at h .on in
-    step (at + 1) text (omega arith) at (omega arith)
-    ∙ ap (behind r) (stopped (at + 1) text (r .next) (omega arith))
-    ∙ ap (λ (ts : List Lexeme). record { list = r .first ∷ ts; next = r .next }) (append-nil (r .waiting))

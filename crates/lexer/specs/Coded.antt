@@ -1,10 +1,9 @@
 -- What the code does with a read: it lists its tokens.
 use mathlib.Core.Path.{_≡_}
 use mathlib.Core.Bool.{true, false}
-use mathlib.Core.List.{List, [], _∷_, _++_}
+use mathlib.Core.List.{List, _∷_}
 use mathlib.Core.Option.{none, some}
-use Prim.Native.Nat.{ℕ, zero, suc, _+_, _≤_, _<_}
-use lib.Dec.{ltb}
+use Prim.Native.Nat.{ℕ, _+_, _≤_, _<_}
 use lib.ListN.{length}
 use Rattle.lexer.specs.declared.table.Listed.{Listed}
 use Rattle.tokens.specs.declared.token.Token.the-variants.{Unary}
@@ -12,7 +11,7 @@ use Rattle.tokens.specs.Lexeme.{Lexeme}
 use Rattle.tokens.specs.Table.{countOthers}
 use Rattle.lexer.specs.Constants.{rowOf, spellingOf}
 use Rattle.lexer.specs.Listing.{listInto}
-use Rattle.lexing.specs.Rules.{Read, alone, commandAt, isTextCommand, numberAt, quotationAt, byteAt, readAt}
+use Rattle.lexing.specs.Rules.{Read, alone, commandAt, isTextCommand, numberAt, quotationAt, byteAt}
 
 -- what is read by rules 4 and 5, by rules 3 to 5, and by rule 2 where a row is found
 unfoldable pub fromQuotation : List ℕ → ℕ → Read
@@ -25,26 +24,6 @@ unfoldable pub fromRow : ℕ → List ℕ → ℕ → Read
 fromRow k text at =
     elim (isTextCommand (spellingOf k))
     [ true ↦ commandAt text at 4 Unary | false ↦ alone at (length (spellingOf k)) (rowOf k .token) ]
-
--- the tokens of the reads from a place on that begin before `stop`, and the place behind them
-pub record Reads : Type 0 where
-  pub list : List Lexeme
-  pub next : ℕ
-
-abbrev pub behind : Read → Reads → Reads
-behind r q = record { list = r .first ∷ (r .waiting ++ q .list); next = q .next }
-
-unfoldable pub readsOf : ℕ → ℕ → List ℕ → ℕ → Reads
-readsOf stop zero text at = record { list = []; next = at }
-readsOf stop (suc f) text at =
-    elim (ltb at stop) [
-      | true ↦ behind (readAt byteAt text at) (readsOf stop f text (readAt byteAt text at .next))
-      | false ↦ record { list = []; next = at }
-    ]
-
--- each read moves on, so as many reads as bytes are enough
-unfoldable pub readsTo : ℕ → List ℕ → ℕ → Reads
-readsTo stop text at = readsOf stop (length text) text at
 
 abbrev pub listed : ℕ → ℕ → ℕ → Listed
 listed all others next = record { all = all; others = others; next = next }

@@ -2,4 +2,3 @@ pub mod Constants
 pub mod Lookup
 pub mod Listing
 pub mod Coded
-pub mod Lex

@@ -1,15 +1,15 @@
--- The call that lists a text's tokens: what it answers, and what is left in the token table.
+-- The call that lists the tokens of reads: what it answers, and what is left in the token table.
 use mathlib.Core.Bool.{true, false}
 use mathlib.Core.List.{List, [], _∷_, _++_}
 use mathlib.Core.Option.{none, some}
-use Prim.Native.Nat.{ℕ, suc, _+_, _*_, _/_}
+use Prim.Native.Nat.{ℕ, zero, suc, _+_, _*_, _/_, min}
 use lib.Dec.{ltb}
 use lib.ListN.{length, take, drop}
 use Rattle.tokens.specs.Kinds.{numberOf}
 use Rattle.tokens.specs.Lexeme.{Lexeme}
 use Rattle.tokens.specs.Table.{countOthers}
 use Rattle.tokens.specs.Refusals.{textRefusal}
-use Rattle.lexing.specs.Rules.{tokens}
+use Rattle.lexing.specs.Rules.{Read, byteAt, readAt}
 use Rattle.lexer.specs.declared.Listing.{Listing}
 use Rattle.lexer.specs.declared.Listing.the-variants.{Tokens, Refused}
 
@@ -27,10 +27,33 @@ unfoldable pub listInto : ℕ → List ℕ → List Lexeme → List ℕ
 listInto n table [] = table
 listInto n table (t ∷ ts) = listInto (suc n) (putToken n (t .span .start) (t .span .len) (numberOf (t .token)) table) ts
 
--- "For text: 1, 2": a refusal changes nothing; an accepted text's tokens are all counted, and put as far as they fit
-unfoldable pub listedText : List ℕ → List ℕ → Listing × List ℕ
-listedText text table =
+-- the tokens of the reads from a place on that begin before `stop`, and the place behind them
+pub record Reads : Type 0 where
+  pub list : List Lexeme
+  pub next : ℕ
+
+abbrev pub behind : Read → Reads → Reads
+behind r q = record { list = r .first ∷ (r .waiting ++ q .list); next = q .next }
+
+unfoldable pub readsOf : ℕ → ℕ → List ℕ → ℕ → Reads
+readsOf stop zero text at = record { list = []; next = at }
+readsOf stop (suc f) text at =
+    elim (ltb at stop) [
+      | true ↦ behind (readAt byteAt text at) (readsOf stop f text (readAt byteAt text at .next))
+      | false ↦ record { list = []; next = at }
+    ]
+
+-- each read moves on, so as many reads as bytes are enough
+unfoldable pub readsTo : ℕ → List ℕ → ℕ → Reads
+readsTo stop text at = readsOf stop (length text) text at
+
+-- "For text: 1, 2": a refusal changes nothing. Of an accepted text the tokens of the reads from a place on that begin before `stop`
+-- and before the text's end are counted, and put as far as they fit; from that end on there are none.
+unfoldable pub listedReads : List ℕ → ℕ → ℕ → List ℕ → Listing × List ℕ
+listedReads text from stop table =
     elim (textRefusal text) [
       | some k ↦ (Refused k, table)
-      | none ↦ (Tokens (length (tokens text)) (countOthers (tokens text)), listInto 0 table (tokens text))
+      | none ↦
+          let q = readsTo (min stop (length text)) text from in
+          (Tokens (length (q .list)) (countOthers (q .list)) (q .next), listInto 0 table (q .list))
     ]

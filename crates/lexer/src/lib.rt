@@ -1,34 +1,48 @@
-// The reading of tokens: the spelling table, the lookup, the rules, and the list of a text's tokens.
-pub mod lex;
+// The reading of tokens: the spelling table, the lookup, the rules, and the reads of a text one after the other.
 mod list;
 pub mod prefix_map;
 mod rules;
 mod spellings;
 mod table;
 
-use list::list_reads;
+use list::list_from;
 use refusals::text::Checked;
 use refusals::text::check_text;
 ghost use mathlib.Core.Path.{_≡_};
-ghost use Rattle.lexer.specs.Listing.{listedText};
+ghost use Prim.Native.Nat.{min};
+ghost use Rattle.lexer.specs.Listing.{listedReads};
 
-// How many tokens the text has, and how many of them are other than Space; or the number of the refusal.
+// How many tokens are listed, how many of them are other than Space, and the place behind them; or the number of the refusal.
 pub enum Listing {
-    Tokens { all: usize, others: usize },
+    Tokens {
+        all: usize,
+        others: usize,
+        next: usize,
+    },
     Refused(u8),
 }
 
-// Counts the text's tokens, and writes the leading ones into the table as far as it has three words for each; or refuses the text
-// by 1 or 2 and changes nothing.
-pub fn list_tokens(text: &[u8], table: &mut [u32]) -> Listing
-    ensures { λ r. ⌜ (r, now (table .exit)) ≡ listedText (now (text .entry)) (now (table .entry)) ⌝ }
+fn smaller(a: usize, b: usize) -> usize
+    ensures { λ r. ⌜ r ≡ min a b ⌝ }
+{
+    if a < b {
+        return a;
+    }
+    b
+}
+
+// Reads from a place on until `stop` or the text's end is reached: counts the tokens, and writes the leading ones into the table as
+// far as it has three words for each; or refuses the text by 1 or 2 and changes nothing.
+pub fn list_reads(text: &[u8], from: usize, stop: usize, table: &mut [u32]) -> Listing
+    ensures { λ r. ⌜ (r, now (table .exit)) ≡ listedReads (now (text .entry)) from stop (now (table .entry)) ⌝ }
 {
     if let Checked::Refused(k) = check_text(text) {
         return Listing::Refused(k);
     }
-    let r = list_reads(text, 0, text.len(), table);
+    let r = list_from(text, from, smaller(stop, text.len()), table);
     Listing::Tokens {
         all: r.all,
         others: r.others,
+        next: r.next,
     }
 }

@@ -9,13 +9,14 @@ ghost use mathlib.Core.Bool.{true};
 ghost use Prim.Native.Nat.{_≤_};
 ghost use lib.ListN.{length};
 ghost use Rattle.tokens.specs.Refusals.{ascii};
-ghost use Rattle.lexer.specs.Coded.{Added, listed, readsTo};
+ghost use Rattle.lexer.specs.Listing.{readsTo};
+ghost use Rattle.lexer.specs.Coded.{Added, listed};
 
-// Lists the reads from a place on that begin before another: all of a text, or a single one. This is the one place that reads, so
-// that the compiler keeps the rules in the loop's body.
-pub(crate) fn list_reads(text: &[u8], from: usize, stop: usize, table: &mut [u32]) -> Listed
+// Lists the reads from a place on that begin before another. This is the one place that reads, so that the compiler keeps the rules
+// in the loop's body.
+pub(crate) fn list_from(text: &[u8], from: usize, stop: usize, table: &mut [u32]) -> Listed
     requires { ⌜
-        (ascii (now text) ≡ true) × (length (now text) ≤ 4096) × (from ≤ length (now text)) × (stop ≤ length (now text))
+        (ascii (now text) ≡ true) × (length (now text) ≤ 4096) × (stop ≤ length (now text))
         ⌝ }
     ensures { λ r.
         ⌜

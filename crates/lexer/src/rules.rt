@@ -6,6 +6,7 @@ use crate::spellings::len_of;
 use crate::table::Listed;
 use crate::table::put;
 use crate::table::put_other;
+use blanks::blanks_end;
 ghost use mathlib.Core.Path.{_≡_};
 ghost use mathlib.Core.Bool.{true, false};
 ghost use Prim.Native.Nat.{_+_, _≤_, _<_};
@@ -16,39 +17,14 @@ ghost use Rattle.lexer.specs.Constants.{Lent, rowWords, spellingOf};
 ghost use Rattle.lexing.specs.Rules.{blank, digit, letter, other, closer, runEnd, commandAt, isTextCommand, numberEnd, pastPoint, byteAt, readAt};
 ghost use Rattle.lexer.specs.Coded.{Placed, AddedRead, fromQuotation, fromNumber, fromRow};
 
-fn is_blank(c: u8) -> bool
-    ensures { λ r. ⌜ r ≡ blank c ⌝ }
-{
-    if c == 32 {
-        return true;
-    }
-    9 <= c && c <= 13
-}
-
 fn is_digit(c: u8) -> bool
     ensures { λ r. ⌜ r ≡ digit c ⌝ }
 {
     48 <= c && c <= 57
 }
 
-// Where the blanks from the place on end.
-fn blanks_end(text: &[u8], at: usize) -> usize
-    requires { ⌜ at ≤ length (now text) ⌝ }
-    ensures { λ r. ⌜ r ≡ runEnd blank (now (text .entry)) at ⌝ }
-{
-    let mut i = at;
-    while i < text.len() {
-        if !is_blank(text[i]) {
-            return i;
-        }
-        i += 1;
-    }
-    i
-}
-
-// Where the digits from the place on end.
+// Where the digits from the place on end; past the text's end there are none.
 fn digits_end(text: &[u8], at: usize) -> usize
-    requires { ⌜ at ≤ length (now text) ⌝ }
     ensures { λ r. ⌜ r ≡ runEnd digit (now (text .entry)) at ⌝ }
 {
     let mut i = at;
@@ -63,7 +39,6 @@ fn digits_end(text: &[u8], at: usize) -> usize
 
 // Where the byte b first stands from the place on, or the text's end.
 fn find_end(text: &[u8], at: usize, b: u8) -> usize
-    requires { ⌜ at ≤ length (now text) ⌝ }
     ensures { λ r. ⌜ r ≡ runEnd (other b) (now (text .entry)) at ⌝ }
 {
     let mut i = at;
@@ -94,7 +69,6 @@ fn strip_text(text: &[u8], table: &mut [u32], p: Listed) -> Listed
 
 // Where digits with at most one point end.
 fn number_end(text: &[u8], at: usize) -> usize
-    requires { ⌜ at ≤ length (now text) ⌝ }
     ensures { λ r. ⌜ r ≡ numberEnd (now (text .entry)) at ⌝ }
 {
     let p = digits_end(text, at);

@@ -7,16 +7,16 @@ use Prim.Native.Nat.{ℕ, _-_, _≤_, _<_}
 use native.Mathlib.Omega.{arith}
 use lib.ListN.{length, drop}
 use borrow.Author.Tests.{lt-ltb, le-ltb}
-use Rattle.lexer.specs.declared.lex.Lexing.the-variants.{Tokens, Nothing}
-use Rattle.lexer.specs.declared.lex.Spanned.{Spanned}
-use Rattle.lexer.specs.declared.lex.Queue.{Queue}
+use Rattle.lex.specs.declared.Lexing.the-variants.{Tokens, Nothing}
+use Rattle.lex.specs.declared.Spanned.{Spanned}
+use Rattle.lex.specs.declared.Queue.{Queue}
 use Rattle.tokens.specs.Kinds.{numberOf}
 use Rattle.tokens.specs.Lexeme.{Lexeme}
 use Rattle.lexing.specs.Rules.{byteAt, readAt}
 use Rattle.tokens.specs.Refusals.{textRefusal}
-use Rattle.lexer.specs.Lex.{spannedOf, queueOf, lexing, lexedAt}
+use Rattle.lex.specs.Lex.{spannedOf, queueOf, lexing, lexedAt}
 use Rattle.tokens.proofs.Cases.{by-test, by-lt, by-option, clash}
-use Rattle.lexer.proofs.Lexing.{read-inside, lex-past}
+use Rattle.lex.proofs.Answers.{read-inside, lex-past}
 use Rattle.stepper.specs.declared.Tokenizer.{Tokenizer}
 use Rattle.stepper.specs.Step.{StepAnswer, token, end, refused, tokenAnswer, lexemeOf, waiting, state, fits, stepRefusal, stepped}
 use Rattle.stepper.proofs.Queues.{first-of, place-passes, too-many}

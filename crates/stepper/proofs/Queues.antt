@@ -10,10 +10,10 @@ use lib.Dec.{leb}
 use lib.ListN.{take, drop}
 use borrow.Author.Tests.{le-leb, lt-leb}
 use Rattle.tokens.proofs.Cases.{by-lt, by-test}
-use Rattle.lexer.specs.declared.lex.Spanned.{Spanned}
-use Rattle.lexer.specs.declared.lex.Queue.{Queue}
+use Rattle.lex.specs.declared.Spanned.{Spanned}
+use Rattle.lex.specs.declared.Queue.{Queue}
 use Rattle.tokens.specs.Lexeme.{Lexeme}
-use Rattle.lexer.specs.Lex.{spannedOf, noLexeme, queueOf}
+use Rattle.lex.specs.Lex.{spannedOf, noLexeme, queueOf}
 use Rattle.stepper.specs.declared.Tokenizer.{Tokenizer}
 use Rattle.stepper.specs.Step.{lexemeOf, waiting, inside, fits}
 

@@ -11,7 +11,7 @@ use borrow.Author.Tests.{le-leb}
 use Rattle.tokens.specs.Lexeme.{Lexeme}
 use Rattle.lexing.specs.Rules.{byteAt, readAt, tokensFrom}
 use Rattle.tokens.specs.Refusals.{textRefusal}
-use Rattle.lexer.specs.Lex.{queueOf}
+use Rattle.lex.specs.Lex.{queueOf}
 use Rattle.tokens.proofs.Cases.{by-test, by-lt, clash}
 use Rattle.lexing.proofs.Moves.{Between, read-moves, byteAt-sound}
 use Rattle.lexing.proofs.Tokens.{between-le, tokens-step, tokens-end}

@@ -6,13 +6,13 @@ use mathlib.Core.Option.{Option, none, some}
 use Prim.Native.Nat.{ℕ, zero, suc, _+_}
 use lib.Dec.{leb, ltb}
 use lib.ListN.{length, take}
-use Rattle.lexer.specs.declared.lex.Spanned.{Spanned}
-use Rattle.lexer.specs.declared.lex.Queue.{Queue}
+use Rattle.lex.specs.declared.Spanned.{Spanned}
+use Rattle.lex.specs.declared.Queue.{Queue}
 use Rattle.tokens.specs.Kinds.{numberOf}
 use Rattle.tokens.specs.Lexeme.{Lexeme, lexeme}
 use Rattle.lexing.specs.Rules.{byteAt, readAt}
 use Rattle.tokens.specs.Refusals.{textRefusal}
-use Rattle.lexer.specs.Lex.{queueOf}
+use Rattle.lex.specs.Lex.{queueOf}
 use Rattle.stepper.specs.declared.Tokenizer.{Tokenizer}
 use Rattle.stepper.specs.declared.Stepped.{Stepped}
 use Rattle.stepper.specs.declared.Stepped.the-variants as answer

@@ -1,8 +1,8 @@
 // The tokenizer as a state that is lent and stepped, one token a step: the Rust's Tokenizer, with the text as an argument.
-use lexer::lex::Lexing;
-use lexer::lex::Queue;
-use lexer::lex::Spanned;
-use lexer::lex::lex_at;
+use lex::Lexing;
+use lex::Queue;
+use lex::Spanned;
+use lex::lex_at;
 use refusals::text::Checked;
 use refusals::text::check_text;
 use tokens::token::Token;
@@ -11,7 +11,7 @@ ghost use mathlib.Core.List.{[]};
 ghost use Prim.Native.Nat.{_+_, _≤_, _<_};
 ghost use lib.Dec.{leb};
 ghost use lib.ListN.{drop};
-ghost use Rattle.lexer.specs.Lex.{spannedOf, noLexeme, queueOf};
+ghost use Rattle.lex.specs.Lex.{spannedOf, noLexeme, queueOf};
 ghost use Rattle.stepper.specs.Step.{waiting, fits, fresh, answerOf, stepped};
 
 // The place of the next read, and the tokens that wait before it.

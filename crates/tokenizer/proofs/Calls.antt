@@ -8,6 +8,7 @@ use native.Mathlib.Omega.{arith}
 use lib.ListN.{length, take, drop}
 use lib.Seq.{paste, take-at}
 use borrow.Author.Tests.{lt-ltb, le-ltb, lt-leb, le-leb}
+use Rattle.tokens.specs.Lexeme.{Lexeme}
 use Rattle.tokens.specs.Table.{tableWords, countOthers}
 use Rattle.tokens.specs.Refusals.{Answer, accepted, refused, textRefusal}
 use Rattle.tokens.proofs.Cases.{by-lt, by-option}
@@ -17,11 +18,12 @@ use Rattle.lexing.specs.Rules.{tokens}
 use Rattle.lexing.proofs.Theorems.{never-outnumber}
 use Rattle.lexer.specs.declared.Listing.{Listing}
 use Rattle.lexer.specs.declared.Listing.the-variants.{Tokens, Refused}
-use Rattle.lexer.specs.Listing.{listInto, listedText}
+use Rattle.lexer.specs.Listing.{listInto, listedReads}
 use Rattle.lexer.proofs.Into.{into-whole}
 use Rattle.tokenizer.specs.declared.TokenizedUnder.{TokenizedUnder}
 use Rattle.tokenizer.specs.Call.{tokenized, tokenizedUnder, counted}
 use Rattle.tokenizer.specs.Waiting.{allListed, Waiting}
+use Rattle.tokenizer.proofs.Whole.{allReads, whole}
 use Rattle.tokenizer.specs.declared.TokenizedUnder.the-variants as under
 
 -- the first words of a list, pasted into a table
@@ -29,22 +31,27 @@ pasted : (list table words : List ℕ) (n : ℕ) → take n list ≡ words → p
 pasted list table words n e = let k : 0 + n ≡ n = omega arith in rw (e, k)
 
 module _ (text table : List ℕ) where
-  all-refused : (k : ℕ) → textRefusal text ≡ some k → _≡_ {A = Listing × List ℕ} (listedText text table) (Refused k, table)
-  unfolding listedText
-  all-refused k e = rw (e, listedText)
+  all-refused : (k : ℕ) → textRefusal text ≡ some k → _≡_ {A = Listing × List ℕ} (listedReads text 0 (length text) table) (Refused k, table)
+  unfolding listedReads
+  all-refused k e = rw (e, listedReads)
 
   all-tokens : textRefusal text ≡ none
-      → _≡_ {A = Listing × List ℕ} (listedText text table) (Tokens (length (tokens text)) (countOthers (tokens text)), listInto 0 table (tokens text))
-  unfolding listedText
-  all-tokens o = rw (o, listedText)
+      → _≡_ {A = Listing × List ℕ} (listedReads text 0 (length text) table) (Tokens (length (tokens text)) (countOthers (tokens text)) (allReads text .next), listInto 0 table (tokens text))
+  unfolding listedReads
+  all-tokens o =
+      let e : _≡_ {A = Listing × List ℕ} (listedReads text 0 (length text) table) (ofList (allReads text .list)) = rw (o, listedReads) in
+      e ∙ ap ofList (whole text)
+    where
+      ofList : List Lexeme → Listing × List ℕ
+      ofList ts = (Tokens (length ts) (countOthers ts) (allReads text .next), listInto 0 table ts)
 
-  -- what an answer of `list_tokens` says
-  module _ (r : Listing) (after : List ℕ) (e : _≡_ {A = Listing × List ℕ} (r, after) (listedText text table)) where
+  -- what an answer of `list_reads` says
+  module _ (r : Listing) (after : List ℕ) (e : _≡_ {A = Listing × List ℕ} (r, after) (listedReads text 0 (length text) table)) where
     pub answer-refused : (k : ℕ) → r ≡ Refused k → textRefusal text ≡ some k
     answer-refused k f =
         by-option (textRefusal text)
         (λ o.
-        let h : r ≡ Tokens (length (tokens text)) (countOthers (tokens text)) = ap (λ (q : Listing × List ℕ). q .0) (e ∙ all-tokens o) in
+        let h : r ≡ Tokens (length (tokens text)) (countOthers (tokens text)) (allReads text .next) = ap (λ (q : Listing × List ℕ). q .0) (e ∙ all-tokens o) in
         let z : _≡_ {A = ℕ} 0 1 = cc in
         absurd (omega arith))
         (λ j o.
@@ -52,11 +59,11 @@ module _ (text table : List ℕ) where
         let i : j ≡ k = cc in
         o ∙ ap some i)
 
-    pub answer-tokens : length table ≡ 480 → (all others : ℕ) → r ≡ Tokens all others → Waiting text after all others
-    answer-tokens l all others f =
+    pub answer-tokens : length table ≡ 480 → (all others next : ℕ) → r ≡ Tokens all others next → Waiting text after all others
+    answer-tokens l all others next f =
         by-option (textRefusal text)
         (λ o.
-        let h : r ≡ Tokens (length (tokens text)) (countOthers (tokens text)) = ap (λ (q : Listing × List ℕ). q .0) (e ∙ all-tokens o) in
+        let h : r ≡ Tokens (length (tokens text)) (countOthers (tokens text)) (allReads text .next) = ap (λ (q : Listing × List ℕ). q .0) (e ∙ all-tokens o) in
         let m : all ≡ length (tokens text) = cc in
         let n : others ≡ countOthers (tokens text) = cc in
         record {
@@ -86,14 +93,14 @@ module _ (text table : List ℕ) (room : ℕ) where
     unfolding tokenizedUnder
     under-tokens = sym (rw (o, tokenizedUnder) (rw (le-ltb _ _ l) (rw (lt-leb room (countOthers (tokens text)) m))))
 
-    all-under : allListed (listedText text table) ≡ tokenizedUnder text table room
+    all-under : allListed (listedReads text 0 (length text) table) ≡ tokenizedUnder text table room
     all-under =
         ap allListed (all-tokens text table o)
         ∙ ap (λ (t : List ℕ). (under.Tokens (length (tokens text)) (countOthers (tokens text)), t)) (into-whole table (tokens text) l)
         ∙ under-tokens
 
   -- a text with no more bytes than tokens fit
-  pub all-fit : length text ≤ length table / 3 → length text < room → allListed (listedText text table) ≡ tokenizedUnder text table room
+  pub all-fit : length text ≤ length table / 3 → length text < room → allListed (listedReads text 0 (length text) table) ≡ tokenizedUnder text table room
   all-fit l m =
       by-option (textRefusal text)
       (λ o.
@@ -128,7 +135,7 @@ module _ (text table : List ℕ) (room : ℕ) where
             rw (pasted list table (tableWords (tokens text)) (3 * all) (w .words-are h), w .all-are, w .others-are)
             (under-tokens (w .accepted) fit below)
 
-        pub waiting-again : allListed (listedText text table) ≡ tokenizedUnder text table room
+        pub waiting-again : allListed (listedReads text 0 (length text) table) ≡ tokenizedUnder text table room
         waiting-again = all-under (w .accepted) fit below
 
 -- without a bound on the other tokens
@@ -151,9 +158,11 @@ under-any text table =
 
 -- the counts of a list
 abbrev pub counts : Listing × List ℕ → Answer
-counts (Tokens all others, table) = accepted (all ∷ others ∷ [])
+counts (Tokens all others next, table) = accepted (all ∷ others ∷ [])
 counts (Refused k, table) = refused k
 
-pub counts-are : (text table : List ℕ) → counts (listedText text table) ≡ counted text
-unfolding listedText counted
-counts-are text table = by-option (textRefusal text) (λ o. rw (o, listedText, counted)) (λ k o. rw (o, listedText, counted))
+pub counts-are : (text table : List ℕ) → counts (listedReads text 0 (length text) table) ≡ counted text
+unfolding counted
+counts-are text table =
+    by-option (textRefusal text) (λ o. ap counts (all-tokens text table o) ∙ sym (rw (o, counted)))
+    (λ k o. ap counts (all-refused text table k o) ∙ sym (rw (o, counted)))

@@ -1,11 +1,11 @@
 // The calls on a text: its tokens listed, listed if they are few, and counted.
 use lexer::Listing;
-use lexer::list_tokens;
+use lexer::list_reads;
 ghost use mathlib.Core.Path.{_≡_};
 ghost use Prim.Native.Nat.{_≤_};
 ghost use lib.ListN.{length};
 ghost use lib.Seq.{paste};
-ghost use Rattle.lexer.specs.Listing.{listedText};
+ghost use Rattle.lexer.specs.Listing.{listedReads};
 ghost use Rattle.tokenizer.specs.Waiting.{allListed, Waiting};
 ghost use Rattle.tokenizer.specs.Call.{answerOf, tokenized, tokenizedUnder, countOf, counted};
 
@@ -31,10 +31,14 @@ fn copy_words(list: &[u32], table: &mut [u32], n: usize)
 
 // All tokens of a text, for which the table has words.
 fn list_all(text: &[u8], table: &mut [u32]) -> TokenizedUnder
-    ensures { λ r. ⌜ (r, now (table .exit)) ≡ allListed (listedText (now (text .entry)) (now (table .entry))) ⌝ }
+    ensures { λ r. ⌜ (r, now (table .exit)) ≡ allListed (listedReads (now (text .entry)) 0 (length (now (text .entry))) (now (table .entry))) ⌝ }
 {
-    match list_tokens(text, table) {
-        Listing::Tokens { all, others } => TokenizedUnder::Tokens { all, others },
+    match list_reads(text, 0, text.len(), table) {
+        Listing::Tokens {
+            all,
+            others,
+            next: _,
+        } => TokenizedUnder::Tokens { all, others },
         Listing::Refused(k) => TokenizedUnder::Refused(k),
     }
 }
@@ -74,8 +78,12 @@ pub fn tokenize_under(text: &[u8], table: &mut [u32], room: usize) -> TokenizedU
         return list_all(text, table);
     }
     let mut list = [0u32; 480];
-    match list_tokens(text, &mut list) {
-        Listing::Tokens { all, others } => take_list(text, table, room, &list, all, others),
+    match list_reads(text, 0, len, &mut list) {
+        Listing::Tokens {
+            all,
+            others,
+            next: _,
+        } => take_list(text, table, room, &list, all, others),
         Listing::Refused(k) => TokenizedUnder::Refused(k),
     }
 }
@@ -109,8 +117,12 @@ pub fn count_tokens(text: &[u8]) -> Counted
     ensures { λ r. ⌜ countOf r ≡ counted (now (text .entry)) ⌝ }
 {
     let mut none = [0u32; 1];
-    match list_tokens(text, &mut none) {
-        Listing::Tokens { all, others } => Counted::Tokens { all, others },
+    match list_reads(text, 0, text.len(), &mut none) {
+        Listing::Tokens {
+            all,
+            others,
+            next: _,
+        } => Counted::Tokens { all, others },
         Listing::Refused(k) => Counted::Refused(k),
     }
 }

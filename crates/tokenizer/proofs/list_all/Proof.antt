@@ -6,8 +6,8 @@ use Rattle.tokenizer.specs.Waiting.{allListed}
 use Rattle.tokenizer.proofs.list_all.Statement.{statement}
 use Rattle.tokenizer.proofs.list_all.Tie as tie
 
-list-tokens-requires : tie.Need-list-tokens-requires
-list-tokens-requires c κs = search needs
+list-reads-requires : tie.Need-list-reads-requires
+list-reads-requires c κs = search needs
 
 enum-known-all : tie.Need-enum-known-all
 enum-known-all c = search needs
@@ -19,19 +19,19 @@ same-length : tie.Need-same-length
 same-length c = search needs
 
 returns : tie.Need-returns
-returns c = ap (λ (r : Listing). allListed (r, c .before .before .before .before .before .list-tokens .last .1 .0)) (sym (c .before .all .given .1)) ∙ ap allListed (c .before .before .before .before .before .list-tokens .ensures)
+returns c = ap (λ (r : Listing). allListed (r, c .before .before .before .before .before .list-reads .last .1 .1 .1 .0)) (sym (c .before .all .given .1)) ∙ ap allListed (c .before .before .before .before .before .list-reads .ensures)
 
 same-length-2 : tie.Need-same-length-2
 same-length-2 c = search needs
 
 returns-2 : tie.Need-returns-2
-returns-2 c = ap (λ (r : Listing). allListed (r, c .before .before .before .before .before .list-tokens .last .1 .0)) (sym (c .before .k .given .1)) ∙ ap allListed (c .before .before .before .before .before .list-tokens .ensures)
+returns-2 c = ap (λ (r : Listing). allListed (r, c .before .before .before .before .before .list-reads .last .1 .1 .1 .0)) (sym (c .before .k .given .1)) ∙ ap allListed (c .before .before .before .before .before .list-reads .ensures)
 
 pub list-all-spec : {M : Type 1} → statement M
 list-all-spec =
     tie.close
     (tie.spec
-    list-tokens-requires
+    list-reads-requires
     enum-known-all
     enum-known-k
     same-length

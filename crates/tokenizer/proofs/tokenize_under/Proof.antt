@@ -19,17 +19,17 @@ returns c =
     let a = c .before .before .before .before .before .before .before .before .args in
     c .before .before .list-all .ensures ∙ all-fit (a .text .now) (a .table .now) (a .room) (omega arith) (ltb-true (length (a .text .now)) (a .room) (c .before .before .before .before .if2 .taken))
 
-slice-aggregate-list-tokens : tie.Need-slice-aggregate-list-tokens
-slice-aggregate-list-tokens c = search needs
+slice-aggregate-list-reads : tie.Need-slice-aggregate-list-reads
+slice-aggregate-list-reads c = search needs
 
-list-tokens-requires : tie.Need-list-tokens-requires
-list-tokens-requires c κs = search needs
+list-reads-requires : tie.Need-list-reads-requires
+list-reads-requires c κs = search needs
 
 enum-known-all : tie.Need-enum-known-all
 enum-known-all c = search needs
 
 take-list-requires : tie.Need-take-list-requires
-take-list-requires c κs = answer-tokens (c .before .before .before .before .before .before .before .before .before .before .before .args .text .now) _ (c .before .before .before .before .before .before .list-tokens .result) (c .before .before .before .before .before .before .list-tokens .last .1 .0) (c .before .before .before .before .before .before .list-tokens .ensures) refl _ _ (c .before .before .before .all .given .1)
+take-list-requires c κs = answer-tokens (c .before .before .before .before .before .before .before .before .before .before .before .args .text .now) _ (c .before .before .before .before .before .before .list-reads .result) (c .before .before .before .before .before .before .list-reads .last .1 .1 .1 .0) (c .before .before .before .before .before .before .list-reads .ensures) refl _ _ _ (c .before .before .before .all .given .1)
 
 enum-known-k : tie.Need-enum-known-k
 enum-known-k c = search needs
@@ -43,7 +43,7 @@ returns-2 c = search needs
 returns-3 : tie.Need-returns-3
 returns-3 c =
     let a = c .before .before .before .before .before .before .before .before .before .args in
-    under-refused (a .text .now) (a .table .now) (a .room) _ (answer-refused (a .text .now) _ (c .before .before .before .before .list-tokens .result) (c .before .before .before .before .list-tokens .last .1 .0) (c .before .before .before .before .list-tokens .ensures) _ (c .before .k .given .1))
+    under-refused (a .text .now) (a .table .now) (a .room) _ (answer-refused (a .text .now) _ (c .before .before .before .before .list-reads .result) (c .before .before .before .before .list-reads .last .1 .1 .1 .0) (c .before .before .before .before .list-reads .ensures) _ (c .before .k .given .1))
 
 pub tokenize-under-spec : {M : Type 1} → statement M
 tokenize-under-spec =
@@ -52,8 +52,8 @@ tokenize-under-spec =
     list-all-requires
     same-length
     returns
-    slice-aggregate-list-tokens
-    list-tokens-requires
+    slice-aggregate-list-reads
+    list-reads-requires
     enum-known-all
     take-list-requires
     enum-known-k

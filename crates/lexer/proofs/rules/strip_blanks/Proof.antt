@@ -16,7 +16,7 @@ add-blanks-end : tie.Need-add-blanks-end
 add-blanks-end c = omega arith
 
 blanks-end-requires : tie.Need-blanks-end-requires
-blanks-end-requires c κs = omega arith
+blanks-end-requires c κs = search needs
 
 sub-put : tie.Need-sub-put
 sub-put c = omega (arith, run-from blank (c .before .before .before .before .args .text .now) (c .before .before .before .before .args .p .next + 1))

@@ -15,7 +15,7 @@ add-number-end : tie.Need-add-number-end
 add-number-end c = omega arith
 
 number-end-requires : tie.Need-number-end-requires
-number-end-requires c κs = omega arith
+number-end-requires c κs = search needs
 
 sub-put-other : tie.Need-sub-put-other
 sub-put-other c = omega (arith, number-from (c .before .before .before .before .args .text .now) (c .before .before .before .before .args .p .next + 1))

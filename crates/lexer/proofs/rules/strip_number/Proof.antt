@@ -12,7 +12,7 @@ use Rattle.lexer.proofs.rules.strip_number.Statement.{statement}
 use Rattle.lexer.proofs.rules.strip_number.Tie as tie
 
 number-end-requires : tie.Need-number-end-requires
-number-end-requires c κs = omega arith
+number-end-requires c κs = search needs
 
 past-point-requires : tie.Need-past-point-requires
 past-point-requires c κs = omega arith

@@ -21,7 +21,7 @@ shared-slice-read-if1 : tie.Need-shared-slice-read-if1
 shared-slice-read-if1 c = omega arith
 
 find-end-requires : tie.Need-find-end-requires
-find-end-requires c κs = omega arith
+find-end-requires c κs = search needs
 
 sub-put-other : tie.Need-sub-put-other
 sub-put-other c = omega (arith, run-from (other 34) (c .before .before .before .before .before .before .before .args .text .now) (c .before .before .before .before .before .before .before .args .p .next + 1))

@@ -23,7 +23,7 @@ add-blanks-end : tie.Need-add-blanks-end
 add-blanks-end c = omega arith
 
 blanks-end-requires : tie.Need-blanks-end-requires
-blanks-end-requires c κs = omega arith
+blanks-end-requires c κs = search needs
 
 same-length : tie.Need-same-length
 same-length c = search needs
@@ -47,7 +47,7 @@ add-from : tie.Need-add-from
 add-from c = omega arith
 
 find-end-requires : tie.Need-find-end-requires
-find-end-requires c κs = omega arith
+find-end-requires c κs = search needs
 
 put-other-requires-2 : tie.Need-put-other-requires-2
 put-other-requires-2 c κs = omega (arith, run-from blank (c .before .before .before .before .before .before .before .before .before .before .before .before .before .args .text .now) (c .before .before .before .before .before .before .before .before .before .before .before .before .before .args .p .next + 4), ap (λ (q : Listed). q .all) (c .before .before .before .before .before .before .before .before .before .put-other .ensures .0), ap (λ (q : Listed). q .others) (c .before .before .before .before .before .before .before .before .before .put-other .ensures .0))

@@ -1,7 +1,7 @@
 -- The three that wait, word by word.
 use borrow.Author.Needs.{needs}
-use Rattle.lexer.proofs.lex.queue_at.Statement.{statement}
-use Rattle.lexer.proofs.lex.queue_at.Tie as tie
+use Rattle.lex.proofs.queue_at.Statement.{statement}
+use Rattle.lex.proofs.queue_at.Tie as tie
 
 spanned-at-requires : tie.Need-spanned-at-requires
 spanned-at-requires c κs = search needs

@@ -7,9 +7,10 @@ use Prim.Native.Nat.{ℕ, _≤_, _<_}
 use lib.ListN.{length}
 use borrow.Author.Tests.{lt-ltb, le-ltb}
 use Rattle.tokens.specs.Refusals.{textRefusal}
+use Rattle.tokens.proofs.Cases.{by-option}
 use Rattle.lexing.specs.Rules.{byteAt, readAt}
-use Rattle.lexer.specs.declared.lex.Lexing.the-variants.{Nothing}
-use Rattle.lexer.specs.Lex.{lexing, lexedAt}
+use Rattle.lex.specs.declared.Lexing.the-variants.{Nothing}
+use Rattle.lex.specs.Lex.{lexing, lexedAt}
 
 module _ (text : List ℕ) (at : ℕ) where
   pub lex-refused : (k : ℕ) → textRefusal text ≡ some k → Nothing ≡ lexing (lexedAt text at)
@@ -24,3 +25,7 @@ module _ (text : List ℕ) (at : ℕ) where
     pub read-inside : at < length text → lexedAt text at ≡ some (readAt byteAt text at)
     unfolding lexedAt
     read-inside l = rw (h, lexedAt) (rw (lt-ltb at (length text) l))
+
+  -- past the end, of any text
+  pub lex-end : length text ≤ at → Nothing ≡ lexing (lexedAt text at)
+  lex-end l = by-option (textRefusal text) (λ o. lex-past o l) (λ k o. lex-refused k o)

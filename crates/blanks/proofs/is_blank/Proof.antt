@@ -5,8 +5,8 @@ use lib.Dec.{leb}
 use borrow.Author.Tests.{lt-leb, le-leb, eq-eqb, ne-eqb}
 use Rattle.lexing.specs.Rules.{blank}
 use Rattle.tokens.proofs.Cases.{by-test}
-use Rattle.lexer.proofs.rules.is_blank.Statement.{statement}
-use Rattle.lexer.proofs.rules.is_blank.Tie as tie
+use Rattle.blanks.proofs.is_blank.Statement.{statement}
+use Rattle.blanks.proofs.is_blank.Tie as tie
 
 returns : tie.Need-returns
 unfolding blank

@@ -5,10 +5,10 @@ use mathlib.Core.Option.{Option, none, some}
 use Prim.Native.Nat.{ℕ, _+_}
 use lib.Dec.{ltb}
 use lib.ListN.{length, getD}
-use Rattle.lexer.specs.declared.lex.Spanned.{Spanned}
-use Rattle.lexer.specs.declared.lex.Queue.{Queue}
-use Rattle.lexer.specs.declared.lex.Lexing.{Lexing}
-use Rattle.lexer.specs.declared.lex.Lexing.the-variants.{Tokens, Nothing}
+use Rattle.lex.specs.declared.Spanned.{Spanned}
+use Rattle.lex.specs.declared.Queue.{Queue}
+use Rattle.lex.specs.declared.Lexing.{Lexing}
+use Rattle.lex.specs.declared.Lexing.the-variants.{Tokens, Nothing}
 use Rattle.tokens.specs.declared.token.Token.the-variants.{Frac}
 use Rattle.tokens.specs.Kinds.{tokenOf}
 use Rattle.tokens.specs.Lexeme.{Lexeme, lexeme}

@@ -4,8 +4,8 @@ use native.Mathlib.Omega.{arith}
 use borrow.Author.Needs.{needs}
 use lib.ListN.{length}
 use Rattle.lexer.proofs.Passes.{Listing, listing-start, listing-placed, listing-on, listing-next, listing-end}
-use Rattle.lexer.proofs.list.list_reads.Statement.{statement}
-use Rattle.lexer.proofs.list.list_reads.Tie as tie
+use Rattle.lexer.proofs.list.list_from.Statement.{statement}
+use Rattle.lexer.proofs.list.list_from.Tie as tie
 
 abbrev Inv-loop : tie.InvT-loop
 Inv-loop text from stop table₀ bytes rows first p₀ table p = Listing stop text from table₀ p table
@@ -25,7 +25,7 @@ first-words-requires c κs = search needs
 loop-holds : tie.Need-loop-holds Inv-loop μ-loop
 loop-holds c =
     let a = c .before .before .before .before .before .args in
-    listing-start (a .stop) (a .text .now) (a .from) (a .table .now) (c .before .before .before .before .before .pre .2)
+    listing-start (a .stop) (a .text .now) (a .from) (a .table .now)
 
 read-token-requires : tie.Need-read-token-requires Inv-loop μ-loop
 read-token-requires c κs =
@@ -33,7 +33,7 @@ read-token-requires c κs =
     let l = c .before .before .before .before .before .before .loop in
     let h = c .before .before .before .before .before .before .before .before .before .before .before .before .pre in (
       record { bytes-are = c .before .before .before .before .before .before .before .before .before .spelling-bytes .ensures; rows-are = c .before .before .before .before .before .before .before .before .row-words .ensures; first-are = c .before .before .before .before .before .before .before .first-words .ensures },
-      listing-placed (a .stop) (a .text .now) (a .from) (a .table .now) (l .p) (l .table) (l .inv) (h .1) (h .3) (c .before .before .before .before .if1 .taken),
+      listing-placed (a .stop) (a .text .now) (a .from) (a .table .now) (l .p) (l .table) (l .inv) (h .1) (h .2) (c .before .before .before .before .if1 .taken),
       h .0,
     )
 
@@ -42,14 +42,14 @@ loop-less c =
     let a = c .before .before .before .before .before .before .before .before .before .before .before .before .before .before .before .args in
     let l = c .before .before .before .before .before .before .before .before .before .loop in
     let h = c .before .before .before .before .before .before .before .before .before .before .before .before .before .before .before .pre in
-    omega (arith, listing-on (a .stop) (a .text .now) (a .from) (a .table .now) (l .p) (l .table) (l .inv) (h .1) (h .3) (c .before .before .before .before .before .before .before .if1 .taken) (c .before .before .read-token .result) (c .before .before .read-token .last .1 .1 .1 .1 .0) (c .before .before .read-token .ensures))
+    omega (arith, listing-on (a .stop) (a .text .now) (a .from) (a .table .now) (l .p) (l .table) (l .inv) (h .1) (h .2) (c .before .before .before .before .before .before .before .if1 .taken) (c .before .before .read-token .result) (c .before .before .read-token .last .1 .1 .1 .1 .0) (c .before .before .read-token .ensures))
 
 loop-again : tie.Need-loop-again Inv-loop μ-loop
 loop-again c =
     let a = c .before .before .before .before .before .before .before .before .before .before .before .before .before .before .before .args in
     let l = c .before .before .before .before .before .before .before .before .before .loop in
     let h = c .before .before .before .before .before .before .before .before .before .before .before .before .before .before .before .pre in
-    listing-next (a .stop) (a .text .now) (a .from) (a .table .now) (l .p) (l .table) (l .inv) (h .1) (h .3) (c .before .before .before .before .before .before .before .if1 .taken) (c .before .before .read-token .result) (c .before .before .read-token .last .1 .1 .1 .1 .0) (c .before .before .read-token .ensures) (c .before .before .read-token .kept .1 .1 .1 .1 .0)
+    listing-next (a .stop) (a .text .now) (a .from) (a .table .now) (l .p) (l .table) (l .inv) (h .1) (h .2) (c .before .before .before .before .before .before .before .if1 .taken) (c .before .before .read-token .result) (c .before .before .read-token .last .1 .1 .1 .1 .0) (c .before .before .read-token .ensures) (c .before .before .read-token .kept .1 .1 .1 .1 .0)
 
 same-length : tie.Need-same-length Inv-loop μ-loop
 same-length c = c .before .before .loop .inv .size
@@ -60,8 +60,8 @@ returns c =
     let l = c .before .before .loop in
     listing-end (a .stop) (a .text .now) (a .from) (a .table .now) (l .p) (l .table) (l .inv) (omega arith)
 
-pub list-reads-spec : {M : Type 1} → statement M
-list-reads-spec =
+pub list-from-spec : {M : Type 1} → statement M
+list-from-spec =
     tie.close
     (tie.spec
     Inv-loop

@@ -1,7 +1,7 @@
 -- The token of the number, and the span as it stands.
 use borrow.Author.Needs.{needs}
-use Rattle.lexer.proofs.lex.spanned_at.Statement.{statement}
-use Rattle.lexer.proofs.lex.spanned_at.Tie as tie
+use Rattle.lex.proofs.spanned_at.Statement.{statement}
+use Rattle.lex.proofs.spanned_at.Tie as tie
 
 add-of-number : tie.Need-add-of-number
 add-of-number c = search needs

@@ -1,0 +1,103 @@
+-- A single read, listed into twelve words: they are those of its tokens, and zeros.
+use mathlib.Core.Path.{_≡_, refl, sym, ap, _∙_}
+use mathlib.Core.List.{List, [], _∷_, _++_, append-nil}
+use mathlib.Core.Option.{Option, none, some}
+use Prim.Native.Nat.{ℕ, suc, _+_, _-_, _≤_, _<_, min}
+use native.Mathlib.Omega.{arith}
+use lib.ListN.{length, drop}
+use Rattle.tokens.specs.Lexeme.{Lexeme}
+use Rattle.tokens.specs.Table.{tableWords, countOthers}
+use Rattle.tokens.specs.Refusals.{textRefusal}
+use Rattle.tokens.proofs.Cases.{by-option}
+use Rattle.tokens.proofs.Numbers.{token-of-number}
+use Rattle.lexing.specs.Rules.{Read, byteAt, readAt}
+use Rattle.lexing.proofs.Moves.{read-moves, byteAt-sound}
+use Rattle.lexer.specs.declared.Listing.{Listing}
+use Rattle.lexer.specs.declared.Listing.the-variants as listing
+use Rattle.lexer.specs.Listing.{behind, readsTo, listInto, listedReads}
+use Rattle.lexer.proofs.Into.{into-whole}
+use Rattle.lexer.proofs.Stops.{stopped, step}
+use Rattle.lex.specs.declared.Lexing.{Lexing}
+use Rattle.lex.specs.declared.Lexing.the-variants.{Tokens, Nothing}
+use Rattle.lex.specs.Lex.{spannedAt, queueAt, lexing, lexedAt}
+use Rattle.lex.proofs.Answers.{lex-refused, read-inside}
+
+abbrev pub zeros : List ℕ
+zeros = 0 ∷ 0 ∷ 0 ∷ 0 ∷ 0 ∷ 0 ∷ 0 ∷ 0 ∷ 0 ∷ 0 ∷ 0 ∷ 0 ∷ []
+
+-- the answer that the words give
+abbrev pub lexingAt : List ℕ → ℕ → ℕ → Lexing
+lexingAt words count next = Tokens (spannedAt words 0) (queueAt words count) next
+
+-- the answer of `list_reads` for the tokens of a read
+abbrev ofRead : Read → Listing × List ℕ
+ofRead q =
+    (listing.Tokens (suc (length (q .waiting))) (countOthers (q .first ∷ q .waiting)) (q .next), listInto 0 zeros (q .first ∷ q .waiting))
+
+lexing-is : (q : Read) → length (q .waiting) ≤ 3 → lexingAt (listInto 0 zeros (q .first ∷ q .waiting)) (length (q .waiting)) (q .next) ≡ lexing (some q)
+unfolding tableWords
+lexing-is q h = of (q .waiting) h
+  where
+    of : (ts : List Lexeme) → length ts ≤ 3
+        → lexingAt (listInto 0 zeros (q .first ∷ ts)) (length ts) (q .next) ≡ lexing (some (record { first = q .first; waiting = ts; next = q .next }))
+    of [] l = rw (into-whole zeros (q .first ∷ []) (omega arith)) (simp token-of-number)
+    of (t ∷ []) l = rw (into-whole zeros (q .first ∷ t ∷ []) (omega arith)) (simp token-of-number)
+    of (t ∷ (u ∷ [])) l = rw (into-whole zeros (q .first ∷ t ∷ u ∷ []) (omega arith)) (simp token-of-number)
+    of (t ∷ (u ∷ (v ∷ []))) l = rw (into-whole zeros (q .first ∷ t ∷ u ∷ v ∷ []) (omega arith)) (simp token-of-number)
+    of (t ∷ (u ∷ (v ∷ (w ∷ ts)))) l = absurd (omega arith)
+
+single : (text : List ℕ) (at : ℕ) → at < length text
+    → readsTo (at + 1) text at ≡ record { list = readAt byteAt text at .first ∷ readAt byteAt text at .waiting; next = readAt byteAt text at .next }
+single text at h =
+    let r = readAt byteAt text at in
+    let m = read-moves byteAt-sound text at h .on in
+    step (at + 1) text (omega arith) at (omega arith)
+    ∙ ap (behind r) (stopped (at + 1) text (r .next) (omega arith))
+    ∙ ap (λ (ts : List Lexeme). record { list = r .first ∷ ts; next = r .next }) (append-nil (r .waiting))
+
+-- the answer of `list_reads` over one read: a refusal, or the read's tokens
+module _ (text : List ℕ) (at : ℕ) (h : at < length text) (r : Listing) (words : List ℕ)
+    (e : _≡_ {A = Listing × List ℕ} (r, words) (listedReads text at (at + 1) zeros)) where
+  read-listed : textRefusal text ≡ none → _≡_ {A = Listing × List ℕ} (listedReads text at (at + 1) zeros) (ofRead (readAt byteAt text at))
+  unfolding listedReads
+  read-listed o =
+      let n : min (at + 1) (length text) ≡ at + 1 = omega arith in
+      rw (o, listedReads) (rw (n, single text at h))
+
+  pub answer-none : (k : ℕ) → r ≡ listing.Refused k → Nothing ≡ lexing (lexedAt text at)
+  answer-none k f =
+      by-option (textRefusal text)
+      (λ o.
+      let g : r ≡ ofRead (readAt byteAt text at) .0 = ap (λ (q : Listing × List ℕ). q .0) (e ∙ read-listed o) in
+      let z : _≡_ {A = ℕ} 0 1 = cc in
+      absurd (omega arith))
+      (λ j o. lex-refused text at j o)
+
+  module _ (all others next : ℕ) (f : r ≡ listing.Tokens all others next) where
+    accepted : textRefusal text ≡ none
+    unfolding listedReads
+    accepted =
+        by-option (textRefusal text) (λ o. o)
+        (λ j o.
+        let d : _≡_ {A = Listing × List ℕ} (listedReads text at (at + 1) zeros) (listing.Refused j, zeros) = rw (o, listedReads) in
+        let g : r ≡ listing.Refused j = ap (λ (q : Listing × List ℕ). q .0) (e ∙ d) in
+        let z : _≡_ {A = ℕ} 0 1 = cc in
+        absurd (omega arith))
+
+    count-is : all ≡ suc (length (readAt byteAt text at .waiting))
+    count-is =
+        let g : listing.Tokens all others next ≡ ofRead (readAt byteAt text at) .0 = sym f ∙ ap (λ (q : Listing × List ℕ). q .0) (e ∙ read-listed accepted) in
+        cc
+
+    pub some-listed : 1 ≤ all
+    some-listed = omega (arith, count-is)
+
+    pub single-is : lexingAt words (all - 1) next ≡ lexing (lexedAt text at)
+    single-is =
+        let q = readAt byteAt text at in
+        let m = read-moves byteAt-sound text at h .three in
+        let g : listing.Tokens all others next ≡ ofRead q .0 = sym f ∙ ap (λ (q : Listing × List ℕ). q .0) (e ∙ read-listed accepted) in
+        let w : words ≡ listInto 0 zeros (q .first ∷ q .waiting) = ap (λ (q : Listing × List ℕ). q .1) (e ∙ read-listed accepted) in
+        let n : all - 1 ≡ length (q .waiting) = omega (arith, count-is) in
+        let k : next ≡ q .next = cc in
+        rw (w, n, k) (lexing-is q m) ∙ ap (λ (o : Option Read). lexing o) (sym (read-inside text at accepted h))
