@@ -49,57 +49,63 @@ module _ (text : List ℕ) (s : Tokenizer) where
   unfolding stepRefusal
   refused-text k e = rw (e, stepRefusal)
 
-  pub by-text : (k : ℕ) → textRefusal text ≡ some k → Steps (refused k) s
-  by-text k e = step-refused k (refused-text k e)
-
   module _ (a : textRefusal text ≡ none) where
     pub refused-state : fits (length text) s ≡ false → stepRefusal text s ≡ some 5
     unfolding stepRefusal
     refused-state f = rw (a, stepRefusal) (rw f)
 
-    pub by-state : fits (length text) s ≡ false → Steps (refused 5) s
-    by-state f = step-refused 5 (refused-state f)
+    pub passed : fits (length text) s ≡ true → stepRefusal text s ≡ none
+    unfolding stepRefusal
+    passed f = rw (a, stepRefusal) (rw f)
 
-    module _ (f : fits (length text) s ≡ true) where
-      pub passed : stepRefusal text s ≡ none
-      unfolding stepRefusal
-      passed = rw (a, stepRefusal) (rw f)
+  module _ (p : stepRefusal text s ≡ none) where
+    accepted-of : textRefusal text ≡ none
+    accepted-of =
+        by-option (textRefusal text) (λ a. a)
+        (λ k a. let e = refused-text k a in let z : _≡_ {A = ℕ} 0 1 = cc in absurd (omega arith))
 
-      pub answers-waiting : 0 < s .queued .count → (q : Queue) → q ≡ queueOf (drop 1 (waiting (s .queued)))
-          → Steps (tokenAnswer (lexemeOf (s .queued .first))) (record { place = s .place; queued = q })
+    -- a state that is not refused fits
+    pub fits-of : fits (length text) s ≡ true
+    fits-of =
+        by-test (fits (length text) s) (λ f. f)
+        (λ f. let e = refused-state accepted-of f in let z : _≡_ {A = ℕ} 0 1 = cc in absurd (omega arith))
+
+    -- the first that waits is answered
+    pub answers-waiting : 0 < s .queued .count → Steps (tokenAnswer (lexemeOf (s .queued .first))) (state (s .place) (drop 1 (waiting (s .queued))))
+    unfolding waiting
+    answers-waiting l =
+        let w = first-of (s .queued .count) (lexemeOf (s .queued .first)) (lexemeOf (s .queued .second) ∷ lexemeOf (s .queued .third) ∷ []) l in
+        rw w (step-waiting p _ _ w)
+
+    -- none waits
+    module _ (z : s .queued .count ≤ 0) where
+      none-waiting : waiting (s .queued) ≡ []
       unfolding waiting
-      answers-waiting l q e =
-          let w = first-of (s .queued .count) (lexemeOf (s .queued .first)) (lexemeOf (s .queued .second) ∷ lexemeOf (s .queued .third) ∷ []) l in
-          rw (e, w) (step-waiting passed _ _ w)
+      none-waiting = let e : s .queued .count ≡ 0 = omega arith in rw e
 
-      module _ (z : s .queued .count ≤ 0) where
-        none-waiting : waiting (s .queued) ≡ []
-        unfolding waiting
-        none-waiting = let e : s .queued .count ≡ 0 = omega arith in rw e
+      pub answers-read : (t : Spanned) (q : Queue) (next : ℕ) → Tokens t q next ≡ lexing (lexedAt text (s .place))
+          → Steps (token (t .start) (t .len) (numberOf (t .token))) (record { place = next; queued = q })
+      answers-read t q next e =
+          by-lt (s .place) (length text)
+          (λ l.
+          let g = rw (read-inside text (s .place) accepted-of l) at e in
+          let t-is : t ≡ spannedOf (readAt byteAt text (s .place) .first) = cc in
+          let q-is : q ≡ queueOf (readAt byteAt text (s .place) .waiting) = cc in
+          let next-is : next ≡ readAt byteAt text (s .place) .next = cc in
+          rw (t-is, q-is, next-is) (step-read p none-waiting l))
+          (λ l.
+          let g = lex-past text (s .place) accepted-of l in
+          let z : _≡_ {A = ℕ} 0 1 = cc in
+          absurd (omega arith))
 
-        pub answers-read : (t : Spanned) (q : Queue) (next : ℕ) → Tokens t q next ≡ lexing (lexedAt text (s .place))
-            → Steps (token (t .start) (t .len) (numberOf (t .token))) (record { place = next; queued = q })
-        answers-read t q next e =
-            by-lt (s .place) (length text)
-            (λ l.
-            let g = rw (read-inside text (s .place) a l) at e in
-            let t-is : t ≡ spannedOf (readAt byteAt text (s .place) .first) = cc in
-            let q-is : q ≡ queueOf (readAt byteAt text (s .place) .waiting) = cc in
-            let next-is : next ≡ readAt byteAt text (s .place) .next = cc in
-            rw (t-is, q-is, next-is) (step-read passed none-waiting l))
-            (λ l.
-            let g = lex-past text (s .place) a l in
-            let z : _≡_ {A = ℕ} 0 1 = cc in
-            absurd (omega arith))
-
-        pub answers-end : Nothing ≡ lexing (lexedAt text (s .place)) → Steps end s
-        answers-end e =
-            by-lt (s .place) (length text)
-            (λ l.
-            let g = rw (read-inside text (s .place) a l) at e in
-            let z : _≡_ {A = ℕ} 0 1 = cc in
-            absurd (omega arith))
-            (λ l. step-end passed none-waiting l)
+      pub answers-end : Nothing ≡ lexing (lexedAt text (s .place)) → Steps end s
+      answers-end e =
+          by-lt (s .place) (length text)
+          (λ l.
+          let g = rw (read-inside text (s .place) accepted-of l) at e in
+          let z : _≡_ {A = ℕ} 0 1 = cc in
+          absurd (omega arith))
+          (λ l. step-end p none-waiting l)
 
 -- what a state that fits has
 module _ (size : ℕ) (s : Tokenizer) (f : fits size s ≡ true) where
@@ -139,12 +145,3 @@ module _ {A : Type 0} (k : ℕ) where
 
 pub end-not-token : {A : Type 0} (start len kind : ℕ) → end ≡ token start len kind → A
 end-not-token i n k e = let z : _≡_ {A = ℕ} 0 1 = cc in absurd (omega arith)
-
--- a state that is not refused fits
-pub fits-of : (text : List ℕ) (s : Tokenizer) → stepRefusal text s ≡ none → fits (length text) s ≡ true
-fits-of text s p =
-    by-test (fits (length text) s) (λ f. f)
-    (λ f.
-    by-option (textRefusal text)
-    (λ a. let e = refused-state text s a f in let z : _≡_ {A = ℕ} 0 1 = cc in absurd (omega arith))
-    (λ k a. let e = refused-text text s k a in let z : _≡_ {A = ℕ} 0 1 = cc in absurd (omega arith)))

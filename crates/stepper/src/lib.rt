@@ -8,11 +8,12 @@ use refusals::text::check_text;
 use tokens::token::Token;
 ghost use mathlib.Core.Path.{_≡_};
 ghost use mathlib.Core.List.{[]};
+ghost use mathlib.Core.Option.{none};
 ghost use Prim.Native.Nat.{_+_, _≤_, _<_};
 ghost use lib.Dec.{leb};
 ghost use lib.ListN.{drop};
 ghost use Rattle.lex.specs.Lex.{spannedOf, noLexeme, queueOf};
-ghost use Rattle.stepper.specs.Step.{waiting, fits, fresh, answerOf, stepped};
+ghost use Rattle.stepper.specs.Step.{waiting, fits, fresh, answerOf, stepped, stepRefusal, tokenAnswer, lexemeOf, state};
 
 // The place of the next read, and the tokens that wait before it.
 pub struct Tokenizer {
@@ -55,14 +56,13 @@ fn no_tokens() -> Queue
 }
 
 // Whether a span lies in a text of `size` bytes. Its end is not computed, since the sum could wrap.
-fn is_inside(size: usize, t: Spanned) -> bool
-    ensures { λ r. ⌜ r ≡ leb (t .start + t .len) size ⌝ }
+fn is_inside(size: usize, start: usize, len: usize) -> bool
+    ensures { λ r. ⌜ r ≡ leb (start + len) size ⌝ }
 {
-    let start = t.start;
     if size < start {
         return false;
     }
-    t.len <= size - start
+    len <= size - start
 }
 
 // Whether the place and the tokens that are said to wait, at most three, lie in a text of `size` bytes.
@@ -72,30 +72,26 @@ fn state_fits(size: usize, s: Tokenizer) -> bool
     if size < s.place {
         return false;
     }
-    let queued = s.queued;
-    let count = queued.count;
+    let count = s.queued.count;
     if 3 < count {
         return false;
     }
     if count == 0 {
         return true;
     }
-    let first = queued.first;
-    if !is_inside(size, first) {
+    if !is_inside(size, s.queued.first.start, s.queued.first.len) {
         return false;
     }
     if count == 1 {
         return true;
     }
-    let second = queued.second;
-    if !is_inside(size, second) {
+    if !is_inside(size, s.queued.second.start, s.queued.second.len) {
         return false;
     }
     if count == 2 {
         return true;
     }
-    let third = queued.third;
-    is_inside(size, third)
+    is_inside(size, s.queued.third.start, s.queued.third.len)
 }
 
 // The tokens behind the first one.
@@ -104,11 +100,10 @@ fn behind_first(q: Queue) -> Queue
     ensures { λ r. ⌜ r ≡ queueOf (drop 1 (waiting q)) ⌝ }
 {
     let count = q.count;
-    let second = q.second;
-    let third = q.third;
     if count == 1 {
         return no_tokens();
     }
+    let second = q.second;
     if count == 2 {
         return Queue {
             count: 1,
@@ -117,6 +112,7 @@ fn behind_first(q: Queue) -> Queue
             third: no_token(),
         };
     }
+    let third = q.third;
     Queue {
         count: 2,
         first: second,
@@ -125,12 +121,54 @@ fn behind_first(q: Queue) -> Queue
     }
 }
 
+// A step that answers the first token that waits.
+fn take_first(s: Tokenizer) -> Advance
+    requires { ⌜ (0 < s .queued .count) × (s .queued .count ≤ 3) ⌝ }
+    ensures { λ r. ⌜ answerOf (r .answer) ≡ tokenAnswer (lexemeOf (s .queued .first)) ⌝ }
+    ensures { λ r. ⌜ r .state ≡ state (s .place) (drop 1 (waiting (s .queued))) ⌝ }
+{
+    let queued = s.queued;
+    let first = queued.first;
+    Advance {
+        answer: Stepped::Token(first),
+        state: Tokenizer {
+            place: s.place,
+            queued: behind_first(queued),
+        },
+    }
+}
+
+// A step that is not refused, with no token waiting.
+fn read_on(text: &[u8], s: Tokenizer) -> Advance
+    requires { ⌜ (stepRefusal (now text) s ≡ none) × (s .queued .count ≤ 0) ⌝ }
+    ensures { λ r. ⌜ (answerOf (r .answer), r .state) ≡ stepped (now (text .entry)) s ⌝ }
+{
+    match lex_at(text, s.place) {
+        Lexing::Tokens {
+            first,
+            queued,
+            next,
+        } => {
+            return Advance {
+                answer: Stepped::Token(first),
+                state: Tokenizer {
+                    place: next,
+                    queued,
+                },
+            };
+        }
+        Lexing::Nothing => {}
+    }
+    Advance {
+        answer: Stepped::End,
+        state: s,
+    }
+}
+
 // One step from a state, by value.
 fn advanced(text: &[u8], s: Tokenizer) -> Advance
     ensures { λ r. ⌜ (answerOf (r .answer), r .state) ≡ stepped (now (text .entry)) s ⌝ }
 {
-    let place = s.place;
-    let queued = s.queued;
     match check_text(text) {
         Checked::Refused(k) => {
             return Advance {
@@ -146,34 +184,10 @@ fn advanced(text: &[u8], s: Tokenizer) -> Advance
             state: s,
         };
     }
-    let count = queued.count;
-    if 0 < count {
-        let first = queued.first;
-        return Advance {
-            answer: Stepped::Token(first),
-            state: Tokenizer {
-                place,
-                queued: behind_first(queued),
-            },
-        };
+    if 0 < s.queued.count {
+        return take_first(s);
     }
-    match lex_at(text, place) {
-        Lexing::Tokens {
-            first,
-            queued: behind,
-            next,
-        } => Advance {
-            answer: Stepped::Token(first),
-            state: Tokenizer {
-                place: next,
-                queued: behind,
-            },
-        },
-        Lexing::Nothing => Advance {
-            answer: Stepped::End,
-            state: s,
-        },
-    }
+    read_on(text, s)
 }
 
 impl Tokenizer {

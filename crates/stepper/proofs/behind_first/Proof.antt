@@ -28,13 +28,4 @@ returns-3 : tie.Need-returns-3
 returns-3 c = behind-three _ (omega arith) _ (c .no-token3 .ensures)
 
 pub behind-first-spec : {M : Type 1} → statement M
-behind-first-spec =
-    tie.close
-    (tie.spec
-    no-tokens-requires
-    returns
-    no-token-requires
-    no-token-requires-2
-    returns-2
-    no-token-requires-3
-    returns-3)
+behind-first-spec = tie.close (tie.spec no-tokens-requires returns no-token-requires no-token-requires-2 returns-2 no-token-requires-3 returns-3)

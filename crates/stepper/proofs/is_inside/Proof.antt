@@ -4,14 +4,15 @@ use Prim.Native.Nat.{_+_}
 use native.Mathlib.Omega.{arith}
 use borrow.Author.Tests.{lt-leb}
 use Rattle.stepper.proofs.Queues.{by-difference}
+use borrow.Author.Needs.{needs}
 use Rattle.stepper.proofs.is_inside.Statement.{statement}
 use Rattle.stepper.proofs.is_inside.Tie as tie
 
 returns : tie.Need-returns
-returns c = sym (lt-leb (c .before .args .t .start + c .before .args .t .len) (c .before .args .size) (omega arith))
+returns c = sym (lt-leb (c .before .args .start + c .before .args .len) (c .before .args .size) (omega arith))
 
 returns-2 : tie.Need-returns-2
-returns-2 c = by-difference (c .before .before .args .t .start) (c .before .before .args .t .len) (c .before .before .args .size) (c .before .if1 .left)
+returns-2 c = by-difference (c .before .args .start) (c .before .args .len) (c .before .args .size) (c .if1 .left)
 
 pub is-inside-spec : {M : Type 1} → statement M
 is-inside-spec = tie.close (tie.spec returns returns-2)
