@@ -501,29 +501,22 @@ fn next_rows(
     let end = row.end;
     let cols = row.count;
     let close = row.close;
-    match close {
-        Close::Broken => Rows {
-            cur: cur,
-            end: end,
-            cells: cols,
-            cols: cols,
-            left: left,
-            why: Why::Broken,
-        },
+    let why = match close {
+        Close::Broken => Why::Broken,
         Close::At(right) => {
             if row_brackets(text, tok, work, left, right) {
-                more_rows(text, tok, n, work, tree, cur, end, cols, left, right)
-            } else {
-                Rows {
-                    cur: cur,
-                    end: end,
-                    cells: cols,
-                    cols: cols,
-                    left: left,
-                    why: Why::Differs,
-                }
+                return more_rows(text, tok, n, work, tree, cur, end, cols, left, right);
             }
+            Why::Differs
         }
+    };
+    Rows {
+        cur: cur,
+        end: end,
+        cells: cols,
+        cols: cols,
+        left: left,
+        why: why,
     }
 }
 
@@ -542,10 +535,11 @@ fn try_matrix(
     requires { ⌜ i < n ⌝ }
     ensures { λ r. ⌜ TryMatrix (now (text .entry)) (now (tok .entry)) n (now (work .entry)) (now (work .exit)) i c e (now (tree .entry)) (now (tree .exit)) r ⌝ }
 {
-    if !could_be_matrix(text, tok, work, n, i) {
+    let old = &*work;
+    if !could_be_matrix(text, tok, old, n, i) {
         return Step::Nothing(c);
     }
-    if failed_at(work, i, MATRIX_MARK) {
+    if failed_at(old, i, MATRIX_MARK) {
         return Step::Nothing(c);
     }
     let rows = next_rows(text, tok, n, work, tree, c, e + 8);
@@ -554,8 +548,9 @@ fn try_matrix(
     if let Why::Done = why {
         let p = cur.pos as usize;
         let split = split_column_lines(text, tree, e + 8, rows.end, rows.cells, rows.cols);
-        if makes_matrix(text, tok, work, n, i, rows.left, split.cells, p) {
-            put_matrix(tok, work, tree, e, i, p, split);
+        let now = &*work;
+        if makes_matrix(text, tok, now, n, i, rows.left, split.cells, p) {
+            put_matrix(tok, now, tree, e, i, p, split);
             return Step::Found(cur.next(), split.end, true);
         }
     }
