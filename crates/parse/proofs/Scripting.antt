@@ -16,6 +16,7 @@ use Rattle.reading.specs.Stop.{Stop}
 use Rattle.reading.specs.Entries.{Entry}
 use Rattle.reading.specs.Reading.{State, M, Scripted, nextScriptFunc, nextIntermediate, nextOpenGroup, orMissingPart, endsOperand, endsFirst, endsSecond, look, prefixes}
 use Rattle.parse.specs.declared.cursor.Cursor.{Cursor}
+use Rattle.parse.specs.declared.cursor.Step.{Step}
 use Rattle.parse.specs.declared.cursor.Step.the-variants.{Found, Nothing}
 use Rattle.parse.specs.declared.cursor.Part.{Part}
 use Rattle.parse.specs.declared.cursor.Scripted as code
@@ -24,7 +25,7 @@ use Rattle.parse.specs.Buffer.{Wrote}
 use Rattle.records.specs.Record.{startOf, lenOf}
 use Rattle.lookahead.specs.Tests.{testAt, isKind, headsKind}
 use Rattle.nodes.specs.Nodes.{nodeWords, groupWords}
-use Rattle.parse.specs.Meet.{Input, Row, At, Known, readers, Finds, Simple, ScriptFunc, Term, Intermediate, Operand, Scripts, Intermediates, Headed, OpenGroup, With, wordsOf, stopOf, scriptFuncAt, onward, seen, inner, atDepth}
+use Rattle.parse.specs.Meet.{Input, Row, At, Known, readers, Finds, Simple, ScriptFunc, Term, Intermediate, Operand, Scripts, Intermediates, Headed, OpenGroup, With, wordsOf, stopOf, scriptFuncAt, onward, seen, inner, atDepth, stepAt}
 use Rattle.parse.proofs.Buffer.{fill, seq, back, wrote-none}
 use Rattle.parse.proofs.Whole.{whole-items}
 use Rattle.lookahead.proofs.Testing.{test-below}
@@ -134,6 +135,11 @@ module _ {X t : List ℕ} {n : ℕ} {K : List ℕ} (stop sg : Bool) {c : Cursor}
             let q = p .means I (tick s) (at-tick at) (r .0 .entry) (r .0 .there) in
             found-of (q .answer) (script-runs (c .depth) stop sg deep I s (bind _ _ s (r .1) ∙ q .runs)) (q .at) (q .tree) (q .besides),
       )
+
+pub script-back : (X t : List ℕ) (n : ℕ) (K L : List ℕ) (stop sg : Bool) (a c : Cursor) (e : ℕ) (x y : List ℕ) (r : Step) → c .depth < 256 → a ≡ inner (seen n c) → testAt t K n (headsKind sg) (c .pos) ≡ false
+    → Term X t n K L stop sg a e x y r → ScriptFunc X t n K L stop sg c e x y (stepAt (c .depth) r)
+script-back X t n K L stop sg a c e x y (Nothing b) deep ha h p = script-nothing stop sg deep ha h p
+script-back X t n K L stop sg a c e x y (Found b E f) deep ha h p = script-term stop sg deep ha h p
 
 -- a function with its scripts and its argument; a sign with its argument
 module _ {X t : List ℕ} {n : ℕ} {K : List ℕ} (i : ℕ) (stop : Bool) {c : Cursor} {e : ℕ} {x : List ℕ} (inside : i < n) (room : e + 18 + 32 * (n - c .pos) ≤ length x) where

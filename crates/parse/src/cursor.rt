@@ -5,7 +5,7 @@ ghost use mathlib.Core.Path.{_≡_};
 ghost use mathlib.Core.Bool.{true};
 ghost use Prim.Native.Nat.{_≤_, _<_};
 ghost use Rattle.tree.specs.Words.{pick};
-ghost use Rattle.parse.specs.Meet.{onward, seen, passing, inner, atDepth, rewound};
+ghost use Rattle.parse.specs.Meet.{onward, seen, passing, inner, atDepth, rewound, stepAt, foundPart};
 
 // The position, the depth of the readers, and the takes so far, counted round 2^32.
 pub(crate) struct Cursor {
@@ -104,6 +104,34 @@ pub(crate) struct Part {
     pub cur: Cursor,
     pub end: usize,
     pub ends: bool,
+}
+
+impl Step {
+    // The same, back in the reader of that depth.
+    pub(crate) fn at_depth(self, depth: u16) -> Step
+        ensures { λ r. ⌜ r ≡ stepAt depth self ⌝ }
+    {
+        match self {
+            Step::Found(d, e, f) => Step::Found(d.at_depth(depth), e, f),
+            Step::Nothing(d) => Step::Nothing(d.at_depth(depth)),
+        }
+    }
+}
+
+// The node was read.
+pub(crate) fn found_part(g: Part) -> Step
+    ensures { λ r. ⌜ r ≡ foundPart g ⌝ }
+{
+    let gc = g.cur;
+    Step::Found(gc, g.end, g.ends)
+}
+
+// The same, back in the reader of that depth.
+pub(crate) fn found(g: Part, depth: u16) -> Step
+    ensures { λ r. ⌜ r ≡ stepAt depth (foundPart g) ⌝ }
+{
+    let gc = g.cur;
+    Step::Found(gc.at_depth(depth), g.end, g.ends)
 }
 
 // A script's number and its arguments.

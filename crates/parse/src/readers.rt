@@ -8,6 +8,8 @@ use crate::cursor::Rows;
 use crate::cursor::Scripted;
 use crate::cursor::Step;
 use crate::cursor::Why;
+use crate::cursor::found;
+use crate::cursor::found_part;
 use crate::kinds::BINARY;
 use crate::kinds::CLOSE_BRACKET;
 use crate::kinds::FRAC;
@@ -15,17 +17,17 @@ use crate::kinds::FUNCTION;
 use crate::kinds::MATRIX_MARK;
 use crate::kinds::NODE_BINARY;
 use crate::kinds::NODE_CELL;
-use crate::kinds::NODE_FUNC;
 use crate::kinds::NODE_MISSING;
-use crate::kinds::NODE_SIGNED;
 use crate::kinds::NODE_SIMPLE;
 use crate::kinds::OPEN_BRACKET;
 use crate::kinds::OPEN_CLOSE_BRACKET;
 use crate::kinds::SEP;
 use crate::kinds::SUPER;
 use crate::plain::plain_item;
-use crate::tests::bar_after;
-use crate::tests::close_at;
+use crate::tests::choose;
+use crate::tests::frac_word;
+use crate::tests::head_kind;
+use crate::tests::head_stop;
 use crate::tests::opens;
 use crate::tests::prefix_kind;
 use crate::tests::prefix_stop;
@@ -187,14 +189,10 @@ fn next_script_func(
     let pos = c.pos as usize;
     if heads_at(tok, work, n, pos, sign) {
         let g = headed(text, tok, n, work, tree, c.next().deeper(), e, stop, pos);
-        let gc = g.cur;
-        Step::Found(gc.at_depth(depth), g.end, g.ends)
-    } else {
-        match term(text, tok, n, work, tree, c.look(n).deeper(), e, stop, sign) {
-            Step::Nothing(d) => Step::Nothing(d.at_depth(depth)),
-            Step::Found(d, e1, f) => Step::Found(d.at_depth(depth), e1, f),
-        }
+        return found(g, depth);
     }
+    let s = term(text, tok, n, work, tree, c.look(n).deeper(), e, stop, sign);
+    s.at_depth(depth)
 }
 
 // A term: a simple expression with its scripts.
@@ -239,14 +237,18 @@ fn headed(
     requires { ⌜ i < n ⌝ }
     ensures { λ r. ⌜ Headed (now (text .entry)) (now (tok .entry)) n (now (work .entry)) (now (work .exit)) i stop c e (now (tree .entry)) (now (tree .exit)) r ⌝ }
 {
-    if is_at(tok, work, n, i, FUNCTION) {
-        let m = next_script(text, tok, n, work, tree, c, e + 6);
-        let mc = m.cur;
-        let g = operand(text, tok, n, work, tree, mc, m.end, false);
-        return node_before(tok, work, tree, e, NODE_FUNC, i, m.script, g);
+    let func = is_at(tok, work, n, i, FUNCTION);
+    let mut m = Scripted {
+        cur: c,
+        end: e + 6,
+        script: 0,
+    };
+    if func {
+        m = next_script(text, tok, n, work, tree, c, e + 6);
     }
-    let g = operand(text, tok, n, work, tree, c, e + 6, stop);
-    node_before(tok, work, tree, e, NODE_SIGNED, i, 0, g)
+    let mc = m.cur;
+    let g = operand(text, tok, n, work, tree, mc, m.end, head_stop(func, stop));
+    node_before(tok, work, tree, e, head_kind(func), i, m.script, g)
 }
 
 // One item: a scripted part, or a fraction of two.
@@ -267,16 +269,18 @@ fn next_intermediate(
     match next_script_func(text, tok, n, work, tree, c, e + 1, stop, sign) {
         Step::Nothing(d) => Step::Nothing(d),
         Step::Found(d, e1, f) => {
-            let pos = d.pos as usize;
-            if is_at(tok, work, n, pos, FRAC) {
-                put1(tree, e, 1);
-                let g = operand(text, tok, n, work, tree, d.next(), e1, false);
+            let frac = is_at(tok, work, n, d.pos as usize, FRAC);
+            put1(tree, e, frac_word(frac));
+            let mut g = Part {
+                cur: d.past(n, frac),
+                end: e1,
+                ends: f,
+            };
+            if frac {
                 let gc = g.cur;
-                Step::Found(gc, g.end, g.ends)
-            } else {
-                put1(tree, e, 0);
-                Step::Found(d.look(n), e1, f)
+                g = operand(text, tok, n, work, tree, gc, e1, false);
             }
+            found_part(g)
         }
     }
 }
@@ -305,13 +309,14 @@ pub(crate) fn extend(
     let mut sign = sign0;
     'items: loop {
         let pos = cur.pos as usize;
-        let bar = bar_after(first, n, until);
-        if bar_at(text, tok, work, n, bar, pos) {
+        let bar = choose(first, n, until);
+        let now = &*work;
+        if bar_at(text, tok, now, n, bar, pos) {
             break 'items;
         }
-        let g = put_space(tok, work, n, tree, pos, end, first);
-        if is_plain(tok, work, n, cur.depth as usize, pos) {
-            let p = plain_item(tok, work, n, tree, cur, g.end);
+        let g = put_space(tok, now, n, tree, pos, end, first);
+        if is_plain(tok, now, n, cur.depth as usize, pos) {
+            let p = plain_item(tok, now, n, tree, cur, g.end);
             cur = p.cur;
             end = p.end;
             count += 1 + g.items;
@@ -319,7 +324,7 @@ pub(crate) fn extend(
             sign = !p.ends;
             continue 'items;
         }
-        if is_over(tok, work, n, cur.depth as usize, stop, pos) {
+        if is_over(tok, now, n, cur.depth as usize, stop, pos) {
             cur = cur.look(n).look(n);
             break 'items;
         }
@@ -496,29 +501,22 @@ fn next_rows(
     let end = row.end;
     let cols = row.count;
     let close = row.close;
-    match close {
-        Close::Broken => Rows {
-            cur: cur,
-            end: end,
-            cells: cols,
-            cols: cols,
-            left: left,
-            why: Why::Broken,
-        },
+    let why = match close {
+        Close::Broken => Why::Broken,
         Close::At(right) => {
             if row_brackets(text, tok, work, left, right) {
-                more_rows(text, tok, n, work, tree, cur, end, cols, left, right)
-            } else {
-                Rows {
-                    cur: cur,
-                    end: end,
-                    cells: cols,
-                    cols: cols,
-                    left: left,
-                    why: Why::Differs,
-                }
+                return more_rows(text, tok, n, work, tree, cur, end, cols, left, right);
             }
+            Why::Differs
         }
+    };
+    Rows {
+        cur: cur,
+        end: end,
+        cells: cols,
+        cols: cols,
+        left: left,
+        why: why,
     }
 }
 
@@ -537,10 +535,11 @@ fn try_matrix(
     requires { ⌜ i < n ⌝ }
     ensures { λ r. ⌜ TryMatrix (now (text .entry)) (now (tok .entry)) n (now (work .entry)) (now (work .exit)) i c e (now (tree .entry)) (now (tree .exit)) r ⌝ }
 {
-    if !could_be_matrix(text, tok, work, n, i) {
+    let old = &*work;
+    if !could_be_matrix(text, tok, old, n, i) {
         return Step::Nothing(c);
     }
-    if failed_at(work, i, MATRIX_MARK) {
+    if failed_at(old, i, MATRIX_MARK) {
         return Step::Nothing(c);
     }
     let rows = next_rows(text, tok, n, work, tree, c, e + 8);
@@ -549,8 +548,9 @@ fn try_matrix(
     if let Why::Done = why {
         let p = cur.pos as usize;
         let split = split_column_lines(text, tree, e + 8, rows.end, rows.cells, rows.cols);
-        if makes_matrix(text, tok, work, n, i, rows.left, split.cells, p) {
-            put_matrix(tok, work, tree, e, i, p, split);
+        let now = &*work;
+        if makes_matrix(text, tok, now, n, i, rows.left, split.cells, p) {
+            put_matrix(tok, now, tree, e, i, p, split);
             return Step::Found(cur.next(), split.end, true);
         }
     }
@@ -577,7 +577,7 @@ fn open_group(
     let cur = run.cur;
     let at = cur.pos as usize;
     let shut = is_at(tok, work, n, at, CLOSE_BRACKET);
-    put_group(tok, work, n, tree, e, i, close_at(shut, at, n), run.count);
+    put_group(tok, work, n, tree, e, i, choose(shut, at, n), run.count);
     Part {
         cur: cur.past(n, shut),
         end: run.end,
@@ -636,26 +636,26 @@ fn bars(
 {
     let from = c.pos;
     let mark = open_mark(stop);
-    if failed_at(work, i, mark) {
-        return leaf(tok, work, tree, c, e, i, OPEN_CLOSE_BRACKET);
-    }
-    let run = extend(text, tok, n, work, tree, c, e + 6, i, stop, true, true);
-    let cur = run.cur;
-    let at = cur.pos as usize;
-    let count = run.count;
-    if count == 0 {
-        leaf(tok, work, tree, cur, e, i, OPEN_CLOSE_BRACKET)
-    } else if bar_at(text, tok, work, n, i, at) {
-        put_group(tok, work, n, tree, e, i, at, count);
-        Part {
-            cur: cur.next(),
-            end: run.end,
-            ends: true,
+    let mut cur = c;
+    if !failed_at(work, i, mark) {
+        let run = extend(text, tok, n, work, tree, c, e + 6, i, stop, true, true);
+        cur = run.cur;
+        let count = run.count;
+        if count != 0 {
+            let at = cur.pos as usize;
+            if bar_at(text, tok, work, n, i, at) {
+                put_group(tok, work, n, tree, e, i, at, count);
+                return Part {
+                    cur: cur.next(),
+                    end: run.end,
+                    ends: true,
+                };
+            }
+            mark_failed(work, i, mark);
+            cur = cur.rewind(from);
         }
-    } else {
-        mark_failed(work, i, mark);
-        leaf(tok, work, tree, cur.rewind(from), e, i, OPEN_CLOSE_BRACKET)
     }
+    leaf(tok, work, tree, cur, e, i, OPEN_CLOSE_BRACKET)
 }
 
 // The node of kind `kind` that the entry i prefixes, with one argument.
@@ -792,9 +792,7 @@ fn next_simple(
             sign,
             pos,
         );
-        let gc = g.cur;
-        Step::Found(gc.at_depth(depth), g.end, g.ends)
-    } else {
-        Step::Nothing(c.look(n))
+        return found(g, depth);
     }
+    Step::Nothing(c.look(n))
 }

@@ -2,8 +2,10 @@
 use crate::cursor::Part;
 use crate::cursor::Scripted;
 use crate::kinds::FUNCTION;
+use crate::kinds::NODE_FUNC;
 use crate::kinds::NODE_MISSING;
 use crate::kinds::NODE_SFUNC;
+use crate::kinds::NODE_SIGNED;
 use crate::kinds::NODE_SSIGNED;
 use crate::kinds::NODE_UNARY;
 use crate::kinds::OPEN_BRACKET;
@@ -11,6 +13,7 @@ use crate::kinds::OPEN_CLOSE_BRACKET;
 use crate::kinds::SIGN;
 use crate::kinds::UNARY;
 ghost use mathlib.Core.Path.{_≡_};
+ghost use mathlib.Core.Bool.{false};
 ghost use Rattle.tree.specs.Words.{pick};
 ghost use Rattle.parse.specs.Meet.{opening};
 ghost use Rattle.parse.specs.Choices.{prefixNumber, prefixStop};
@@ -26,18 +29,32 @@ pub(crate) fn opens(k: u32) -> bool
     }
 }
 
-// The bar that items end at: none before the first of them.
-pub(crate) fn bar_after(first: bool, n: usize, until: usize) -> usize
-    ensures { λ r. ⌜ r ≡ pick first n until ⌝ }
+// One of two entries.
+pub(crate) fn choose(first: bool, i: usize, j: usize) -> usize
+    ensures { λ r. ⌜ r ≡ pick first i j ⌝ }
 {
-    if first { n } else { until }
+    if first { i } else { j }
 }
 
-// A group's closing bracket; none, if it is left open.
-pub(crate) fn close_at(shut: bool, at: usize, n: usize) -> usize
-    ensures { λ r. ⌜ r ≡ pick shut at n ⌝ }
+// The word before an item: 1, if it is a fraction.
+pub(crate) fn frac_word(frac: bool) -> u32
+    ensures { λ r. ⌜ r ≡ pick frac 1 0 ⌝ }
 {
-    if shut { at } else { n }
+    if frac { 1 } else { 0 }
+}
+
+// The kind of node that a function heads, or else a sign.
+pub(crate) fn head_kind(func: bool) -> u32
+    ensures { λ r. ⌜ r ≡ pick func 14 8 ⌝ }
+{
+    if func { NODE_FUNC } else { NODE_SIGNED }
+}
+
+// Whether its argument ends at a separator: a sign's does where the sign's own reader does.
+pub(crate) fn head_stop(func: bool, stop: bool) -> bool
+    ensures { λ r. ⌜ r ≡ pick func false stop ⌝ }
+{
+    if func { false } else { stop }
 }
 
 // The kind of node that a token of kind k makes of one argument; Missing, if it takes none. `sign`: a sign here prefixes.

@@ -38,19 +38,11 @@ same-length t c = search needs
 pub same-length-2 : (t : ℕ) → next-rows-lts.Need-same-length-2 (uses t) (next-rows-at t) next-rows.Post
 same-length-2 t c = search needs
 
-pub returns : (t : ℕ) → next-rows-lts.Need-returns (uses t) (next-rows-at t) next-rows.Post
-returns t c = let S = c .before .before .before .before .before .before .before .before .before .before .before .before .before .before .before in
-    let g = c .before .before .before .before .before .before .before .next-row .result in matrix-broken (S .args .text .now) (S .args .tok .now) (S .args .n) (S .args .work .now) _ (S .args .c) (S .args .e) (S .args .tree .now) _ (g .count) (g .cur) (g .end) (g .count) (g .end) (g .count) (S .args .c .pos) (rw (c .enum-told .given .1) at (c .before .before .before .before .before .before .before .next-row .ensures))
-
 pub same-length-3 : (t : ℕ) → next-rows-lts.Need-same-length-3 (uses t) (next-rows-at t) next-rows.Post
 same-length-3 t c = search needs
 
 pub same-length-4 : (t : ℕ) → next-rows-lts.Need-same-length-4 (uses t) (next-rows-at t) next-rows.Post
 same-length-4 t c = search needs
-
-pub returns-2 : (t : ℕ) → next-rows-lts.Need-returns-2 (uses t) (next-rows-at t) next-rows.Post
-returns-2 t c = let S = c .before .before .before .before .before .before .before .before .before .before .before .before .before .before .before .before .before .before .before .before .before .before .before .before .before .before in
-    let g = c .before .before .before .before .before .before .before .before .before .before .before .before .before .before .before .before .before .before .next-row .result in matrix-more (S .args .text .now) (S .args .tok .now) (S .args .n) (S .args .work .now) _ (S .args .c) (S .args .e) (S .args .tree .now) _ (g .count) (c .before .before .before .before .before .before .before .before .before .before .before .close .given .0 .0) (g .end) (g .cur) (rw (c .before .before .before .before .before .before .before .before .before .before .before .close .given .1) at (c .before .before .before .before .before .before .before .before .before .before .before .before .before .before .before .before .before .before .next-row .ensures)) (omega (arith, S .pre .1 .room)) (sym (c .before .before .before .before .before .before .before .before .row-brackets .ensures) ∙ c .before .before .before .before .before .before .before .if1 .taken) _ _ (c .before .before .before .before .more-rows .result) (c .before .before .before .before .more-rows .ensures)
 
 pub same-length-5 : (t : ℕ) → next-rows-lts.Need-same-length-5 (uses t) (next-rows-at t) next-rows.Post
 same-length-5 t c = search needs
@@ -64,3 +56,11 @@ returns-3 t c = let S = c .before .before .before .before .before .before .befor
 
 pub cast-left : (t : ℕ) → next-rows-lts.Need-cast-left (uses t) (next-rows-at t) next-rows.Post
 cast-left t c = search needs
+
+pub returns : (t : ℕ) → next-rows-lts.Need-returns (uses t) (next-rows-at t) next-rows.Post
+returns t c = let S = c .before .before .before .before .before .before .before .before .before .before .before .before .before .before .before .before .before .before .before .before .before .before .before .before .before .before in
+    let g = c .before .before .before .before .before .before .before .before .before .before .before .before .before .before .before .before .before .before .next-row .result in matrix-more (S .args .text .now) (S .args .tok .now) (S .args .n) (S .args .work .now) _ (S .args .c) (S .args .e) (S .args .tree .now) _ (g .count) (c .before .before .before .before .before .before .before .before .before .before .before .close .given .0 .0) (g .end) (g .cur) (rw (c .before .before .before .before .before .before .before .before .before .before .before .close .given .1) at (c .before .before .before .before .before .before .before .before .before .before .before .before .before .before .before .before .before .before .next-row .ensures)) (omega (arith, S .pre .1 .room)) (sym (c .before .before .before .before .before .before .before .before .row-brackets .ensures) ∙ c .before .before .before .before .before .before .before .if1 .taken) _ _ (c .before .before .before .before .more-rows .result) (c .before .before .before .before .more-rows .ensures)
+
+pub returns-2 : (t : ℕ) → next-rows-lts.Need-returns-2 (uses t) (next-rows-at t) next-rows.Post
+returns-2 t c = let S = c .before .before .before .before .before .before .before .before .before .before .before .before .before .before .before in
+    let g = c .before .before .before .before .before .before .before .next-row .result in matrix-broken (S .args .text .now) (S .args .tok .now) (S .args .n) (S .args .work .now) _ (S .args .c) (S .args .e) (S .args .tree .now) _ (g .count) (g .cur) (g .end) (g .count) (g .end) (g .count) (S .args .c .pos) (rw (c .enum-told .given .1) at (c .before .before .before .before .before .before .before .next-row .ensures))

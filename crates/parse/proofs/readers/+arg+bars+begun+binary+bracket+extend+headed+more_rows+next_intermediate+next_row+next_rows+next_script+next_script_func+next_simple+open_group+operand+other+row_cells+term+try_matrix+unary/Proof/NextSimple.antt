@@ -2,7 +2,7 @@
 use Prim.Native.Nat.{ℕ, _+_}
 use Rattle.parse.proofs.readers.begun.Reads as begun
 use Rattle.parse.proofs.readers.next_simple.Reads as next-simple
-use Rattle.parse.proofs.cursor.Cursor.at_depth.Reads as at-depth-reads
+use Rattle.parse.proofs.cursor.found.Reads as found-reads
 use Rattle.parse.proofs.cursor.Cursor.deeper.Reads as deeper-reads
 use Rattle.parse.proofs.cursor.Cursor.look.Reads as look-reads
 use Rattle.parse.proofs.cursor.Cursor.next.Reads as next-reads
@@ -20,7 +20,7 @@ use Rattle.parse.proofs.Begins.{simple-nothing, simple-begun}
 use Rattle.parse.proofs.Scripting.{simple-deep}
 
 abbrev pub uses : ℕ → next-simple-lts.Claims
-uses t = (too-deep-reads.Asked, too-deep-reads.Learnt, begins-at-reads.Asked, begins-at-reads.Learnt, next-reads.Asked, next-reads.Learnt, deeper-reads.Asked, deeper-reads.Learnt, begun-below t, begun.Post, at-depth-reads.Asked, at-depth-reads.Learnt, look-reads.Asked, look-reads.Learnt)
+uses t = (too-deep-reads.Asked, too-deep-reads.Learnt, begins-at-reads.Asked, begins-at-reads.Learnt, next-reads.Asked, next-reads.Learnt, deeper-reads.Asked, deeper-reads.Learnt, begun-below t, begun.Post, found-reads.Asked, found-reads.Learnt, look-reads.Asked, look-reads.Learnt)
 
 pub too-deep-requires : (t : ℕ) → next-simple-lts.Need-too-deep-requires (uses t) (next-simple-at t) next-simple.Post
 too-deep-requires t c κs = search needs
@@ -44,8 +44,8 @@ pub begun-requires : (t : ℕ) → next-simple-lts.Need-begun-requires (uses t) 
 begun-requires t c κs = let S = c .before .before .before .before .before .before .before .before .before .before .before .before .before .before in
     let b = test-below (S .args .tok .now) (S .args .work .now) (S .args .n) (beginsKind (S .args .stop)) (S .args .c .pos) (sym (c .before .before .before .before .before .begins-at .ensures) ∙ c .before .before .before .before .if2 .taken) in let nd : c .deeper .result .depth ≡ S .args .c .depth + 1 = rw (c .deeper .ensures, c .before .next .ensures) in let np : c .deeper .result .pos ≡ S .args .c .pos + 1 = rw (c .deeper .ensures, c .before .next .ensures) in (omega (arith, S .pre .0, leb-false 256 (S .args .c .depth) (sym (c .before .before .before .before .before .before .before .before .before .too-deep .ensures) ∙ c .before .before .before .before .before .before .before .before .if1 .left)), (record { safe = S .pre .1 .safe; known = S .pre .1 .known; here = omega arith; room = omega (arith, S .pre .1 .room) }, (sym (c .before .before .before .before .before .begins-at .ensures) ∙ c .before .before .before .before .if2 .taken, b)))
 
-pub at-depth-requires : (t : ℕ) → next-simple-lts.Need-at-depth-requires (uses t) (next-simple-at t) next-simple.Post
-at-depth-requires t c κs = search needs
+pub found-requires : (t : ℕ) → next-simple-lts.Need-found-requires (uses t) (next-simple-at t) next-simple.Post
+found-requires t c κs = search needs
 
 pub look-requires : (t : ℕ) → next-simple-lts.Need-look-requires (uses t) (next-simple-at t) next-simple.Post
 look-requires t c κs = search needs
@@ -57,8 +57,8 @@ pub same-length-2 : (t : ℕ) → next-simple-lts.Need-same-length-2 (uses t) (n
 same-length-2 t c = search needs
 
 pub returns-2 : (t : ℕ) → next-simple-lts.Need-returns-2 (uses t) (next-simple-at t) next-simple.Post
-returns-2 t c = let S = c .before .before .before .before .before .before .before .before .before .before .before .before .before .before .before .before .before .before .before .before .before in
-    rw (c .at-depth .ensures) (simple-begun (S .args .stop) (S .args .sign) (leb-false 256 (S .args .c .depth) (sym (c .before .before .before .before .before .before .before .before .before .before .before .before .before .before .before .before .too-deep .ensures) ∙ c .before .before .before .before .before .before .before .before .before .before .before .before .before .before .before .if1 .left)) (sym (c .before .before .before .before .before .before .before .before .before .before .before .before .begins-at .ensures) ∙ c .before .before .before .before .before .before .before .before .before .before .before .if2 .taken) (rw (c .before .before .before .before .before .before .before .deeper .ensures, c .before .before .before .before .before .before .before .before .next .ensures) at (c .before .before .before .before .before .before .begun .ensures)))
+returns-2 t c = let S = c .before .before .before .before .before .before .before .before .before .before .before .before .before .before .before .before .before .before .before .before in
+    rw (c .found .ensures) (simple-begun (S .args .stop) (S .args .sign) (leb-false 256 (S .args .c .depth) (sym (c .before .before .before .before .before .before .before .before .before .before .before .before .before .before .before .too-deep .ensures) ∙ c .before .before .before .before .before .before .before .before .before .before .before .before .before .before .if1 .left)) (sym (c .before .before .before .before .before .before .before .before .before .before .before .begins-at .ensures) ∙ c .before .before .before .before .before .before .before .before .before .before .if2 .taken) (rw (c .before .before .before .before .before .before .deeper .ensures, c .before .before .before .before .before .before .before .next .ensures) at (c .before .before .before .before .before .begun .ensures)))
 
 pub same-length-3 : (t : ℕ) → next-simple-lts.Need-same-length-3 (uses t) (next-simple-at t) next-simple.Post
 same-length-3 t c = search needs

@@ -12,11 +12,11 @@ use borrow.Author.Needs.{needs}
 use Rattle.lookahead.specs.Tests.{isKind}
 use Rattle.lookahead.proofs.Testing.{test-below}
 use Rattle.parse.proofs.cursor.Cursor.past.Reads as past-reads
-use Rattle.parse.proofs.tests.close_at.Reads as close-at-reads
+use Rattle.parse.proofs.tests.choose.Reads as choose-reads
 use Rattle.parse.proofs.Choices.{group-end}
 
 abbrev pub uses : ℕ → open-group-lts.Claims
-uses t = (extend-below t, extend.Post, is-at-reads.Asked, is-at-reads.Learnt, close-at-reads.Asked, close-at-reads.Learnt, put-group-reads.Asked, put-group-reads.Learnt, past-reads.Asked, past-reads.Learnt)
+uses t = (extend-below t, extend.Post, is-at-reads.Asked, is-at-reads.Learnt, choose-reads.Asked, choose-reads.Learnt, put-group-reads.Asked, put-group-reads.Learnt, past-reads.Asked, past-reads.Learnt)
 
 pub add-extend : (t : ℕ) → open-group-lts.Need-add-extend (uses t) (open-group-at t) open-group.Post
 add-extend t c = let S = c .before .before .before .before .before .before in
@@ -32,8 +32,8 @@ cast-at t c = search needs
 pub is-at-requires : (t : ℕ) → open-group-lts.Need-is-at-requires (uses t) (open-group-at t) open-group.Post
 is-at-requires t c κs = search needs
 
-pub close-at-requires : (t : ℕ) → open-group-lts.Need-close-at-requires (uses t) (open-group-at t) open-group.Post
-close-at-requires t c κs = search needs
+pub choose-requires : (t : ℕ) → open-group-lts.Need-choose-requires (uses t) (open-group-at t) open-group.Post
+choose-requires t c κs = search needs
 
 pub put-group-requires : (t : ℕ) → open-group-lts.Need-put-group-requires (uses t) (open-group-at t) open-group.Post
 put-group-requires t c κs = let S = c .before .before .before .before .before .before .before .before .before .before .before .before .before .before .before .before .before .before in
@@ -51,4 +51,4 @@ same-length-2 t c = search needs
 
 pub returns : (t : ℕ) → open-group-lts.Need-returns (uses t) (open-group-at t) open-group.Post
 returns t c = let S = c .before .before .before .before .before .before .before .before .before .before .before .before .before .before .before .before .before .before .before .before .before .before in
-    rw (c .past .ensures) (group-end (S .args .i) (S .pre .1 .1) (c .before .before .before .before .before .before .before .before .before .before .before .before .before .before .before .extend .ensures) (S .pre .1 .0 .room) (c .before .before .before .before .before .before .before .is-at .result) (c .before .before .before .before .before .before .before .is-at .ensures) (rw (c .before .before .before .before .close-at .ensures) at (c .before .before .before .put-group .ensures)))
+    rw (c .past .ensures) (group-end (S .args .i) (S .pre .1 .1) (c .before .before .before .before .before .before .before .before .before .before .before .before .before .before .before .extend .ensures) (S .pre .1 .0 .room) (c .before .before .before .before .before .before .before .is-at .result) (c .before .before .before .before .before .before .before .is-at .ensures) (rw (c .before .before .before .before .choose .ensures) at (c .before .before .before .put-group .ensures)))
