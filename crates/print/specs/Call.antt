@@ -9,7 +9,7 @@ use Rattle.tokens.specs.Refusals.{Answer, accepted, refused}
 use Rattle.reading.specs.Reading.{readText, blank}
 use Rattle.parse.specs.Entry.{bit}
 use Rattle.parse.specs.Call.{parsedText}
-use Rattle.printer.specs.Print.{printed}
+use Rattle.line.specs.Print.{printed}
 use Rattle.print.specs.declared.Printed.{Printed}
 use Rattle.print.specs.declared.Printed.the-variants.{Whole, Refused}
 

@@ -9,17 +9,17 @@ use lib.Seq.{sets-eq}
 use borrow.Author.Tests.{lt-ltb, le-ltb}
 use Rattle.printer.specs.declared.Fitted.{Fitted}
 use Rattle.printer.specs.declared.Fitted.the-variants.{Whole, Short}
-use Rattle.printer.specs.Put.{Put, most}
+use Rattle.writer.specs.Put.{Put, most}
 use Rattle.printer.specs.Call.{fitted}
 
 module _ (print out : List ℕ) where
-  pub fits : length print ≤ length out → fitted print out ≡ (Whole (length print), print ++ drop (length print) out)
-  unfolding fitted
-  fits h = rw (le-ltb (length out) (length print) h, fitted)
-
   pub short : length out < length print → fitted print out ≡ (Short, out)
   unfolding fitted
   short h = rw (lt-ltb (length out) (length print) h, fitted)
+
+  pub fits : length print ≤ length out → fitted print out ≡ (Whole (length print), print ++ drop (length print) out)
+  unfolding fitted
+  fits h = rw (le-ltb (length out) (length print) h, fitted)
 
 module _ {print out probe probed : List ℕ} {need : ℕ} (p : Put probe 0 probed need print) where
   pub put-whole : {after : List ℕ} {end : ℕ} → length out < most → need ≤ length out → Put out 0 after end print →

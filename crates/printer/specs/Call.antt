@@ -6,7 +6,7 @@ use lib.Dec.{ltb}
 use lib.ListN.{length, drop}
 use Rattle.printer.specs.declared.Fitted.{Fitted}
 use Rattle.printer.specs.declared.Fitted.the-variants.{Whole, Short}
-use Rattle.printer.specs.Print.{first}
+use Rattle.line.specs.Print.{first}
 use Rattle.printer.specs.Rows.{rowOf}
 
 -- The first line, then the root's items: for any words. Of a tree's words it is its printed tree (proofs/Printing.antt, tree-printed).

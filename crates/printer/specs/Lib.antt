@@ -1,6 +1,2 @@
-pub mod Decimal
-pub mod Put
-pub mod Print
-pub mod Lines
 pub mod Rows
 pub mod Call

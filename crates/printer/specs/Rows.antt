@@ -10,8 +10,8 @@ use Rattle.tree.specs.declared.walk.Step.the-variants.{Node, End}
 use Rattle.tree.specs.Words.{pick}
 use Rattle.tree.specs.Walk.{stepAt}
 use Rattle.printer.specs.declared.row.Reached.{Reached}
-use Rattle.printer.specs.Lines.{lineOf}
-use Rattle.printer.specs.Put.{Put}
+use Rattle.line.specs.Lines.{lineOf}
+use Rattle.writer.specs.Put.{Put}
 
 -- a row's lines, and where its words end
 pub record Row : Type 0 where

@@ -1,15 +1,14 @@
 // The printed tree of document 01, from the words of a tree.
-mod line;
-mod put;
 mod row;
 
-use line::put_items;
-use put::put_byte;
-use put::put_number;
 use row::put_row;
+use writer::put_bytes;
+use writer::put_decimal;
+ghost use mathlib.Core.List.{_++_};
 ghost use mathlib.Core.Path.{_≡_};
-ghost use Rattle.printer.specs.Put.{Put};
-ghost use Rattle.printer.specs.Print.{first};
+ghost use Rattle.writer.specs.Put.{Put};
+ghost use Rattle.writer.specs.Decimal.{decimal};
+ghost use Rattle.line.specs.Print.{first};
 ghost use Rattle.printer.specs.Call.{printWords, fitted};
 
 // Whether the print fits its buffer.
@@ -20,14 +19,22 @@ pub enum Fitted {
     Short,
 }
 
+// A field's blank, name and `=`, then its value.
+fn put_number(out: &mut [u8], at: usize, name: &[u8], n: u64) -> usize
+    ensures { λ r. ⌜ Put (now (out .entry)) at (now (out .exit)) r (now (name .entry) ++ decimal n) ⌝ }
+{
+    let end = put_bytes(out, at, name);
+    put_decimal(out, end, n)
+}
+
 fn put_first(out: &mut [u8], text: usize, tokens: usize, takes: u64, items: usize) -> usize
     ensures { λ r. ⌜ Put (now (out .entry)) 0 (now (out .exit)) r (first text tokens takes items) ⌝ }
 {
     let a = put_number(out, 0, b"text=", text as u64);
     let b = put_number(out, a, b" tokens=", tokens as u64);
     let c = put_number(out, b, b" takes=", takes);
-    let d = put_items(out, c, items);
-    put_byte(out, d, 10)
+    let d = put_number(out, c, b" items=", items as u64);
+    put_bytes(out, d, b"\n")
 }
 
 // The whole print: how many bytes it has, and in the buffer as many as it is long.

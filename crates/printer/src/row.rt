@@ -3,7 +3,7 @@ ghost use Prim.Native.Nat.{_≤_};
 ghost use lib.ListN.{length};
 ghost use mathlib.Core.Path.{_≡_};
 ghost use Rattle.printer.specs.Rows.{lastOf, pastOf, rowOf, RowPut};
-use crate::line::put_line;
+use line::put_line;
 use tree::walk::Step;
 use tree::walk::node_at;
 

@@ -20,9 +20,9 @@ use Rattle.parse.specs.Call.{parseRefusal}
 use Rattle.parse.proofs.Calls.{text-refused, table-long, others-within}
 use Rattle.print.specs.declared.Printed.{Printed}
 use Rattle.print.specs.declared.Printed.the-variants.{Whole, Refused}
-use Rattle.printer.specs.Decimal.{decimal}
+use Rattle.writer.specs.Decimal.{decimal}
 use Rattle.print.specs.Call.{answerOf, printOf, values, printedText}
-use Rattle.printer.proofs.Decimals.{small, large}
+use Rattle.writer.proofs.Decimals.{small, large}
 use Rattle.print.proofs.Calls.{LeftAll, apart, refused-so, short-so, whole-so}
 use Rattle.read.specs.Reply.{refusal, replyTo, Written}
 

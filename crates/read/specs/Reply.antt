@@ -8,8 +8,8 @@ use lib.Dec.{ltb}
 use lib.ListN.{length, take}
 use Rattle.tokens.specs.Bytes.{bytes}
 use Rattle.tokens.specs.Refusals.{textRefusal}
-use Rattle.printer.specs.Decimal.{decimal}
-use Rattle.printer.specs.Print.{newline}
+use Rattle.writer.specs.Decimal.{decimal}
+use Rattle.line.specs.Print.{newline}
 use Rattle.print.specs.Call.{printOf}
 
 -- "any other refusal as `refused=` with its number"; "Every line ends in a newline byte."

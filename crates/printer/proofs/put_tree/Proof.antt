@@ -1,5 +1,5 @@
 -- The first line, then the rows of the root.
-use Rattle.printer.proofs.Puts.{then}
+use Rattle.writer.proofs.Puts.{then}
 use Rattle.printer.specs.Call.{printWords}
 use borrow.Author.Needs.{needs}
 use Rattle.printer.proofs.put_tree.Statement.{statement}

@@ -12,7 +12,7 @@ use borrow.Fn.PlainCycle.{Measures, is, falls, and}
 use Rattle.printer.proofs.row.put_row.Reads as put-row
 use Rattle.printer.proofs.row.put_row.Kinds as put-row-kinds
 use Rattle.printer.proofs.row.+put_row.Lts-put_row as put-row-lts
-use Rattle.printer.proofs.line.put_line.Reads as put-line-reads
+use Rattle.line.proofs.put_line.Reads as put-line-reads
 use Rattle.printer.proofs.row.is_last.Reads as is-last-reads
 use Rattle.printer.proofs.row.past.Reads as past-reads
 use Rattle.tree.proofs.walk.node_at.Reads as node-at-reads
@@ -53,7 +53,7 @@ put-row-is-last-requires : (t : ℕ) → put-row-lts.Need-is-last-requires (put-
 put-row-is-last-requires t c κs = search needs
 
 put-row-put-line-requires : (t : ℕ) → put-row-lts.Need-put-line-requires (put-row-uses t) (put-row-at t) put-row.Post put-row-Inv-all put-row-μ-all
-put-row-put-line-requires t c κs = let i = step-within _ _ _ (c .before .before .before .before .o .given .0 .0) (sym (c .before .before .before .before .o .given .1) ∙ c .before .before .before .before .before .before .node-at .ensures) in omega arith
+put-row-put-line-requires t c κs = search needs
 
 put-row-add-level : (t : ℕ) → put-row-lts.Need-add-level (put-row-uses t) (put-row-at t) put-row.Post put-row-Inv-all put-row-μ-all
 put-row-add-level t c = omega (arith, c .before .before .before .before .before .before .before .before .before .before .before .all .inv .deep, c .before .before .before .before .before .before .before .before .before .before .before .all .inv .upto)
@@ -65,7 +65,7 @@ put-row-all-again : (t : ℕ) → put-row-lts.Need-all-again (put-row-uses t) (p
 put-row-all-again t c = down (c .before .before .before .before .before .before .before .before .before .before .before .all .inv) (sym (c .before .before .before .before .before .before .before .o .given .1) ∙ c .before .before .before .before .before .before .before .before .before .node-at .ensures) (c .before .before .put-line .ensures) (sym (c .before .before .before .before .before .is-last .ensures) ∙ c .before .before .before .before .if1 .taken)
 
 put-row-put-line-requires-2 : (t : ℕ) → put-row-lts.Need-put-line-requires-2 (put-row-uses t) (put-row-at t) put-row.Post put-row-Inv-all put-row-μ-all
-put-row-put-line-requires-2 t c κs = let i = step-within _ _ _ (c .before .before .before .before .o .given .0 .0) (sym (c .before .before .before .before .o .given .1) ∙ c .before .before .before .before .before .before .node-at .ensures) in omega arith
+put-row-put-line-requires-2 t c κs = search needs
 
 put-row-add-put-row : (t : ℕ) → put-row-lts.Need-add-put-row (put-row-uses t) (put-row-at t) put-row.Post put-row-Inv-all put-row-μ-all
 put-row-add-put-row t c = omega (arith, c .before .before .before .before .before .before .before .before .before .before .before .before .all .inv .deep, c .before .before .before .before .before .before .before .before .before .before .before .before .all .inv .upto)

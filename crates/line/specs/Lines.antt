@@ -1,0 +1,77 @@
+-- The line of a node from its words: what Print.antt says of a head, by the node's kind and the numbers in its words.
+use Prim.Native.Nat.{ℕ, _+_}
+use mathlib.Core.List.{List, [], _∷_, _++_}
+use Prim.Native.String.{String}
+use lib.ListN.{getD, take, drop}
+use lib.Dec.{eqb, ltb}
+use Rattle.tokens.specs.Bytes.{bytes}
+use Rattle.tree.specs.declared.walk.Opened.{Opened}
+use Rattle.tree.specs.Words.{pick}
+use Rattle.tree.specs.Walk.{cellsEnd}
+use Rattle.writer.specs.Decimal.{decimal}
+use Rattle.line.specs.Print.{names, nameOf, field, number, commas, newline}
+
+-- the texts that a line is made of, by their numbers: the fields, the scripts, then the nodes
+unfoldable pub parts : List String
+parts =
+    "depth=" ∷ " node=" ∷ " at=" ∷ " len=" ∷ " rat=" ∷ " rlen=" ∷ " cols=" ∷ " cells=" ∷ " items=" ∷ " class=" ∷ " script=" ∷ " lines=" ∷
+    "," ∷ "none" ∷ "sub" ∷ "super" ∷ "subsuper" ∷ []
+
+unfoldable pub textOf : ℕ → List ℕ
+textOf i = bytes (getD (parts ++ names) i "")
+
+-- the text of a script
+abbrev pub scriptNumber : ℕ → ℕ
+scriptNumber script = pick (ltb script 3) (13 + script) 16
+
+unfoldable pub startOf : ℕ → ℕ → List ℕ
+startOf depth kind = bytes "depth=" ++ (decimal depth ++ field "node" (nameOf kind))
+
+-- missing, simple, cell and frac stand for no token
+unfoldable pub leftOf : ℕ → ℕ → ℕ → List ℕ
+leftOf kind start len =
+    pick (eqb kind 0) []
+    (pick (eqb kind 13) []
+    (pick (eqb kind 17) [] (pick (eqb kind 18) [] (number "at" start ++ number "len" len))))
+
+unfoldable pub scriptOf : ℕ → List ℕ
+scriptOf script =
+    field "script"
+    (pick (eqb script 0) (bytes "none")
+    (pick (eqb script 1) (bytes "sub") (pick (eqb script 2) (bytes "super") (bytes "subsuper"))))
+
+unfoldable pub rightOf : ℕ → ℕ → List ℕ
+rightOf start len = number "rat" start ++ number "rlen" len
+
+unfoldable pub groupOf : ℕ → ℕ → ℕ → List ℕ
+groupOf start len items = rightOf start len ++ number "items" items
+
+unfoldable pub matrixOf : ℕ → ℕ → ℕ → ℕ → List ℕ → List ℕ
+matrixOf start len cols cells lines =
+    rightOf start len ++ (number "cols" cols ++ (number "cells" cells ++ field "lines" (commas lines)))
+
+-- what the kind adds: symbol, simple, func, group, matrix, cell. `held` is the node's word 3.
+unfoldable pub addedBy : ℕ → ℕ → ℕ → ℕ → ℕ → ℕ → List ℕ → List ℕ
+addedBy kind held start len cols count lines =
+    pick (eqb kind 7) (number "class" held)
+    (pick (eqb kind 13) (scriptOf held)
+    (pick (eqb kind 14) (scriptOf held)
+    (pick (eqb kind 15) (groupOf start len count)
+    (pick (eqb kind 16) (matrixOf start len cols count lines)
+    (pick (eqb kind 17) (number "items" count) [])))))
+
+-- a node's column lines, and its word i
+unfoldable pub linesOf : List ℕ → Opened → List ℕ
+linesOf words o = take (o .tail) (drop (cellsEnd words (o .count) (o .from)) words)
+
+abbrev pub wordOf : List ℕ → Opened → ℕ → ℕ
+wordOf words o i = getD words (o .head + i) 0
+
+unfoldable pub addedOf : List ℕ → Opened → List ℕ
+addedOf words o =
+    addedBy (o .kind) (wordOf words o 3) (wordOf words o 4) (wordOf words o 5) (wordOf words o 6) (o .count) (linesOf words o)
+
+unfoldable pub lineOf : List ℕ → Opened → ℕ → List ℕ
+lineOf words o depth =
+    startOf depth (o .kind) ++
+    (leftOf (o .kind) (wordOf words o 1) (wordOf words o 2) ++ (addedOf words o ++ newline))
