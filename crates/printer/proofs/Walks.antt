@@ -140,14 +140,14 @@ pub record Midway (words before : List ℕ) (from place : ℕ) (row : Row) (out 
   pub lines : done ++ rowOf words at left items depth .lines ≡ row .lines
   pub end : rowOf words at left items depth .end ≡ row .end
 
-pub begin : (words before : List ℕ) (from place number : ℕ) (items : Bool) (depth : ℕ) → from ≤ length words → depth ≤ from → place ≤ most →
+pub begin : (words before : List ℕ) (from place number : ℕ) (items : Bool) (depth : ℕ) → from ≤ length words → depth ≤ from → length before ≤ most → place ≤ most →
     Midway words before from place (rowOf words from number items depth) before from place number items depth
-begin words before from place number items depth h d k = record {
+begin words before from place number items depth h d a k = record {
   least = omega arith;
   upto = h;
   deep = d;
   done = [];
-  put = none before place k;
+  put = none before place a k;
   lines = refl;
   end = refl;
 }

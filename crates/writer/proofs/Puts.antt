@@ -30,23 +30,23 @@ sets-then x v w e f h k =
     sets-out (sets x e v) w f (omega arith) ∙ sym (sets-out (sets x e v) w (e + length v) (omega arith)) ∙ sets-append x v w e)
     (λ l. let n : f ≡ e + length v = omega arith in rw n (sets-append x v w e))
 
-pub none : (x : List ℕ) (e : ℕ) → e ≤ most → Put x e x e []
-none x e h = record { same = refl; count = omega arith; bytes = λ a. refl }
+pub none : (x : List ℕ) (e : ℕ) → length x ≤ most → e ≤ most → Put x e x e []
+none x e a h = record { fits = a; same = refl; count = omega arith; bytes = refl }
 
-pub stored : (x : List ℕ) (e b : ℕ) → e < most → Put x e (set x e b) (e + 1) (b ∷ [])
-stored x e b k = record { same = length-set x e b; count = omega arith; bytes = λ a. refl }
+pub stored : (x : List ℕ) (e b : ℕ) → length x ≤ most → e < most → Put x e (set x e b) (e + 1) (b ∷ [])
+stored x e b a k = record { fits = a; same = length-set x e b; count = omega arith; bytes = refl }
 
-pub skipped : (x : List ℕ) (e b f : ℕ) → length x ≤ e → f ≡ min (e + 1) most → Put x e x f (b ∷ [])
-skipped x e b f h k = record { same = refl; count = k; bytes = λ a. sym (set-out x e b h) }
+pub skipped : (x : List ℕ) (e b f : ℕ) → length x ≤ most → length x ≤ e → f ≡ min (e + 1) most → Put x e x f (b ∷ [])
+skipped x e b f a h k = record { fits = a; same = refl; count = k; bytes = sym (set-out x e b h) }
 
 pub then : {x y z v w : List ℕ} {e f g : ℕ} → Put x e y f v → Put y f z g w → Put x e z g (v ++ w)
 then {x} {y} {z} {v} {w} {e} {f} {g} p q =
     let l : length (v ++ w) ≡ length v + length w = length-append v w in
     record {
+      fits = p .fits;
       same = q .same ∙ p .same;
       count = omega arith;
-      bytes = λ a.
-          q .bytes (omega arith) ∙ ap (λ (b : List ℕ). sets b f w) (p .bytes a) ∙ sets-then x v w e f a (p .count);
+      bytes = q .bytes ∙ ap (λ (b : List ℕ). sets b f w) (p .bytes) ∙ sets-then x v w e f (p .fits) (p .count);
     }
 
 pub put-as : {x y v w : List ℕ} {e f : ℕ} → v ≡ w → Put x e y f v → Put x e y f w

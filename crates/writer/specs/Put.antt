@@ -13,6 +13,7 @@ most = 18446744073709551615
 -- the buffer's end is not stored, and the count goes on there, up to the largest usize, so that a walk with a short buffer tells the
 -- length needed. No buffer is longer than that.
 pub record Put (before : List ℕ) (place : ℕ) (after : List ℕ) (next : ℕ) (put : List ℕ) : Type 0 where
+  pub fits : length before ≤ most
   pub same : length after ≡ length before
   pub count : next ≡ min (place + length put) most
-  pub bytes : length before ≤ most → after ≡ sets before place put
+  pub bytes : after ≡ sets before place put

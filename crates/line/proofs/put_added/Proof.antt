@@ -68,10 +68,10 @@ returns-5 c =
     put-as (ap (λ (n : ℕ). textOf 10 ++ textOf n) (c .before .before .before .script-text .ensures) ∙ script-text _ ∙ added-script _ _ _ _ _ _ _ (c .before .before .before .before .before .before .if1 .left) (c .before .before .before .before .before .if2 .taken) (c .before .before .before .before .before .before .before .before .word .ensures)) (c .before .before .put-texts .ensures)
 
 returns-6 : tie.Need-returns-6
-returns-6 c = put-as (added-below _ _ _ _ _ _ _ (c .before .match .rest .0 .0 .0 .1) (c .if1 .taken)) (none _ _ (omega arith))
+returns-6 c = put-as (added-below _ _ _ _ _ _ _ (c .before .match .rest .0 .0 .0 .1) (c .if1 .taken)) (none _ _ (omega arith) (omega arith))
 
 returns-7 : tie.Need-returns-7
-returns-7 c = let r = c .before .before .match .rest in put-as (added-above _ _ _ _ _ _ _ (r .0 .0 .1) (r .0 .1) (r .1) (c .if2 .left)) (none _ _ (omega arith))
+returns-7 c = let r = c .before .before .match .rest in put-as (added-above _ _ _ _ _ _ _ (r .0 .0 .1) (r .0 .1) (r .1) (c .if2 .left)) (none _ _ (omega arith) (omega arith))
 
 pub put-added-spec : {M : Type 1} → statement M
 put-added-spec = tie.close (tie.spec word-requires cast-put-number put-number-requires put-group-requires put-matrix-requires put-number-requires-2 script-text-requires put-texts-requires same-length returns same-length-2 returns-2 same-length-3 returns-3 same-length-4 returns-4 same-length-5 returns-5 returns-6 returns-7)

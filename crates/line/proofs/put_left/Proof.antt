@@ -11,16 +11,16 @@ put-span-requires : tie.Need-put-span-requires
 put-span-requires c κs = search needs
 
 returns : tie.Need-returns
-returns c = put-as (left-missing _ _ _ (c .match .keys1)) (none _ _ (omega arith))
+returns c = put-as (left-missing _ _ _ (c .match .keys1)) (none _ _ (omega arith) (omega arith))
 
 returns-2 : tie.Need-returns-2
-returns-2 c = put-as (left-simple _ _ _ (c .match .keys2)) (none _ _ (omega arith))
+returns-2 c = put-as (left-simple _ _ _ (c .match .keys2)) (none _ _ (omega arith) (omega arith))
 
 returns-3 : tie.Need-returns-3
-returns-3 c = put-as (left-cell _ _ _ (c .match .keys3)) (none _ _ (omega arith))
+returns-3 c = put-as (left-cell _ _ _ (c .match .keys3)) (none _ _ (omega arith) (omega arith))
 
 returns-4 : tie.Need-returns-4
-returns-4 c = put-as (left-frac _ _ _ (c .match .keys4)) (none _ _ (omega arith))
+returns-4 c = put-as (left-frac _ _ _ (c .match .keys4)) (none _ _ (omega arith) (omega arith))
 
 same-length : tie.Need-same-length
 same-length c = search needs

@@ -41,7 +41,7 @@ put-number-requires c κs = search needs
 
 loop-holds : tie.Need-loop-holds Inv-loop μ-loop
 unfolding more
-loop-holds c = (omega arith, omega (arith, c .before .before .before .before .before .if1 .left), none _ _ (omega arith))
+loop-holds c = (omega arith, omega (arith, c .before .before .before .before .before .if1 .left), none _ _ (omega arith) (omega arith))
 
 mul-put-number : tie.Need-mul-put-number Inv-loop μ-loop
 mul-put-number c = search needs

@@ -18,13 +18,13 @@ same-length : tie.Need-same-length
 same-length c = search needs
 
 returns : tie.Need-returns
-returns c = stored _ _ _ (omega arith)
+returns c = stored _ _ _ (omega arith) (omega arith)
 
 returns-2 : tie.Need-returns-2
-returns-2 c = skipped _ _ _ _ (omega arith) (omega arith)
+returns-2 c = skipped _ _ _ _ (omega arith) (omega arith) (omega arith)
 
 returns-3 : tie.Need-returns-3
-returns-3 c = skipped _ _ _ _ (omega arith) (omega arith)
+returns-3 c = skipped _ _ _ _ (omega arith) (omega arith) (omega arith)
 
 pub put-byte-spec : {M : Type 1} → statement M
 put-byte-spec =

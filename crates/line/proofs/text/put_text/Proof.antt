@@ -40,7 +40,7 @@ returns : tie.Need-returns
 returns c = put-as (named (c .before .before .before .before .before .before .before .before .args .i) (omega arith)) (c .before .before .put-bytes .ensures)
 
 returns-2 : tie.Need-returns-2
-returns-2 c = put-as (unnamed (c .before .before .before .args .i) (omega arith)) (none _ _ (omega arith))
+returns-2 c = put-as (unnamed (c .before .before .before .args .i) (omega arith)) (none _ _ (omega arith) (omega arith))
 
 pub put-text-spec : {M : Type 1} → statement M
 put-text-spec = tie.close (tie.spec slice-aggregate-texts mul-from array-read-to cast-to add-to sub-put-bytes part-put-bytes-start part-put-bytes-end put-bytes-requires same-length returns returns-2)

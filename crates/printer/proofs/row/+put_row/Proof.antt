@@ -41,7 +41,7 @@ put-row-μ-all words out₀ from place count items depth at₀ end₀ left₀ so
     length words - at
 
 put-row-all-holds : (t : ℕ) → put-row-lts.Need-all-holds (put-row-uses t) (put-row-at t) put-row.Post put-row-Inv-all put-row-μ-all
-put-row-all-holds t c = begin _ _ _ _ _ _ _ (c .before .before .pre .1 .0) (c .before .before .pre .1 .1) (omega arith)
+put-row-all-holds t c = begin _ _ _ _ _ _ _ (c .before .before .pre .1 .0) (c .before .before .pre .1 .1) (omega arith) (omega arith)
 
 put-row-node-at-requires : (t : ℕ) → put-row-lts.Need-node-at-requires (put-row-uses t) (put-row-at t) put-row.Post put-row-Inv-all put-row-μ-all
 put-row-node-at-requires t c κs = search needs
