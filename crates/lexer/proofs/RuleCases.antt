@@ -5,7 +5,7 @@ use mathlib.Core.List.{List, [], _∷_}
 use mathlib.Core.Option.{none, some}
 use Prim.Native.Nat.{ℕ, _+_, _-_, _≤_, _<_}
 use native.Mathlib.Omega.{arith}
-use lib.Dec.{eqb, ltb, leb}
+use lib.Dec.{eqb, leb}
 use lib.ListN.{length, getD, List·getD-eq-default}
 use borrow.Author.Tests.{lt-ltb, le-ltb, lt-leb, le-leb, eq-eqb, ne-eqb, leb-true}
 use Rattle.tokens.specs.declared.token.Token.{Token}
@@ -152,25 +152,6 @@ module _ (text : List ℕ) (at : ℕ) (h : at < length text) (d : digit (getD te
       let p : at ≡ pastPoint text at = point-none text at (λ z. omega arith) in
       number-is text at e (q ∙ digit-end) (omega (arith, number-from text (at + 1)))
 
--- rule 2: the literal of a text command, closed or not
-module _ (text : List ℕ) (at n : ℕ) (t : Token) (b c end : ℕ) (q : end ≡ runEnd (other c) text (b + 1)) where
-  pub literal-closed : end < length text
-      → literalAt text at n t b c ≡ record { first = lexeme at n t; waiting = lexeme b 1 OpenBracket ∷ lexeme (b + 1) (end - (b + 1)) Text ∷ lexeme end 1 CloseBracket ∷ []; next = end + 1 }
-  unfolding literalAt
-  literal-closed l = rw q (rw (lt-ltb _ _ (rw q at l), literalAt))
-
-  pub literal-open : length text ≤ end
-      → literalAt text at n t b c ≡ record { first = lexeme at n t; waiting = lexeme b 1 OpenBracket ∷ lexeme (b + 1) (end - (b + 1)) Text ∷ []; next = end }
-  unfolding literalAt
-  literal-open l = rw q (rw (le-ltb _ _ (rw q at l), literalAt))
-
--- rule 2: what waits behind a text command does not hang on it
-pub literal-behind : (text : List ℕ) (at n : ℕ) (t : Token) (b c : ℕ)
-    → _≡_ {A = Read} (record { first = lexeme at n t; waiting = literalAt text 0 0 Unary b c .waiting; next = literalAt text 0 0 Unary b c .next }) (literalAt text at n t b c)
-unfolding literalAt
-literal-behind text at n t b c =
-    by-test (ltb (runEnd (other c) text (b + 1)) (length text)) (λ e. rw (e, literalAt)) (λ e. rw (e, literalAt))
-
 -- rule 2: a text command
 module _ (text : List ℕ) (at b : ℕ) (h : b ≡ runEnd blank text (at + 4)) where
   module _ (c : ℕ) (e : c ≡ closer (getD text b 0)) where
@@ -179,9 +160,24 @@ module _ (text : List ℕ) (at b : ℕ) (h : b ≡ runEnd blank text (at + 4)) w
     command-none z = sym (rw (eq-eqb (closer (getD text (runEnd blank text (at + 4)) 0)) 0 (rw h at (sym e ∙ z)), commandAt))
 
     module _ (f : c ≡ 0 → ⊥) where
-      pub command-some : literalAt text at 4 Unary b c ≡ commandAt text at 4 Unary
+      command-some : literalAt text at 4 Unary b c ≡ commandAt text at 4 Unary
       unfolding commandAt
       command-some = rw e (rw h (sym (rw (ne-eqb (closer (getD text (runEnd blank text (at + 4)) 0)) 0 (λ z. f (e ∙ rw h z)), commandAt))))
+
+      module _ (end : ℕ) (q : end ≡ runEnd (other c) text (b + 1)) where
+        pub command-closed : end < length text
+            → _≡_ {A = Read}
+            (record { first = lexeme at 4 Unary; waiting = lexeme b 1 OpenBracket ∷ lexeme (b + 1) (end - (b + 1)) Text ∷ lexeme end 1 CloseBracket ∷ []; next = end + 1 })
+            (commandAt text at 4 Unary)
+        unfolding literalAt
+        command-closed l = rw q (sym (rw (lt-ltb _ _ (rw q at l), literalAt))) ∙ command-some
+
+        pub command-open : length text ≤ end
+            → _≡_ {A = Read}
+            (record { first = lexeme at 4 Unary; waiting = lexeme b 1 OpenBracket ∷ lexeme (b + 1) (end - (b + 1)) Text ∷ []; next = end })
+            (commandAt text at 4 Unary)
+        unfolding literalAt
+        command-open l = rw q (sym (rw (le-ltb _ _ (rw q at l), literalAt))) ∙ command-some
 
   pub command-past : length text ≤ b → alone at 4 Unary ≡ commandAt text at 4 Unary
   unfolding closer

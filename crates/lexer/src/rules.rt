@@ -13,11 +13,9 @@ ghost use Prim.Native.Nat.{_+_, _≤_, _<_};
 ghost use lib.ListN.{length, getD};
 ghost use Rattle.tokens.specs.declared.token.Token.the-variants.{Unary};
 ghost use Rattle.tokens.specs.Refusals.{ascii};
-ghost use Rattle.lexer.specs.Constants.{Lent, rowWords, spellingOf, byteKind};
-ghost use Rattle.lexer.specs.Lookup.{pastLonger};
-ghost use Rattle.lexing.specs.Longest.{longestAt};
-ghost use Rattle.lexing.specs.Rules.{literalAt, blank, digit, letter, other, closer, runEnd, commandAt, isTextCommand, numberEnd, pastPoint, byteAt, readAt};
-ghost use Rattle.lexer.specs.Coded.{Placed, Added, AddedRead, fromQuotation, fromNumber, fromRow};
+ghost use Rattle.lexer.specs.Constants.{Lent, rowWords, spellingOf};
+ghost use Rattle.lexing.specs.Rules.{blank, digit, letter, other, closer, runEnd, commandAt, isTextCommand, numberEnd, pastPoint, byteAt, readAt};
+ghost use Rattle.lexer.specs.Coded.{Placed, AddedRead, fromQuotation, fromNumber, fromRow};
 
 fn is_digit(c: u8) -> bool
     ensures { λ r. ⌜ r ≡ digit c ⌝ }
@@ -123,25 +121,6 @@ fn closer_of(c: u8) -> u8
     0
 }
 
-// Rule 2: the bracket at b, which c closes, and the literal behind it.
-fn put_literal(text: &[u8], table: &mut [u32], p: Listed, b: usize, c: u8) -> Listed
-    requires { ⌜ (length (now text) ≤ 4096) × (b < length (now text)) × (p .all ≤ b) × (p .others ≤ p .all) ⌝ }
-    ensures { λ r.
-        ⌜
-        Added (literalAt (now (text .entry)) 0 0 Unary b c .waiting) (literalAt (now (text .entry)) 0 0 Unary b c .next) p
-        (now (table .entry)) r (now (table .exit))
-        ⌝ }
-{
-    let from = b + 1;
-    let e = find_end(text, from, c);
-    let open = put_other(table, p, b, 1, 20, from);
-    let literal = put_other(table, open, from, e - from, 5, e);
-    if e < text.len() {
-        return put_other(table, literal, e, 1, 21, e + 1);
-    }
-    literal
-}
-
 // Rule 2: a text command, `text` or `mbox`, at the place.
 fn text_command(text: &[u8], table: &mut [u32], p: Listed) -> Listed
     requires { ⌜ Placed (now text) p × (p .next + 4 ≤ length (now text)) ⌝ }
@@ -158,7 +137,14 @@ fn text_command(text: &[u8], table: &mut [u32], p: Listed) -> Listed
     if c == 0 {
         return command;
     }
-    put_literal(text, table, command, b, c)
+    let from = b + 1;
+    let e = find_end(text, from, c);
+    let open = put_other(table, command, b, 1, 20, from);
+    let literal = put_other(table, open, from, e - from, 5, e);
+    if e < text.len() {
+        return put_other(table, literal, e, 1, 21, e + 1);
+    }
+    literal
 }
 
 // Whether the row is that of `text` or `mbox`.
@@ -219,26 +205,8 @@ fn strip_digits(text: &[u8], table: &mut [u32], p: Listed) -> Listed
     put_other(table, p, at, e - at, 4, e)
 }
 
-// Where no longer spelling begins: Number is rule 3, Operator the last three; any other kind is the token's.
-fn strip_byte(text: &[u8], table: &mut [u32], p: Listed, kind: u32) -> Listed
-    requires { ⌜
-        Placed (now text) p × (kind ≡ byteKind (getD (now text) (p .next) 0)) × (blank (getD (now text) (p .next) 0) ≡ false)
-        × (pastLonger (longestAt (now text) (p .next)) ≡ 0)
-        ⌝ }
-    ensures { λ r. ⌜ AddedRead (readAt byteAt (now (text .entry)) (p .next)) p (now (table .entry)) r (now (table .exit)) ⌝ }
-{
-    if kind == 4 {
-        return strip_digits(text, table, p);
-    }
-    if kind == 7 {
-        return strip_number(text, table, p);
-    }
-    let at = p.next;
-    put_other(table, p, at, 1, kind, at + 1)
-}
-
 // Lists what is read at the place. The kind of the byte by itself says which rules can apply but for a longer spelling: Space
-// the first, any other those behind it.
+// the first, Number the third, Operator the last three; any other kind is the token's.
 pub(crate) fn read_token(
     bytes: &[u8; 1809],
     rows: &[u16; 430],
@@ -259,5 +227,11 @@ pub(crate) fn read_token(
     if 0 < past {
         return strip_spelling(rows, past - 1, text, table, p);
     }
-    strip_byte(text, table, p, kind)
+    if kind == 4 {
+        return strip_digits(text, table, p);
+    }
+    if kind == 7 {
+        return strip_number(text, table, p);
+    }
+    put_other(table, p, at, 1, kind, at + 1)
 }

@@ -4,10 +4,11 @@ use Prim.Native.Nat.{_-_}
 use native.Mathlib.Omega.{arith}
 use lib.ListN.{getD}
 use borrow.Author.Needs.{needs}
-use Rattle.lexer.proofs.Adding.{added-as}
+use Rattle.tokens.specs.Lexeme.{lexeme}
+use Rattle.lexer.proofs.Adding.{added-read, added-as}
 use Rattle.lexer.proofs.Lookup.{past-row}
 use Rattle.lexer.proofs.RuleCases.{read-row}
-use Rattle.lexer.proofs.ByteKinds.{ascii-byte, kind-blank, kind-other}
+use Rattle.lexer.proofs.ByteKinds.{ascii-byte, kind-blank, kind-other, kind-digit, kind-operator, read-plain, lone}
 use Rattle.lexer.proofs.rules.read_token.Statement.{statement}
 use Rattle.lexer.proofs.rules.read_token.Tie as tie
 
@@ -44,17 +45,35 @@ same-length-2 c = search needs
 returns-2 : tie.Need-returns-2
 returns-2 c = let w = past-row (c .before .before .before .before .before .before .before .before .before .before .before .args .text .now) (c .before .before .before .before .before .before .before .before .before .before .before .args .p .next) (c .before .before .before .before .before .past-longer .result) (c .before .before .before .before .before .past-longer .ensures) (c .before .before .before .before .if2 .taken) in added-as (read-row (c .before .before .before .before .before .before .before .before .before .before .before .args .text .now) (c .before .before .before .before .before .before .before .before .before .before .before .args .p .next) (omega arith) (kind-other (getD (c .before .before .before .before .before .before .before .before .before .before .before .args .text .now) (c .before .before .before .before .before .before .before .before .before .before .before .args .p .next) 0) (λ z. c .before .before .before .before .before .before .if1 .left (c .before .before .before .before .before .before .before .byte-kind .ensures ∙ z))) (c .before .before .before .before .before .past-longer .result - 1) (w .0) (w .1)) (c .before .before .strip-spelling .ensures)
 
-strip-byte-requires : tie.Need-strip-byte-requires
-strip-byte-requires c κs =
-    let k = c .before .before .before .before .byte-kind .ensures in
-    let z : c .before .before .past-longer .result ≡ 0 = omega arith in
-    (c .before .before .before .before .before .before .before .before .pre .1, k, kind-other _ (λ y. c .before .before .before .if1 .left (k ∙ y)), sym (c .before .before .past-longer .ensures) ∙ z)
+strip-digits-requires : tie.Need-strip-digits-requires
+strip-digits-requires c κs = (c .before .before .before .before .before .before .before .before .before .pre .1, kind-digit (getD (c .before .before .before .before .before .before .before .before .before .args .text .now) (c .before .before .before .before .before .before .before .before .before .args .p .next) 0) (sym (c .before .before .before .before .before .byte-kind .ensures) ∙ c .before .if3 .taken) .1)
 
 same-length-3 : tie.Need-same-length-3
 same-length-3 c = search needs
 
 returns-3 : tie.Need-returns-3
-returns-3 c = c .before .before .strip-byte .ensures
+returns-3 c = let z : c .before .before .before .before .before .before .past-longer .result ≡ 0 = omega arith in added-as (read-plain (c .before .before .before .before .before .before .before .before .before .before .before .before .args .text .now) (c .before .before .before .before .before .before .before .before .before .before .before .before .args .p .next) (omega arith) (sym (c .before .before .before .before .before .before .past-longer .ensures) ∙ z) (λ z. c .before .before .before .before .before .before .before .if1 .left (c .before .before .before .before .before .before .before .before .byte-kind .ensures ∙ z)) (kind-digit (getD (c .before .before .before .before .before .before .before .before .before .before .before .before .args .text .now) (c .before .before .before .before .before .before .before .before .before .before .before .before .args .p .next) 0) (sym (c .before .before .before .before .before .before .before .before .byte-kind .ensures) ∙ c .before .before .before .before .if3 .taken) .0)) (c .before .before .strip-digits .ensures)
+
+strip-number-requires : tie.Need-strip-number-requires
+strip-number-requires c κs = (c .before .before .before .before .before .before .before .before .before .before .pre .1, kind-operator (getD (c .before .before .before .before .before .before .before .before .before .before .args .text .now) (c .before .before .before .before .before .before .before .before .before .before .args .p .next) 0) (sym (c .before .before .before .before .before .before .byte-kind .ensures) ∙ c .before .if4 .taken) .1)
+
+same-length-4 : tie.Need-same-length-4
+same-length-4 c = search needs
+
+returns-4 : tie.Need-returns-4
+returns-4 c = let z : c .before .before .before .before .before .before .before .past-longer .result ≡ 0 = omega arith in added-as (read-plain (c .before .before .before .before .before .before .before .before .before .before .before .before .before .args .text .now) (c .before .before .before .before .before .before .before .before .before .before .before .before .before .args .p .next) (omega arith) (sym (c .before .before .before .before .before .before .before .past-longer .ensures) ∙ z) (λ z. c .before .before .before .before .before .before .before .before .if1 .left (c .before .before .before .before .before .before .before .before .before .byte-kind .ensures ∙ z)) (kind-operator (getD (c .before .before .before .before .before .before .before .before .before .before .before .before .before .args .text .now) (c .before .before .before .before .before .before .before .before .before .before .before .before .before .args .p .next) 0) (sym (c .before .before .before .before .before .before .before .before .before .byte-kind .ensures) ∙ c .before .before .before .before .if4 .taken) .0)) (c .before .before .strip-number .ensures)
+
+add-put-other : tie.Need-add-put-other
+add-put-other c = omega arith
+
+put-other-requires : tie.Need-put-other-requires
+put-other-requires c κs = omega arith
+
+same-length-5 : tie.Need-same-length-5
+same-length-5 c = search needs
+
+returns-5 : tie.Need-returns-5
+returns-5 c = let z : c .before .before .before .before .before .before .before .past-longer .result ≡ 0 = omega arith in let w = lone (c .before .before .before .before .before .before .before .before .before .before .before .before .before .args .text .now) (c .before .before .before .before .before .before .before .before .before .before .before .before .before .args .p .next) (omega arith) (sym (c .before .before .before .before .before .before .before .past-longer .ensures) ∙ z) (λ z. c .before .before .before .before .before .before .before .before .if1 .left (c .before .before .before .before .before .before .before .before .before .byte-kind .ensures ∙ z)) (λ y. c .before .before .before .before .before .if3 .left (c .before .before .before .before .before .before .before .before .before .byte-kind .ensures ∙ y)) (λ y. c .before .before .before .before .if4 .left (c .before .before .before .before .before .before .before .before .before .byte-kind .ensures ∙ y)) in added-read (lexeme (c .before .before .before .before .before .before .before .before .before .before .before .before .before .args .p .next) 1 (w .token)) (w .no-space) (w .read-is) (c .before .before .put-other .ensures .0) (rw (c .before .before .before .before .before .before .before .before .before .byte-kind .ensures ∙ sym (w .kind-is)) at (c .before .before .put-other .ensures .1))
 
 pub read-token-spec : {M : Type 1} → statement M
 read-token-spec =
@@ -71,6 +90,13 @@ read-token-spec =
     strip-spelling-requires
     same-length-2
     returns-2
-    strip-byte-requires
+    strip-digits-requires
     same-length-3
-    returns-3)
+    returns-3
+    strip-number-requires
+    same-length-4
+    returns-4
+    add-put-other
+    put-other-requires
+    same-length-5
+    returns-5)
