@@ -330,10 +330,7 @@ atDepth d c = record { pos = c .pos; depth = d; takes = c .takes }
 abbrev pub rewound : ℕ → Cursor → Cursor
 rewound p c = record { pos = p; depth = c .depth; takes = c .takes }
 
--- The same answer in the reader of that depth; a node that was read.
+-- The same answer in the reader of that depth.
 abbrev pub stepAt : ℕ → Step → Step
 stepAt d (Found c E f) = Found (atDepth d c) E f
 stepAt d (Nothing c) = Nothing (atDepth d c)
-
-abbrev pub foundPart : Part → Step
-foundPart g = Found (g .cur) (g .end) (g .ends)

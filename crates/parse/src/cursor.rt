@@ -5,7 +5,8 @@ ghost use mathlib.Core.Path.{_≡_};
 ghost use mathlib.Core.Bool.{true};
 ghost use Prim.Native.Nat.{_≤_, _<_};
 ghost use Rattle.tree.specs.Words.{pick};
-ghost use Rattle.parse.specs.Meet.{onward, seen, passing, inner, atDepth, rewound, stepAt, foundPart};
+ghost use Rattle.parse.specs.Meet.{onward, seen, passing, inner, atDepth, rewound, stepAt};
+ghost use Rattle.parse.specs.declared.cursor.Step.the-variants.{Found};
 
 // The position, the depth of the readers, and the takes so far, counted round 2^32.
 pub(crate) struct Cursor {
@@ -118,17 +119,9 @@ impl Step {
     }
 }
 
-// The node was read.
-pub(crate) fn found_part(g: Part) -> Step
-    ensures { λ r. ⌜ r ≡ foundPart g ⌝ }
-{
-    let gc = g.cur;
-    Step::Found(gc, g.end, g.ends)
-}
-
-// The same, back in the reader of that depth.
+// The node was read, back in the reader of that depth.
 pub(crate) fn found(g: Part, depth: u16) -> Step
-    ensures { λ r. ⌜ r ≡ stepAt depth (foundPart g) ⌝ }
+    ensures { λ r. ⌜ r ≡ Found (atDepth depth (g .cur)) (g .end) (g .ends) ⌝ }
 {
     let gc = g.cur;
     Step::Found(gc.at_depth(depth), g.end, g.ends)

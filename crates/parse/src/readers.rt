@@ -9,7 +9,6 @@ use crate::cursor::Scripted;
 use crate::cursor::Step;
 use crate::cursor::Why;
 use crate::cursor::found;
-use crate::cursor::found_part;
 use crate::kinds::BINARY;
 use crate::kinds::CLOSE_BRACKET;
 use crate::kinds::FRAC;
@@ -25,7 +24,6 @@ use crate::kinds::SEP;
 use crate::kinds::SUPER;
 use crate::plain::plain_item;
 use crate::tests::choose;
-use crate::tests::frac_word;
 use crate::tests::head_kind;
 use crate::tests::head_stop;
 use crate::tests::opens;
@@ -269,18 +267,16 @@ fn next_intermediate(
     match next_script_func(text, tok, n, work, tree, c, e + 1, stop, sign) {
         Step::Nothing(d) => Step::Nothing(d),
         Step::Found(d, e1, f) => {
-            let frac = is_at(tok, work, n, d.pos as usize, FRAC);
-            put1(tree, e, frac_word(frac));
-            let mut g = Part {
-                cur: d.past(n, frac),
-                end: e1,
-                ends: f,
-            };
-            if frac {
+            let pos = d.pos as usize;
+            if is_at(tok, work, n, pos, FRAC) {
+                put1(tree, e, 1);
+                let g = operand(text, tok, n, work, tree, d.next(), e1, false);
                 let gc = g.cur;
-                g = operand(text, tok, n, work, tree, gc, e1, false);
+                Step::Found(gc, g.end, g.ends)
+            } else {
+                put1(tree, e, 0);
+                Step::Found(d.look(n), e1, f)
             }
-            found_part(g)
         }
     }
 }

@@ -36,13 +36,6 @@ pub(crate) fn choose(first: bool, i: usize, j: usize) -> usize
     if first { i } else { j }
 }
 
-// The word before an item: 1, if it is a fraction.
-pub(crate) fn frac_word(frac: bool) -> u32
-    ensures { λ r. ⌜ r ≡ pick frac 1 0 ⌝ }
-{
-    if frac { 1 } else { 0 }
-}
-
 // The kind of node that a function heads, or else a sign.
 pub(crate) fn head_kind(func: bool) -> u32
     ensures { λ r. ⌜ r ≡ pick func 14 8 ⌝ }

@@ -3,10 +3,9 @@ use Prim.Native.Nat.{ℕ, _+_}
 use Rattle.parse.proofs.readers.next_intermediate.Reads as next-intermediate
 use Rattle.parse.proofs.readers.next_script_func.Reads as next-script-func
 use Rattle.parse.proofs.readers.operand.Reads as operand
-use Rattle.parse.proofs.cursor.Cursor.past.Reads as past-reads
-use Rattle.parse.proofs.cursor.found_part.Reads as found-part-reads
+use Rattle.parse.proofs.cursor.Cursor.look.Reads as look-reads
+use Rattle.parse.proofs.cursor.Cursor.next.Reads as next-reads
 use Rattle.lookahead.proofs.tests.is_at.Reads as is-at-reads
-use Rattle.parse.proofs.tests.frac_word.Reads as frac-word-reads
 use Rattle.parse.proofs.write.put1.Reads as put1-reads
 use Rattle.parse.proofs.readers.+arg+bars+begun+binary+bracket+extend+headed+more_rows+next_intermediate+next_row+next_rows+next_script+next_script_func+next_simple+open_group+operand+other+row_cells+term+try_matrix+unary.Lts-next_intermediate as next-intermediate-lts
 use Rattle.parse.proofs.readers.+arg+bars+begun+binary+bracket+extend+headed+more_rows+next_intermediate+next_row+next_rows+next_script+next_script_func+next_simple+open_group+operand+other+row_cells+term+try_matrix+unary.Proof.Setting.{next-script-func-below, operand-below, next-intermediate-at}
@@ -16,13 +15,12 @@ use borrow.Author.Needs.{needs}
 use Rattle.lookahead.proofs.Testing.{test-below}
 use Rattle.parse.proofs.Kit.{safe-kept}
 use Rattle.parse.proofs.Scripting.{item-nothing, item-plain, item-over}
-use mathlib.Core.Logic.{⊎-elim}
 use mathlib.Core.List.{[], _∷_}
 use lib.ListN.{length}
 use lib.Seq.{length-sets}
 
 abbrev pub uses : ℕ → next-intermediate-lts.Claims
-uses t = (next-script-func-below t, next-script-func.Post, is-at-reads.Asked, is-at-reads.Learnt, frac-word-reads.Asked, frac-word-reads.Learnt, put1-reads.Asked, put1-reads.Learnt, past-reads.Asked, past-reads.Learnt, operand-below t, operand.Post, found-part-reads.Asked, found-part-reads.Learnt)
+uses t = (next-script-func-below t, next-script-func.Post, is-at-reads.Asked, is-at-reads.Learnt, put1-reads.Asked, put1-reads.Learnt, next-reads.Asked, next-reads.Learnt, operand-below t, operand.Post, look-reads.Asked, look-reads.Learnt)
 
 pub add-next-script-func : (t : ℕ) → next-intermediate-lts.Need-add-next-script-func (uses t) (next-intermediate-at t) next-intermediate.Post
 add-next-script-func t c = let S = c .before .before .before .before .before .before in
@@ -41,26 +39,24 @@ enum-known-d-2 t c = search needs
 pub is-at-requires : (t : ℕ) → next-intermediate-lts.Need-is-at-requires (uses t) (next-intermediate-at t) next-intermediate.Post
 is-at-requires t c κs = search needs
 
-pub cast-is-at : (t : ℕ) → next-intermediate-lts.Need-cast-is-at (uses t) (next-intermediate-at t) next-intermediate.Post
-cast-is-at t c = search needs
-
-pub frac-word-requires : (t : ℕ) → next-intermediate-lts.Need-frac-word-requires (uses t) (next-intermediate-at t) next-intermediate.Post
-frac-word-requires t c κs = search needs
-
 pub put1-requires : (t : ℕ) → next-intermediate-lts.Need-put1-requires (uses t) (next-intermediate-at t) next-intermediate.Post
 put1-requires t c κs = let S = c .before .before .before .before .before .before .before .before .before .before .before .before .before .before .before .before .before .before .before in
     let f = (rw (c .before .before .before .before .before .before .d2 .given .1) at (c .before .before .before .before .before .before .before .before .before .before .before .before .next-script-func .ensures)) .0 in omega (arith, S .pre .1 .room, f .long)
 
-pub past-requires : (t : ℕ) → next-intermediate-lts.Need-past-requires (uses t) (next-intermediate-at t) next-intermediate.Post
-past-requires t c κs = let S = c .before .before .before .before .before .before .before .before .before .before .before .before .before .before .before .before .before .before .before .before .before .before in
-    λ h. let b = test-below _ _ _ _ _ (sym (c .before .before .before .before .before .is-at .ensures) ∙ h) in omega (arith, S .pre .1 .safe .few)
+pub next-requires : (t : ℕ) → next-intermediate-lts.Need-next-requires (uses t) (next-intermediate-at t) next-intermediate.Post
+next-requires t c κs = let S = c .before .before .before .before .before .before .before .before .before .before .before .before .before .before .before .before .before .before .before .before .before .before .before .before in
+    let b = test-below _ _ _ _ _ (sym (c .before .before .before .before .before .before .before .is-at .ensures) ∙ c .before .before .before .before .before .before .if1 .taken) in omega (arith, S .pre .1 .safe .few)
 
 pub operand-requires : (t : ℕ) → next-intermediate-lts.Need-operand-requires (uses t) (next-intermediate-at t) next-intermediate.Post
-operand-requires t c κs = let S = c .before .before .before .before .before .before .before .before .before .before .before .before .before .before .before .before .before .before .before .before .before .before .before .before .before .before .before in
-    let b = test-below _ _ _ _ _ (sym (c .before .before .before .before .before .before .before .before .before .before .is-at .ensures) ∙ c .before .before .before .if1 .taken) in let f = (rw (c .before .before .before .before .before .before .before .before .before .before .before .before .before .before .d2 .given .1) at (c .before .before .before .before .before .before .before .before .before .before .before .before .before .before .before .before .before .before .before .before .next-script-func .ensures)) .0 in let np : c .before .before .before .before .past .result .pos ≡ c .before .before .before .before .before .before .before .before .before .before .before .before .before .before .d2 .given .0 .0 .pos + 1 = rw (c .before .before .before .before .past .ensures, c .before .before .before .if1 .taken) in let nd : c .before .before .before .before .past .result .depth ≡ c .before .before .before .before .before .before .before .before .before .before .before .before .before .before .d2 .given .0 .0 .depth = rw (c .before .before .before .before .past .ensures, c .before .before .before .if1 .taken) in (omega (arith, S .pre .0, f .depth), record { safe = safe-kept (f .kept) (S .pre .1 .safe); known = f .known; here = omega arith; room = omega (arith, S .pre .1 .room, f .room, f .long, c .before .before .before .before .before .before .before .put1 .kept .0) })
+operand-requires t c κs = let S = c .before .before .before .before .before .before .before .before .before .before .before .before .before .before .before .before .before .before .before .before .before .before .before .before .before in
+    let b = test-below _ _ _ _ _ (sym (c .before .before .before .before .before .before .before .before .is-at .ensures) ∙ c .before .before .before .before .before .before .before .if1 .taken) in let f = (rw (c .before .before .before .before .before .before .before .before .before .before .before .before .d2 .given .1) at (c .before .before .before .before .before .before .before .before .before .before .before .before .before .before .before .before .before .before .next-script-func .ensures)) .0 in let np : c .next .result .pos ≡ c .before .before .before .before .before .before .before .before .before .before .before .before .d2 .given .0 .0 .pos + 1 = rw (c .next .ensures) in let nd : c .next .result .depth ≡ c .before .before .before .before .before .before .before .before .before .before .before .before .d2 .given .0 .0 .depth = rw (c .next .ensures) in (omega (arith, S .pre .0, f .depth), record { safe = safe-kept (f .kept) (S .pre .1 .safe); known = f .known; here = omega arith; room = omega (arith, S .pre .1 .room, f .room, f .long, ap length (c .before .before .before .before .before .put1 .ensures), length-sets (c .before .before .before .before .before .before .before .before .before .before .before .before .before .before .before .before .before .before .next-script-func .last .1 .1 .1 .1 .0) (S .args .e) (1 ∷ [])) })
 
-pub found-part-requires : (t : ℕ) → next-intermediate-lts.Need-found-part-requires (uses t) (next-intermediate-at t) next-intermediate.Post
-found-part-requires t c κs = search needs
+pub put1-requires-2 : (t : ℕ) → next-intermediate-lts.Need-put1-requires-2 (uses t) (next-intermediate-at t) next-intermediate.Post
+put1-requires-2 t c κs = let S = c .before .before .before .before .before .before .before .before .before .before .before .before .before .before .before .before .before .before .before in
+    let f = (rw (c .before .before .before .before .before .before .d2 .given .1) at (c .before .before .before .before .before .before .before .before .before .before .before .before .next-script-func .ensures)) .0 in omega (arith, S .pre .1 .room, f .long)
+
+pub look-requires : (t : ℕ) → next-intermediate-lts.Need-look-requires (uses t) (next-intermediate-at t) next-intermediate.Post
+look-requires t c κs = search needs
 
 pub same-length : (t : ℕ) → next-intermediate-lts.Need-same-length (uses t) (next-intermediate-at t) next-intermediate.Post
 same-length t c = search needs
@@ -73,24 +69,24 @@ returns t c = let S = c .before .before .before .before .before .before .before 
     item-nothing (S .args .stop) (S .args .sign) (S .pre .1 .room) (rw (c .before .d .given .1) at (c .before .before .before .before .before .before .before .next-script-func .ensures))
 
 pub same-length-3 : (t : ℕ) → next-intermediate-lts.Need-same-length-3 (uses t) (next-intermediate-at t) next-intermediate.Post
-same-length-3 t c =
-    ⊎-elim
-    (λ w. omega (arith, c .before .before .before .before .before .before .before .before .before .before .before .before .before .before .before .before .before .before .next-script-func .kept .1 .1 .1 .0, w .4 .kept .1 .1 .1 .0, ap length (w .9)))
-    (λ w. omega (arith, c .before .before .before .before .before .before .before .before .before .before .before .before .before .before .before .before .before .before .next-script-func .kept .1 .1 .1 .0, ap length (w .1)))
-    (c .before .if1 .came)
+same-length-3 t c = omega (arith, c .before .before .before .before .before .before .before .before .before .before .before .before .before .before .before .before .before .before .before .before .before .before .before .before .next-script-func .kept .1 .1 .1 .0, c .before .before .before .before .before .operand .kept .1 .1 .1 .0)
 
 pub same-length-4 : (t : ℕ) → next-intermediate-lts.Need-same-length-4 (uses t) (next-intermediate-at t) next-intermediate.Post
-same-length-4 t c =
-    ⊎-elim
-    (λ w. omega (arith, c .before .before .before .before .before .before .before .before .before .before .before .before .before .before .before .before .before .before .next-script-func .kept .1 .1 .1 .1 .0, c .before .before .before .before .before .put1 .kept .0, w .4 .kept .1 .1 .1 .1 .0, ap length (w .10)))
-    (λ w. omega (arith, c .before .before .before .before .before .before .before .before .before .before .before .before .before .before .before .before .before .before .next-script-func .kept .1 .1 .1 .1 .0, c .before .before .before .before .before .put1 .kept .0, ap length (w .2)))
-    (c .before .if1 .came)
+same-length-4 t c = omega (arith, c .before .before .before .before .before .before .before .before .before .before .before .before .before .before .before .before .before .before .before .before .before .before .before .before .next-script-func .kept .1 .1 .1 .1 .0, c .before .before .before .before .before .before .before .before .before .before .before .put1 .kept .0, c .before .before .before .before .before .operand .kept .1 .1 .1 .1 .0)
 
 pub returns-2 : (t : ℕ) → next-intermediate-lts.Need-returns-2 (uses t) (next-intermediate-at t) next-intermediate.Post
-returns-2 t c = let S = c .before .before .before .before .before .before .before .before .before .before .before .before .before .before .before .before .before .before .before .before .before .before .before .before .before in
-    let p = rw (c .before .before .before .before .before .before .before .before .before .before .before .before .d2 .given .1) at (c .before .before .before .before .before .before .before .before .before .before .before .before .before .before .before .before .before .before .next-script-func .ensures) in
-    let z = rw (c .before .before .before .before .before .before .frac-word .ensures) at (c .before .before .before .before .before .put1 .ensures) in
-    rw (c .found-part .ensures) (⊎-elim
-    (λ w. rw (w .9, w .10, w .11) (item-over (S .args .stop) (S .args .sign) (S .pre .1 .room) p (sym (c .before .before .before .before .before .before .before .before .is-at .ensures) ∙ w .0 .taken) (rw (w .0 .taken) at z) (rw (c .before .before .past .ensures, w .0 .taken) at (w .4 .ensures))))
-    (λ w. rw (w .1, w .2, w .3, c .before .before .past .ensures, w .0 .left) (item-plain (S .args .stop) (S .args .sign) (S .pre .1 .room) p (sym (c .before .before .before .before .before .before .before .before .is-at .ensures) ∙ w .0 .left) (rw (w .0 .left) at z)))
-    (c .before .if1 .came))
+returns-2 t c = let S = c .before .before .before .before .before .before .before .before .before .before .before .before .before .before .before .before .before .before .before .before .before .before .before .before .before .before .before .before .before .before .before in
+    item-over (S .args .stop) (S .args .sign) (S .pre .1 .room) (rw (c .before .before .before .before .before .before .before .before .before .before .before .before .before .before .before .before .before .before .d2 .given .1) at (c .before .before .before .before .before .before .before .before .before .before .before .before .before .before .before .before .before .before .before .before .before .before .before .before .next-script-func .ensures)) (sym (c .before .before .before .before .before .before .before .before .before .before .before .before .before .before .is-at .ensures) ∙ c .before .before .before .before .before .before .before .before .before .before .before .before .before .if1 .taken) (c .before .before .before .before .before .before .before .before .before .before .before .put1 .ensures) (rw (c .before .before .before .before .before .before .next .ensures) at (c .before .before .before .before .before .operand .ensures))
+
+pub same-length-5 : (t : ℕ) → next-intermediate-lts.Need-same-length-5 (uses t) (next-intermediate-at t) next-intermediate.Post
+same-length-5 t c = search needs
+
+pub same-length-6 : (t : ℕ) → next-intermediate-lts.Need-same-length-6 (uses t) (next-intermediate-at t) next-intermediate.Post
+same-length-6 t c = search needs
+
+pub returns-3 : (t : ℕ) → next-intermediate-lts.Need-returns-3 (uses t) (next-intermediate-at t) next-intermediate.Post
+returns-3 t c = let S = c .before .before .before .before .before .before .before .before .before .before .before .before .before .before .before .before .before .before .before .before .before .before .before in
+    rw (c .look .ensures) (item-plain (S .args .stop) (S .args .sign) (S .pre .1 .room) (rw (c .before .before .before .before .before .before .before .before .before .before .d2 .given .1) at (c .before .before .before .before .before .before .before .before .before .before .before .before .before .before .before .before .next-script-func .ensures)) (sym (c .before .before .before .before .before .before .is-at .ensures) ∙ c .before .before .before .before .before .if1 .left) (c .before .before .before .put12 .ensures))
+
+pub cast-pos : (t : ℕ) → next-intermediate-lts.Need-cast-pos (uses t) (next-intermediate-at t) next-intermediate.Post
+cast-pos t c = search needs
