@@ -1,56 +1,47 @@
 -- The parts of a line by a node's kind, one law for each answer of the code, and numbers with commas one by one.
 use Prim.Native.Nat.{ℕ, zero, suc, _+_, _*_, _-_, _≤_, _<_}
 use mathlib.Core.Path.{_≡_, refl, sym, ap, _∙_}
-use mathlib.Core.Bool.{true}
 use mathlib.Core.List.{List, [], _∷_, _++_, append-assoc, append-nil}
 use native.Mathlib.Omega.{arith}
 use lib.ListN.{length, getD, take, drop, length-drop, drop-of-length-le, List·getD-eq-default}
 use native.Mathlib.Numerals.{add-one}
-use lib.Seq.{take-suc, take-all, take-nil, drop-length, getD-drop, getD-append-add}
-use lib.Dec.{leb}
-use borrow.Author.Tests.{ne-eqb, le-ltb, leb-true}
+use lib.Seq.{take-suc, take-all, take-nil, drop-length, getD-drop}
+use borrow.Author.Tests.{ne-eqb}
 use borrow.Author.Count.{below-more}
 use Rattle.tokens.proofs.Cases.{by-lt}
 use Rattle.tokens.specs.Bytes.{bytes}
 use Rattle.tree.specs.declared.walk.Opened.{Opened}
 use Rattle.writer.specs.Decimal.{decimal}
-use Rattle.line.specs.Print.{names, nameOf, number, commas, more, newline}
-use Rattle.line.specs.Lines.{parts, textOf, scriptNumber, startOf, leftOf, scriptOf, groupOf, matrixOf, linesOf, wordOf, addedBy, addedOf, lineOf}
+use Rattle.line.specs.Print.{names, nameOf, number, field, commas, more, newline}
+use Rattle.line.specs.Lines.{startOf, leftOf, scriptOf, groupOf, matrixOf, linesOf, wordOf, addedBy, addedOf, lineOf}
 
--- the table of texts, eight bytes each, and their lengths
+-- the table of names, eight bytes each, and their lengths
 abbrev pub table : List ℕ
-table = bytes "depth=   node=   at=     len=    rat=    rlen=   cols=   cells=  items=  class=  script= lines= ,       none    sub     super   subsupermissing number  text    ident   operatorsign    space   symbol  signed  ssigned unary   sfunc   binary  simple  func    group   matrix  cell    frac    "
+table = bytes "missing number  text    ident   operatorsign    space   symbol  signed  ssigned unary   sfunc   binary  simple  func    group   matrix  cell    frac    "
 
 abbrev pub lengths : List ℕ
-lengths = 6 ∷ 6 ∷ 4 ∷ 5 ∷ 5 ∷ 6 ∷ 6 ∷ 7 ∷ 7 ∷ 7 ∷ 8 ∷ 7 ∷ 1 ∷ 4 ∷ 3 ∷ 5 ∷ 8 ∷ 7 ∷ 6 ∷ 4 ∷ 5 ∷ 8 ∷ 4 ∷ 5 ∷ 6 ∷ 6 ∷ 7 ∷ 5 ∷ 5 ∷ 6 ∷ 6 ∷ 4 ∷ 5 ∷ 6 ∷ 4 ∷ 4 ∷ []
+lengths = 7 ∷ 6 ∷ 4 ∷ 5 ∷ 8 ∷ 4 ∷ 5 ∷ 6 ∷ 6 ∷ 7 ∷ 5 ∷ 5 ∷ 6 ∷ 6 ∷ 4 ∷ 5 ∷ 6 ∷ 4 ∷ 4 ∷ []
 
--- two functions that agree at each number below n
-abbrev below : {A : Type 0} → (ℕ → A) → ℕ → List A
-below f zero = []
-below f (suc n) = f n ∷ below f n
+-- a fact of each number below n
+abbrev Each : (ℕ → Type 0) → ℕ → Type 0
+Each P zero = Unit {0}
+Each P (suc n) = Each P n × P n
 
-each : {A : Type 0} (f g : ℕ → A) (n : ℕ) → below f n ≡ below g n → (k : ℕ) → k < n → f k ≡ g k
-each f g zero e k h = absurd (omega arith)
-each {A} f g (suc n) e k h =
-    below-more (λ (k : ℕ). f k ≡ g k) n (each f g n (ap (drop 1) e)) (ap (λ (l : List A). getD l 0 (f n)) e) k (omega arith)
+each : (P : ℕ → Type 0) (n : ℕ) → Each P n → (k : ℕ) → k < n → P k
+each P zero e k h = absurd (omega arith)
+each P (suc n) e k h = below-more P n (each P n (e .0)) (e .1) k (omega arith)
 
-abbrev cut : ℕ → List ℕ
-cut k = take (8 * k + getD lengths k 0 - 8 * k) (drop (8 * k) table)
+pub record Named (k : ℕ) : Type 0 where
+  pub short : getD lengths k 0 ≤ 8
+  pub same : take (8 * k + getD lengths k 0 - 8 * k) (drop (8 * k) table) ≡ nameOf k
 
-pub short : (k : ℕ) → k < 36 → getD lengths k 0 ≤ 8
-short k h = leb-true (getD lengths k 0) 8 (each (λ (i : ℕ). leb (getD lengths i 0) 8) (λ (i : ℕ). true) 36 refl k h)
+pub named : (k : ℕ) → k < 19 → Named k
+unfolding nameOf names
+named = each Named 19 (search arith)
 
-pub named : (k : ℕ) → k < 36 → take (8 * k + getD lengths k 0 - 8 * k) (drop (8 * k) table) ≡ textOf k
-unfolding textOf parts names
-named = each cut textOf 36 refl
-
-pub unnamed : (k : ℕ) → 36 ≤ k → [] ≡ textOf k
-unfolding textOf parts names
-unnamed k h = ap bytes (sym (List·getD-eq-default (parts ++ names) "" h))
-
-pub node-name : (kind : ℕ) → textOf (17 + kind) ≡ nameOf kind
-unfolding textOf nameOf parts
-node-name kind = ap bytes (getD-append-add parts names kind "")
+pub unnamed : (k : ℕ) → 19 ≤ k → [] ≡ nameOf k
+unfolding nameOf names
+unnamed k h = ap bytes (sym (List·getD-eq-default names "" h))
 
 -- one number more
 more-snoc : (l : List ℕ) (n : ℕ) → more (l ++ (n ∷ [])) ≡ more l ++ (44 ∷ decimal n)
@@ -104,14 +95,22 @@ module _ (kind start len : ℕ) where
   unfolding leftOf
   left-both a b c d = rw (ne-eqb kind 0 a, ne-eqb kind 13 b, ne-eqb kind 17 c, ne-eqb kind 18 d)
 
-pub script-text : (script : ℕ) → textOf 10 ++ textOf (scriptNumber script) ≡ scriptOf script
-unfolding textOf parts scriptOf
-script-text zero = refl
-script-text (suc zero) = refl
-script-text (suc (suc zero)) = refl
-script-text (suc (suc (suc n))) =
-    let m : ℕ = suc (suc (suc n)) in
-    rw (le-ltb m 3 (omega arith), ne-eqb m 0 (λ e. omega arith), ne-eqb m 1 (λ e. omega arith), ne-eqb m 2 (λ e. omega arith))
+module _ (script : ℕ) where
+  pub script-none : script ≡ 0 → field "script" (bytes "none") ≡ scriptOf script
+  unfolding scriptOf
+  script-none e = rw e
+
+  pub script-sub : script ≡ 1 → field "script" (bytes "sub") ≡ scriptOf script
+  unfolding scriptOf
+  script-sub e = rw e
+
+  pub script-super : script ≡ 2 → field "script" (bytes "super") ≡ scriptOf script
+  unfolding scriptOf
+  script-super e = rw e
+
+  pub script-both : (script ≡ 0 → ⊥) → (script ≡ 1 → ⊥) → (script ≡ 2 → ⊥) → field "script" (bytes "subsuper") ≡ scriptOf script
+  unfolding scriptOf
+  script-both a b c = rw (ne-eqb script 0 a, ne-eqb script 1 b, ne-eqb script 2 c)
 
 -- what a kind adds
 module _ (kind held start len cols count : ℕ) (lines : List ℕ) where
@@ -147,13 +146,6 @@ module _ (kind held start len cols count : ℕ) (lines : List ℕ) where
 
   pub added-above : (kind ≡ 15 → ⊥) → (kind ≡ 16 → ⊥) → (kind ≡ 17 → ⊥) → 15 ≤ kind → [] ≡ addedBy kind held start len cols count lines
   added-above d f g h = added-none (λ e. omega arith) (λ e. omega arith) (λ e. omega arith) d f g
-
--- depth and name
-pub start-text : (depth kind : ℕ) → (textOf 0 ++ decimal depth) ++ (textOf 1 ++ textOf (17 + kind)) ≡ startOf depth kind
-unfolding startOf textOf parts
-start-text depth kind =
-    append-assoc (textOf 0) (decimal depth) (textOf 1 ++ textOf (17 + kind))
-    ∙ ap (λ (name : List ℕ). textOf 0 ++ (decimal depth ++ (textOf 1 ++ name))) (node-name kind)
 
 -- the words from a place on
 module _ (words : List ℕ) (head : ℕ) where

@@ -1,28 +1,14 @@
 -- The line of a node from its words: what Print.antt says of a head, by the node's kind and the numbers in its words.
 use Prim.Native.Nat.{ℕ, _+_}
-use mathlib.Core.List.{List, [], _∷_, _++_}
-use Prim.Native.String.{String}
+use mathlib.Core.List.{List, [], _++_}
 use lib.ListN.{getD, take, drop}
-use lib.Dec.{eqb, ltb}
+use lib.Dec.{eqb}
 use Rattle.tokens.specs.Bytes.{bytes}
 use Rattle.tree.specs.declared.walk.Opened.{Opened}
 use Rattle.tree.specs.Words.{pick}
 use Rattle.tree.specs.Walk.{cellsEnd}
 use Rattle.writer.specs.Decimal.{decimal}
-use Rattle.line.specs.Print.{names, nameOf, field, number, commas, newline}
-
--- the texts that a line is made of, by their numbers: the fields, the scripts, then the nodes
-unfoldable pub parts : List String
-parts =
-    "depth=" ∷ " node=" ∷ " at=" ∷ " len=" ∷ " rat=" ∷ " rlen=" ∷ " cols=" ∷ " cells=" ∷ " items=" ∷ " class=" ∷ " script=" ∷ " lines=" ∷
-    "," ∷ "none" ∷ "sub" ∷ "super" ∷ "subsuper" ∷ []
-
-unfoldable pub textOf : ℕ → List ℕ
-textOf i = bytes (getD (parts ++ names) i "")
-
--- the text of a script
-abbrev pub scriptNumber : ℕ → ℕ
-scriptNumber script = pick (ltb script 3) (13 + script) 16
+use Rattle.line.specs.Print.{nameOf, field, number, commas, newline}
 
 unfoldable pub startOf : ℕ → ℕ → List ℕ
 startOf depth kind = bytes "depth=" ++ (decimal depth ++ field "node" (nameOf kind))

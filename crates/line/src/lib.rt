@@ -1,34 +1,14 @@
 // One line of the printed tree, from the words of its node.
-mod text;
-
-ghost use Prim.Native.Nat.{_+_, _≤_};
-ghost use mathlib.Core.List.{_++_};
 ghost use mathlib.Core.Path.{_≡_};
 ghost use lib.ListN.{getD, drop};
 ghost use Rattle.writer.specs.Put.{Put};
-ghost use Rattle.writer.specs.Decimal.{decimal};
-ghost use Rattle.line.specs.Print.{field, commas};
-ghost use Rattle.line.specs.Lines.{textOf, scriptNumber, leftOf, groupOf, matrixOf, linesOf, addedBy, startOf, lineOf};
-use text::AT;
-use text::CELLS;
-use text::CLASS;
-use text::COLS;
-use text::COMMA;
-use text::DEPTH;
-use text::ITEMS;
-use text::LINES;
-use text::NODE;
-use text::NODES;
-use text::NONE;
-use text::RAT;
-use text::SCRIPT;
-use text::SUBSUPER;
-use text::put_number;
-use text::put_texts;
+ghost use Rattle.line.specs.Print.{nameOf, field, number, commas};
+ghost use Rattle.line.specs.Lines.{scriptOf, leftOf, rightOf, groupOf, matrixOf, linesOf, addedBy, startOf, lineOf};
 use tree::walk::Opened;
 use tree::walk::column_lines;
 use tree::walk::word;
 use writer::put_bytes;
+use writer::put_number;
 
 // The words from `head` on.
 fn own_words(words: &[u32], head: usize) -> &[u32]
@@ -41,21 +21,34 @@ fn own_words(words: &[u32], head: usize) -> &[u32]
     &words[head..]
 }
 
-// Two fields that follow each other, from two words that do: at and len, or rat and rlen.
-fn put_span(own: &[u32], out: &mut [u8], at: usize, text: usize, first: usize) -> usize
-    requires { ⌜ text ≤ 4 ⌝ }
-    requires { ⌜ first ≤ 4 ⌝ }
-    ensures { λ r.
-        ⌜
-        Put (now (out .entry)) at (now (out .exit)) r
-        ((textOf text ++ decimal (getD (now (own .entry)) first 0)) ++ (textOf (text + 1) ++ decimal (getD (now (own .entry)) (first + 1) 0)))
-        ⌝ }
+// The lengths of the nodes' names, in the order of their kinds.
+const LENGTHS: [u8; 19] = [7, 6, 4, 5, 8, 4, 5, 6, 6, 7, 5, 5, 6, 6, 4, 5, 6, 4, 4];
+
+// A node's name, by its kind: cut out of a table with eight bytes for each.
+fn put_name(out: &mut [u8], at: usize, kind: u32) -> usize
+    ensures { λ r. ⌜ Put (now (out .entry)) at (now (out .exit)) r (nameOf kind) ⌝ }
 {
-    let start = word(own, first) as u64;
-    let len = word(own, first + 1) as u64;
-    let next = text + 1;
-    let end = put_number(out, at, text, start);
-    put_number(out, end, next, len)
+    let names: &[u8] =
+        b"missing number  text    ident   operatorsign    space   symbol  signed  ssigned unary   sfunc   binary  simple  func    group   matrix  cell    frac    ";
+    let k = kind as usize;
+    if k < 19 {
+        let from = 8 * k;
+        let to = from + LENGTHS[k] as usize;
+        put_bytes(out, at, &names[from..to])
+    } else {
+        at
+    }
+}
+
+fn put_script(out: &mut [u8], at: usize, script: u32) -> usize
+    ensures { λ r. ⌜ Put (now (out .entry)) at (now (out .exit)) r (scriptOf script) ⌝ }
+{
+    match script {
+        0 => put_bytes(out, at, b" script=none"),
+        1 => put_bytes(out, at, b" script=sub"),
+        2 => put_bytes(out, at, b" script=super"),
+        _ => put_bytes(out, at, b" script=subsuper"),
+    }
 }
 
 // at and len, for every node that stands for a token or a left bracket.
@@ -67,19 +60,29 @@ fn put_left(own: &[u32], out: &mut [u8], at: usize, kind: u32) -> usize
         13 => at,
         17 => at,
         18 => at,
-        _ => put_span(own, out, at, AT, 1),
+        _ => {
+            let start = word(own, 1) as u64;
+            let len = word(own, 2) as u64;
+            let end = put_number(out, at, b" at=", start);
+            put_number(out, end, b" len=", len)
+        }
     }
 }
 
-// The number of a script's text.
-fn script_text(script: u32) -> usize
-    ensures { λ r. ⌜ r ≡ scriptNumber script ⌝ }
+// rat and rlen.
+fn put_right(own: &[u32], out: &mut [u8], at: usize) -> usize
+    ensures { λ r. ⌜ Put (now (out .entry)) at (now (out .exit)) r (rightOf (getD (now (own .entry)) 4 0) (getD (now (own .entry)) 5 0)) ⌝ }
 {
-    if script < 3 {
-        NONE + script as usize
-    } else {
-        SUBSUPER
-    }
+    let start = word(own, 4) as u64;
+    let len = word(own, 5) as u64;
+    let end = put_number(out, at, b" rat=", start);
+    put_number(out, end, b" rlen=", len)
+}
+
+fn put_items(out: &mut [u8], at: usize, items: usize) -> usize
+    ensures { λ r. ⌜ Put (now (out .entry)) at (now (out .exit)) r (number "items" items) ⌝ }
+{
+    put_number(out, at, b" items=", items as u64)
 }
 
 // The column lines with commas, or none.
@@ -87,12 +90,12 @@ fn put_lines(out: &mut [u8], at: usize, lines: &[u32]) -> usize
     ensures { λ r. ⌜ Put (now (out .entry)) at (now (out .exit)) r (field "lines" (commas (now (lines .entry)))) ⌝ }
 {
     if lines.len() == 0 {
-        return put_texts(out, at, LINES, NONE);
+        return put_bytes(out, at, b" lines=none");
     }
-    let mut end = put_number(out, at, LINES, lines[0] as u64);
+    let mut end = put_number(out, at, b" lines=", lines[0] as u64);
     let mut i = 1;
     while i < lines.len() {
-        end = put_number(out, end, COMMA, lines[i] as u64);
+        end = put_number(out, end, b",", lines[i] as u64);
         i += 1;
     }
     end
@@ -101,16 +104,16 @@ fn put_lines(out: &mut [u8], at: usize, lines: &[u32]) -> usize
 fn put_group(own: &[u32], out: &mut [u8], at: usize, count: usize) -> usize
     ensures { λ r. ⌜ Put (now (out .entry)) at (now (out .exit)) r (groupOf (getD (now (own .entry)) 4 0) (getD (now (own .entry)) 5 0) count) ⌝ }
 {
-    let end = put_span(own, out, at, RAT, 4);
-    put_number(out, end, ITEMS, count as u64)
+    let end = put_right(own, out, at);
+    put_items(out, end, count)
 }
 
 fn put_matrix(words: &[u32], own: &[u32], out: &mut [u8], at: usize, o: Opened) -> usize
     ensures { λ r. ⌜ Put (now (out .entry)) at (now (out .exit)) r (matrixOf (getD (now (own .entry)) 4 0) (getD (now (own .entry)) 5 0) (getD (now (own .entry)) 6 0) (o .count) (linesOf (now (words .entry)) o)) ⌝ }
 {
-    let a = put_span(own, out, at, RAT, 4);
-    let b = put_number(out, a, COLS, word(own, 6) as u64);
-    let c = put_number(out, b, CELLS, o.count as u64);
+    let a = put_right(own, out, at);
+    let b = put_number(out, a, b" cols=", word(own, 6) as u64);
+    let c = put_number(out, b, b" cells=", o.count as u64);
     put_lines(out, c, column_lines(words, o))
 }
 
@@ -125,11 +128,11 @@ fn put_added(words: &[u32], own: &[u32], out: &mut [u8], at: usize, o: Opened) -
     let kind = o.kind;
     let x = word(own, 3);
     match kind {
-        7 => put_number(out, at, CLASS, x as u64),
-        13 | 14 => put_texts(out, at, SCRIPT, script_text(x)),
+        7 => put_number(out, at, b" class=", x as u64),
+        13 | 14 => put_script(out, at, x),
         15 => put_group(own, out, at, o.count),
         16 => put_matrix(words, own, out, at, o),
-        17 => put_number(out, at, ITEMS, o.count as u64),
+        17 => put_items(out, at, o.count),
         _ => at,
     }
 }
@@ -137,8 +140,9 @@ fn put_added(words: &[u32], own: &[u32], out: &mut [u8], at: usize, o: Opened) -
 fn put_start(out: &mut [u8], at: usize, depth: usize, kind: u32) -> usize
     ensures { λ r. ⌜ Put (now (out .entry)) at (now (out .exit)) r (startOf depth kind) ⌝ }
 {
-    let end = put_number(out, at, DEPTH, depth as u64);
-    put_texts(out, end, NODE, NODES + kind as usize)
+    let a = put_number(out, at, b"depth=", depth as u64);
+    let b = put_bytes(out, a, b" node=");
+    put_name(out, b, kind)
 }
 
 // The line of a node that a step of a walk over these words has opened.

@@ -3,11 +3,9 @@ mod row;
 
 use row::put_row;
 use writer::put_bytes;
-use writer::put_decimal;
-ghost use mathlib.Core.List.{_++_};
+use writer::put_number;
 ghost use mathlib.Core.Path.{_≡_};
 ghost use Rattle.writer.specs.Put.{Put};
-ghost use Rattle.writer.specs.Decimal.{decimal};
 ghost use Rattle.line.specs.Print.{first};
 ghost use Rattle.printer.specs.Call.{printWords, fitted};
 
@@ -17,14 +15,6 @@ pub enum Fitted {
     Whole(usize),
     // the buffer is too short: refusal 10
     Short,
-}
-
-// A field's blank, name and `=`, then its value.
-fn put_number(out: &mut [u8], at: usize, name: &[u8], n: u64) -> usize
-    ensures { λ r. ⌜ Put (now (out .entry)) at (now (out .exit)) r (now (name .entry) ++ decimal n) ⌝ }
-{
-    let end = put_bytes(out, at, name);
-    put_decimal(out, end, n)
 }
 
 fn put_first(out: &mut [u8], text: usize, tokens: usize, takes: u64, items: usize) -> usize

@@ -1,6 +1,6 @@
 // Bytes and numbers at a place of a lent buffer. Each function answers the place behind what it put; the count goes on past the buffer's
 // end, so that the same calls with a short buffer find the length that is needed.
-ghost use mathlib.Core.List.{[], _∷_};
+ghost use mathlib.Core.List.{[], _∷_, _++_};
 ghost use Rattle.writer.specs.Put.{Put};
 ghost use Rattle.writer.specs.Decimal.{decimal};
 
@@ -30,7 +30,7 @@ pub fn put_bytes(out: &mut [u8], at: usize, s: &[u8]) -> usize
 }
 
 // A number in decimal.
-pub fn put_decimal(out: &mut [u8], at: usize, n: u64) -> usize
+fn put_decimal(out: &mut [u8], at: usize, n: u64) -> usize
     ensures { λ r. ⌜ Put (now (out .entry)) at (now (out .exit)) r (decimal n) ⌝ }
 {
     if n < 10 {
@@ -39,4 +39,12 @@ pub fn put_decimal(out: &mut [u8], at: usize, n: u64) -> usize
         let end = put_decimal(out, at, n / 10);
         put_byte(out, end, 48 + (n % 10) as u8)
     }
+}
+
+// A name, then a number in decimal.
+pub fn put_number(out: &mut [u8], at: usize, name: &[u8], n: u64) -> usize
+    ensures { λ r. ⌜ Put (now (out .entry)) at (now (out .exit)) r (now (name .entry) ++ decimal n) ⌝ }
+{
+    let end = put_bytes(out, at, name);
+    put_decimal(out, end, n)
 }

@@ -1,17 +1,16 @@
 -- What a kind adds to a line.
 use native.Mathlib.Omega.{arith}
-use mathlib.Core.Path.{ap, _∙_}
-use Prim.Native.Nat.{ℕ}
-use mathlib.Core.List.{_++_}
 use Rattle.writer.proofs.Puts.{none, put-as}
-use Rattle.line.proofs.Fields.{script-text, added-class, added-script, added-group, added-matrix, added-cell, added-below, added-above}
-use Rattle.line.specs.Lines.{parts, textOf}
+use Rattle.line.proofs.Fields.{added-class, added-script, added-group, added-matrix, added-cell, added-below, added-above}
 use borrow.Author.Needs.{needs}
 use Rattle.line.proofs.put_added.Statement.{statement}
 use Rattle.line.proofs.put_added.Tie as tie
 
 word-requires : tie.Need-word-requires
 word-requires c κs = search needs
+
+slice-aggregate-put-number : tie.Need-slice-aggregate-put-number
+slice-aggregate-put-number c = search needs
 
 cast-put-number : tie.Need-cast-put-number
 cast-put-number c = search needs
@@ -25,21 +24,17 @@ put-group-requires c κs = search needs
 put-matrix-requires : tie.Need-put-matrix-requires
 put-matrix-requires c κs = search needs
 
-put-number-requires-2 : tie.Need-put-number-requires-2
-put-number-requires-2 c κs = search needs
+put-items-requires : tie.Need-put-items-requires
+put-items-requires c κs = search needs
 
-script-text-requires : tie.Need-script-text-requires
-script-text-requires c κs = search needs
-
-put-texts-requires : tie.Need-put-texts-requires
-put-texts-requires c κs = search needs
+put-script-requires : tie.Need-put-script-requires
+put-script-requires c κs = search needs
 
 same-length : tie.Need-same-length
 same-length c = search needs
 
 returns : tie.Need-returns
-unfolding parts textOf
-returns c = put-as (added-class _ _ _ _ _ _ _ (c .before .before .before .before .match .keys1) (c .before .before .before .before .before .word .ensures)) (c .before .before .put-number .ensures)
+returns c = put-as (added-class _ _ _ _ _ _ _ (c .before .before .before .before .before .match .keys1) (c .before .before .before .before .before .before .word .ensures)) (c .before .before .put-number .ensures)
 
 same-length-2 : tie.Need-same-length-2
 same-length-2 c = search needs
@@ -57,15 +52,13 @@ same-length-4 : tie.Need-same-length-4
 same-length-4 c = search needs
 
 returns-4 : tie.Need-returns-4
-unfolding parts textOf
-returns-4 c = put-as (added-cell _ _ _ _ _ _ _ (c .before .before .before .before .match .keys4)) (c .before .before .put-number2 .ensures)
+returns-4 c = put-as (added-cell _ _ _ _ _ _ _ (c .before .before .before .before .match .keys4)) (c .before .before .put-items .ensures)
 
 same-length-5 : tie.Need-same-length-5
 same-length-5 c = search needs
 
 returns-5 : tie.Need-returns-5
-returns-5 c =
-    put-as (ap (λ (n : ℕ). textOf 10 ++ textOf n) (c .before .before .before .script-text .ensures) ∙ script-text _ ∙ added-script _ _ _ _ _ _ _ (c .before .before .before .before .before .before .if1 .left) (c .before .before .before .before .before .if2 .taken) (c .before .before .before .before .before .before .before .before .word .ensures)) (c .before .before .put-texts .ensures)
+returns-5 c = put-as (added-script _ _ _ _ _ _ _ (c .before .before .before .before .before .if1 .left) (c .before .before .before .before .if2 .taken) (c .before .before .before .before .before .before .before .word .ensures)) (c .before .before .put-script .ensures)
 
 returns-6 : tie.Need-returns-6
 returns-6 c = put-as (added-below _ _ _ _ _ _ _ (c .before .match .rest .0 .0 .0 .1) (c .if1 .taken)) (none _ _ (omega arith) (omega arith))
@@ -74,4 +67,4 @@ returns-7 : tie.Need-returns-7
 returns-7 c = let r = c .before .before .match .rest in put-as (added-above _ _ _ _ _ _ _ (r .0 .0 .1) (r .0 .1) (r .1) (c .if2 .left)) (none _ _ (omega arith) (omega arith))
 
 pub put-added-spec : {M : Type 1} → statement M
-put-added-spec = tie.close (tie.spec word-requires cast-put-number put-number-requires put-group-requires put-matrix-requires put-number-requires-2 script-text-requires put-texts-requires same-length returns same-length-2 returns-2 same-length-3 returns-3 same-length-4 returns-4 same-length-5 returns-5 returns-6 returns-7)
+put-added-spec = tie.close (tie.spec word-requires slice-aggregate-put-number cast-put-number put-number-requires put-group-requires put-matrix-requires put-items-requires put-script-requires same-length returns same-length-2 returns-2 same-length-3 returns-3 same-length-4 returns-4 same-length-5 returns-5 returns-6 returns-7)

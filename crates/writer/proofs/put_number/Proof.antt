@@ -1,8 +1,8 @@
 -- A field: its name, then its number.
 use Rattle.writer.proofs.Puts.{then}
 use borrow.Author.Needs.{needs}
-use Rattle.printer.proofs.put_number.Statement.{statement}
-use Rattle.printer.proofs.put_number.Tie as tie
+use Rattle.writer.proofs.put_number.Statement.{statement}
+use Rattle.writer.proofs.put_number.Tie as tie
 
 put-bytes-requires : tie.Need-put-bytes-requires
 put-bytes-requires c κs = search needs
