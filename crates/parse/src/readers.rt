@@ -632,26 +632,26 @@ fn bars(
 {
     let from = c.pos;
     let mark = open_mark(stop);
-    let mut cur = c;
-    if !failed_at(work, i, mark) {
-        let run = extend(text, tok, n, work, tree, c, e + 6, i, stop, true, true);
-        cur = run.cur;
-        let count = run.count;
-        if count != 0 {
-            let at = cur.pos as usize;
-            if bar_at(text, tok, work, n, i, at) {
-                put_group(tok, work, n, tree, e, i, at, count);
-                return Part {
-                    cur: cur.next(),
-                    end: run.end,
-                    ends: true,
-                };
-            }
-            mark_failed(work, i, mark);
-            cur = cur.rewind(from);
-        }
+    if failed_at(work, i, mark) {
+        return leaf(tok, work, tree, c, e, i, OPEN_CLOSE_BRACKET);
     }
-    leaf(tok, work, tree, cur, e, i, OPEN_CLOSE_BRACKET)
+    let run = extend(text, tok, n, work, tree, c, e + 6, i, stop, true, true);
+    let cur = run.cur;
+    let at = cur.pos as usize;
+    let count = run.count;
+    if count == 0 {
+        leaf(tok, work, tree, cur, e, i, OPEN_CLOSE_BRACKET)
+    } else if bar_at(text, tok, work, n, i, at) {
+        put_group(tok, work, n, tree, e, i, at, count);
+        Part {
+            cur: cur.next(),
+            end: run.end,
+            ends: true,
+        }
+    } else {
+        mark_failed(work, i, mark);
+        leaf(tok, work, tree, cur.rewind(from), e, i, OPEN_CLOSE_BRACKET)
+    }
 }
 
 // The node of kind `kind` that the entry i prefixes, with one argument.
