@@ -40,13 +40,24 @@ pub(crate) fn first_bytes(text: &[u8], fault: usize) -> &[u8] {
 }
 
 // All words but the last one if there is this fault.
-pub(crate) fn cut(words: &mut [u32], fault: usize) -> &mut [u32] {
+pub(crate) fn cut(words: &mut [u32], set: usize, fault: usize) -> &mut [u32] {
     let n = words.len();
-    if fault % 2 == 0 {
+    if set & fault == 0 {
         return words;
     }
     if n == 0 {
         return words;
     }
     &mut words[..n - 1]
+}
+
+pub(crate) fn cut_bytes(bytes: &mut [u8], set: usize, fault: usize) -> &mut [u8] {
+    let n = bytes.len();
+    if set & fault == 0 {
+        return bytes;
+    }
+    if n == 0 {
+        return bytes;
+    }
+    &mut bytes[..n - 1]
 }

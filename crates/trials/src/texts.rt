@@ -1,10 +1,12 @@
 // The refusals of the calls on a text. Every set of faults is tried, and so each refusal alone and together with any others: the first
 // in document 01's order must be answered, and nothing be changed. No fault at all must be accepted, with buffers that are just long
 // enough.
-use crate::compare::all_bytes;
 use crate::compare::all_words;
+use crate::compare::kept;
+use crate::compare::kept_bytes;
 use crate::compare::same;
 use crate::faults::cut;
+use crate::faults::cut_bytes;
 use crate::faults::first_bytes;
 use crate::faults::first_fault;
 use crate::faults::text_of;
@@ -51,78 +53,58 @@ fn print_answer(p: Printed) -> u8 {
     }
 }
 
-fn ask(
-    call: usize,
-    text: &[u8],
-    table: &mut [u32],
-    work: &mut [u32],
-    tree: &mut [u32],
-    out: &mut [u8],
-) -> u8 {
-    match call {
-        0 => count_answer(tokenizer::count_tokens(text)),
-        1 => table_answer(tokenizer::tokenize(text, table)),
-        2 => parse_answer(parse::parse(text, table, work, tree)),
-        _ => print_answer(print::print(text, table, work, tree, out)),
-    }
+fn count(text: &[u8]) -> u8 {
+    count_answer(tokenizer::count_tokens(text))
 }
 
-fn cut_bytes(bytes: &mut [u8], fault: usize) -> &mut [u8] {
-    let n = bytes.len();
-    if fault % 2 == 0 {
-        return bytes;
-    }
-    if n == 0 {
-        return bytes;
-    }
-    &mut bytes[..n - 1]
+fn tokenize(text: &[u8], set: usize) -> u8 {
+    let mut table = [7u32; 9];
+    let number = table_answer(tokenizer::tokenize(text, cut(&mut table, set, 4)));
+    kept(number, &table)
 }
 
-// A call on `a b`, or on 4,097 bytes, with buffers one word or byte short, by the set of faults.
-fn ask_set(
-    call: usize,
-    set: usize,
-    table: &mut [u32],
-    work: &mut [u32],
-    tree: &mut [u32],
-    out: &mut [u8],
-) -> u8 {
-    let text = text_of(set);
-    ask(
-        call,
-        first_bytes(&text, set),
-        cut(table, set / 4),
-        cut(work, set / 8),
-        cut(tree, set / 16),
-        cut_bytes(out, set / 32),
-    )
+fn parse(text: &[u8], set: usize) -> u8 {
+    let mut table = [7u32; 9];
+    let mut work = [7u32; 12];
+    let mut tree = [7u32; 96];
+    let number = parse_answer(parse::parse(
+        text,
+        cut(&mut table, set, 4),
+        cut(&mut work, set, 8),
+        cut(&mut tree, set, 16),
+    ));
+    kept(kept(kept(number, &table), &work), &tree)
 }
 
-// Whether it is the number of the set's first fault and the call changed nothing, but that 10 keeps the print buffer alone.
-fn is_right(set: usize, number: u8, table: &[u32], work: &[u32], tree: &[u32], out: &[u8]) -> bool {
-    if number != first_fault(set, &[1, 2, 7, 8, 9, 10]) {
-        return false;
-    }
-    if number == 0 {
-        return true;
-    }
-    if !all_bytes(out, 7) {
-        return false;
-    }
-    if number == 10 {
-        return true;
-    }
-    all_words(table, 7) && all_words(work, 7) && all_words(tree, 7)
-}
-
-// A set of faults 1, 2, 7, 8, 9, 10, with buffers that are just long enough for `a b`.
-fn try_set(call: usize, set: usize) -> bool {
+fn print(text: &[u8], set: usize) -> u8 {
     let mut table = [7u32; 9];
     let mut work = [7u32; 12];
     let mut tree = [7u32; 96];
     let mut out = [7u8; 186];
-    let number = ask_set(call, set, &mut table, &mut work, &mut tree, &mut out);
-    is_right(set, number, &table, &work, &tree, &out)
+    let number = print_answer(print::print(
+        text,
+        cut(&mut table, set, 4),
+        cut(&mut work, set, 8),
+        cut(&mut tree, set, 16),
+        cut_bytes(&mut out, set, 32),
+    ));
+    kept_bytes(kept(kept(kept(number, &table), &work), &tree), &out)
+}
+
+// A call on `a b`, or on 4,097 bytes, with buffers one word or byte short, by the set of faults.
+fn ask(call: usize, text: &[u8], set: usize) -> u8 {
+    match call {
+        0 => count(text),
+        1 => tokenize(text, set),
+        2 => parse(text, set),
+        _ => print(text, set),
+    }
+}
+
+// A set of faults 1, 2, 7, 8, 9, 10.
+fn try_set(call: usize, set: usize) -> bool {
+    let text = text_of(set);
+    ask(call, first_bytes(&text, set), set) == first_fault(set, &[1, 2, 7, 8, 9, 10])
 }
 
 pub(crate) fn all_sets(call: usize, sets: usize) -> bool {
@@ -141,19 +123,20 @@ pub(crate) fn short_print() -> bool {
     let mut table = [7u32; 12];
     let mut work = [7u32; 15];
     let mut tree = [7u32; 100];
-    let mut out = [7u8; 185];
-    let number = ask(3, b"a b", &mut table, &mut work, &mut tree, &mut out);
-    number == 10 && are_accepted(&table, &work, &tree)
+    let printed = print::print(b"a b", &mut table, &mut work, &mut tree, &mut [7; 185]);
+    is_accepted(print_answer(printed), &table, &work, &tree)
 }
 
-// Whether the buffers are as after `a b` was accepted.
-fn are_accepted(table: &[u32], work: &[u32], tree: &[u32]) -> bool {
+// Whether a call answered 10 and left the buffers as after acceptance.
+fn is_accepted(number: u8, table: &[u32], work: &[u32], tree: &[u32]) -> bool {
+    number == 10 && all_words(work, 0) && is_parsed(table, tree)
+}
+
+// Whether the table and the tree are as after `a b` was accepted.
+fn is_parsed(table: &[u32], tree: &[u32]) -> bool {
     let mut table2 = [7u32; 12];
-    let mut work2 = [7u32; 15];
     let mut tree2 = [7u32; 100];
-    let number = ask(2, b"a b", &mut table2, &mut work2, &mut tree2, &mut []);
-    if number != 0 {
-        return false;
-    }
-    same(table, &table2) && same(tree, &tree2) && all_words(work, 0)
+    let parsed = parse::parse(b"a b", &mut table2, &mut [7; 15], &mut tree2);
+    let number = parse_answer(parsed);
+    same(same(number, table, &table2), tree, &tree2) == 0
 }

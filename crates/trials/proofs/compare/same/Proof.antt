@@ -7,10 +7,10 @@ use Rattle.trials.proofs.compare.same.Statement.{statement}
 use Rattle.trials.proofs.compare.same.Tie as tie
 
 abbrev Inv-loop : tie.InvT-loop
-Inv-loop a b i₀ i = (i ≤ length a) × (length a ≡ length b)
+Inv-loop number a b i₀ i = (i ≤ length a) × (length a ≡ length b)
 
 abbrev μ-loop : tie.MeasureT-loop
-μ-loop a b i₀ i = length a - i
+μ-loop number a b i₀ i = length a - i
 
 returns : tie.Need-returns Inv-loop μ-loop
 returns c = search needs

@@ -3,8 +3,8 @@ use mathlib.Core.Path.{sym}
 use lib.Seq.{length-take-le}
 use borrow.Author.Needs.{needs}
 use borrow.Author.Needs.{needs}
-use Rattle.trials.proofs.texts.cut_bytes.Statement.{statement}
-use Rattle.trials.proofs.texts.cut_bytes.Tie as tie
+use Rattle.trials.proofs.faults.cut_bytes.Statement.{statement}
+use Rattle.trials.proofs.faults.cut_bytes.Tie as tie
 
 returns : tie.Need-returns
 returns c = search needs
