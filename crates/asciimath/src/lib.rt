@@ -25,6 +25,13 @@ fn put(answer: &mut [u64], i: usize, value: u64)
     }
 }
 
+// A refusal, by its number.
+fn refusal(k: u8) -> u32
+    ensures { λ r. ⌜ r ≡ k ⌝ }
+{
+    k as u32
+}
+
 // Writes the text's token list into the table. Values: tokens.
 #[no_mangle]
 pub extern "C" fn asciimath_tokens(text: &[u8], table: &mut [u32], answer: &mut [u64]) -> u32
@@ -36,7 +43,7 @@ pub extern "C" fn asciimath_tokens(text: &[u8], table: &mut [u32], answer: &mut 
         ⌝ }
 {
     match tokenize(text, table) {
-        Tokenized::Refused(k) => k as u32,
+        Tokenized::Refused(k) => refusal(k),
         Tokenized::Tokens(tokens) => {
             put(answer, 0, tokens as u64);
             0
@@ -54,7 +61,7 @@ pub extern "C" fn asciimath_count(text: &[u8], answer: &mut [u64]) -> u32
         ⌝ }
 {
     match count_tokens(text) {
-        Counted::Refused(k) => k as u32,
+        Counted::Refused(k) => refusal(k),
         Counted::Tokens { all, others } => {
             put(answer, 0, all as u64);
             put(answer, 1, others as u64);
@@ -83,7 +90,7 @@ pub extern "C" fn asciimath_parse(
         ⌝ }
 {
     match parse(text, table, work, tree) {
-        Parsed::Refused(k) => k as u32,
+        Parsed::Refused(k) => refusal(k),
         Parsed::Read {
             tokens,
             takes,
@@ -119,7 +126,7 @@ pub extern "C" fn asciimath_parse_tokens(
         ⌝ }
 {
     match parse_tokens(text, table, count, work, tree) {
-        ParsedTokens::Refused(k) => k as u32,
+        ParsedTokens::Refused(k) => refusal(k),
         ParsedTokens::Read {
             takes,
             items,
@@ -154,7 +161,7 @@ pub extern "C" fn asciimath_print(
         ⌝ }
 {
     match print(text, table, work, tree, out) {
-        Printed::Refused(k) => k as u32,
+        Printed::Refused(k) => refusal(k),
         Printed::Whole { len, takes, blank } => {
             put(answer, 0, len as u64);
             put(answer, 1, takes);

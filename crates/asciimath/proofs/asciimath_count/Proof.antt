@@ -17,8 +17,8 @@ enum-known-k : tie.Need-enum-known-k
 enum-known-k c = search needs
 
 -- src/lib.rt:54:32
-cast-result : tie.Need-cast-result
-cast-result c = search needs
+refusal-requires : tie.Need-refusal-requires
+refusal-requires c κs = search needs
 
 -- src/lib.rt:55:27
 enum-known-all : tie.Need-enum-known-all
@@ -35,9 +35,9 @@ put-requires-2 c κs = search needs
 -- src/lib.rt:45:1
 returns : tie.Need-returns
 returns c =
-    let S = c .before .before .before .before .before .before in
-    let h = sym (ap countOf (c .before .k .given .1)) ∙ c .before .before .before .count-tokens .ensures in
-    (refused-code _ h, refused-values _ (S .args .answer .now) h)
+    let S = c .before .before .before .before .before .before .before in
+    let h = sym (ap countOf (c .before .before .k .given .1)) ∙ c .before .before .before .before .count-tokens .ensures in
+    (c .refusal .ensures ∙ refused-code _ h, refused-values _ (S .args .answer .now) h)
 
 -- src/lib.rt:45:1
 same-length : tie.Need-same-length
@@ -56,7 +56,7 @@ asciimath-count-spec =
     (tie.spec
     count-tokens-requires
     enum-known-k
-    cast-result
+    refusal-requires
     enum-known-all
     put-requires
     put-requires-2

@@ -17,8 +17,8 @@ enum-known-k : tie.Need-enum-known-k
 enum-known-k c = search needs
 
 -- src/lib.rt:83:31
-cast-result : tie.Need-cast-result
-cast-result c = search needs
+refusal-requires : tie.Need-refusal-requires
+refusal-requires c κs = search needs
 
 -- src/lib.rt:85:13
 enum-known-tokens : tie.Need-enum-known-tokens
@@ -63,9 +63,9 @@ same-length-3 c = search needs
 -- src/lib.rt:64:1
 returns : tie.Need-returns
 returns c =
-    let S = c .before .before .before .before .before .before .before .before .before .before .before .before .before .before .before .before .before .before in
-    let h = sym (ap answerOf (c .before .k .given .1)) ∙ ap (λ (p : Answer × List ℕ × List ℕ × List ℕ). p .0) (c .before .before .before .before .before .before .before .before .before .parse .ensures) in
-    (refused-code _ h, ap (λ (p : Answer × List ℕ × List ℕ × List ℕ). p .1) (c .before .before .before .before .before .before .before .before .before .parse .ensures), ap (λ (p : Answer × List ℕ × List ℕ × List ℕ). p .2) (c .before .before .before .before .before .before .before .before .before .parse .ensures), ap (λ (p : Answer × List ℕ × List ℕ × List ℕ). p .3) (c .before .before .before .before .before .before .before .before .before .parse .ensures), refused-values _ (S .args .answer .now) h)
+    let S = c .before .before .before .before .before .before .before .before .before .before .before .before .before .before .before .before .before .before .before in
+    let h = sym (ap answerOf (c .before .before .k .given .1)) ∙ ap (λ (p : Answer × List ℕ × List ℕ × List ℕ). p .0) (c .before .before .before .before .before .before .before .before .before .before .parse .ensures) in
+    (c .refusal .ensures ∙ refused-code _ h, ap (λ (p : Answer × List ℕ × List ℕ × List ℕ). p .1) (c .before .before .before .before .before .before .before .before .before .before .parse .ensures), ap (λ (p : Answer × List ℕ × List ℕ × List ℕ). p .2) (c .before .before .before .before .before .before .before .before .before .before .parse .ensures), ap (λ (p : Answer × List ℕ × List ℕ × List ℕ). p .3) (c .before .before .before .before .before .before .before .before .before .before .parse .ensures), refused-values _ (S .args .answer .now) h)
 
 -- src/lib.rt:64:1
 same-length-4 : tie.Need-same-length-4
@@ -96,7 +96,7 @@ asciimath-parse-spec =
     (tie.spec
     parse-requires
     enum-known-k
-    cast-result
+    refusal-requires
     enum-known-tokens
     put-requires
     put-requires-2

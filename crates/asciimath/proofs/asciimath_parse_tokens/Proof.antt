@@ -17,8 +17,8 @@ enum-known-k : tie.Need-enum-known-k
 enum-known-k c = search needs
 
 -- src/lib.rt:119:37
-cast-result : tie.Need-cast-result
-cast-result c = search needs
+refusal-requires : tie.Need-refusal-requires
+refusal-requires c κs = search needs
 
 -- src/lib.rt:121:13
 enum-known-takes : tie.Need-enum-known-takes
@@ -55,9 +55,9 @@ same-length-2 c = search needs
 -- src/lib.rt:100:1
 returns : tie.Need-returns
 returns c =
-    let S = c .before .before .before .before .before .before .before .before .before .before .before .before .before .before .before in
-    let h = sym (ap listAnswerOf (c .before .k .given .1)) ∙ ap (λ (p : Answer × List ℕ × List ℕ). p .0) (c .before .before .before .before .before .before .before .parse-tokens .ensures) in
-    (refused-code _ h, ap (λ (p : Answer × List ℕ × List ℕ). p .1) (c .before .before .before .before .before .before .before .parse-tokens .ensures), ap (λ (p : Answer × List ℕ × List ℕ). p .2) (c .before .before .before .before .before .before .before .parse-tokens .ensures), refused-values _ (S .args .answer .now) h)
+    let S = c .before .before .before .before .before .before .before .before .before .before .before .before .before .before .before .before in
+    let h = sym (ap listAnswerOf (c .before .before .k .given .1)) ∙ ap (λ (p : Answer × List ℕ × List ℕ). p .0) (c .before .before .before .before .before .before .before .before .parse-tokens .ensures) in
+    (c .refusal .ensures ∙ refused-code _ h, ap (λ (p : Answer × List ℕ × List ℕ). p .1) (c .before .before .before .before .before .before .before .before .parse-tokens .ensures), ap (λ (p : Answer × List ℕ × List ℕ). p .2) (c .before .before .before .before .before .before .before .before .parse-tokens .ensures), refused-values _ (S .args .answer .now) h)
 
 -- src/lib.rt:100:1
 same-length-3 : tie.Need-same-length-3
@@ -84,7 +84,7 @@ asciimath-parse-tokens-spec =
     (tie.spec
     parse-tokens-requires
     enum-known-k
-    cast-result
+    refusal-requires
     enum-known-takes
     put-requires
     cast-put

@@ -17,8 +17,8 @@ enum-known-k : tie.Need-enum-known-k
 enum-known-k c = search needs
 
 -- src/lib.rt:157:32
-cast-result : tie.Need-cast-result
-cast-result c = search needs
+refusal-requires : tie.Need-refusal-requires
+refusal-requires c κs = search needs
 
 -- src/lib.rt:158:26
 enum-known-len : tie.Need-enum-known-len
@@ -59,9 +59,9 @@ same-length-4 c = search needs
 -- src/lib.rt:137:1
 returns : tie.Need-returns
 returns c =
-    let S = c .before .before .before .before .before .before .before .before .before .before .before .before .before .before .before .before .before .before .before .before .before .before in
-    let h = sym (ap answerOf (c .before .k .given .1)) ∙ ap (λ (p : Answer × List ℕ × List ℕ × List ℕ × List ℕ). p .0) (c .before .before .before .before .before .before .before .before .before .before .before .print .ensures) in
-    (refused-code _ h, ap (λ (p : Answer × List ℕ × List ℕ × List ℕ × List ℕ). p .1) (c .before .before .before .before .before .before .before .before .before .before .before .print .ensures), ap (λ (p : Answer × List ℕ × List ℕ × List ℕ × List ℕ). p .2) (c .before .before .before .before .before .before .before .before .before .before .before .print .ensures), ap (λ (p : Answer × List ℕ × List ℕ × List ℕ × List ℕ). p .3) (c .before .before .before .before .before .before .before .before .before .before .before .print .ensures), ap (λ (p : Answer × List ℕ × List ℕ × List ℕ × List ℕ). p .4) (c .before .before .before .before .before .before .before .before .before .before .before .print .ensures), refused-values _ (S .args .answer .now) h)
+    let S = c .before .before .before .before .before .before .before .before .before .before .before .before .before .before .before .before .before .before .before .before .before .before .before in
+    let h = sym (ap answerOf (c .before .before .k .given .1)) ∙ ap (λ (p : Answer × List ℕ × List ℕ × List ℕ × List ℕ). p .0) (c .before .before .before .before .before .before .before .before .before .before .before .before .print .ensures) in
+    (c .refusal .ensures ∙ refused-code _ h, ap (λ (p : Answer × List ℕ × List ℕ × List ℕ × List ℕ). p .1) (c .before .before .before .before .before .before .before .before .before .before .before .before .print .ensures), ap (λ (p : Answer × List ℕ × List ℕ × List ℕ × List ℕ). p .2) (c .before .before .before .before .before .before .before .before .before .before .before .before .print .ensures), ap (λ (p : Answer × List ℕ × List ℕ × List ℕ × List ℕ). p .3) (c .before .before .before .before .before .before .before .before .before .before .before .before .print .ensures), ap (λ (p : Answer × List ℕ × List ℕ × List ℕ × List ℕ). p .4) (c .before .before .before .before .before .before .before .before .before .before .before .before .print .ensures), refused-values _ (S .args .answer .now) h)
 
 -- src/lib.rt:137:1
 same-length-5 : tie.Need-same-length-5
@@ -96,7 +96,7 @@ asciimath-print-spec =
     (tie.spec
     print-requires
     enum-known-k
-    cast-result
+    refusal-requires
     enum-known-len
     put-requires
     put-requires-2

@@ -17,8 +17,8 @@ enum-known-k : tie.Need-enum-known-k
 enum-known-k c = search needs
 
 -- src/lib.rt:36:34
-cast-result : tie.Need-cast-result
-cast-result c = search needs
+refusal-requires : tie.Need-refusal-requires
+refusal-requires c κs = search needs
 
 -- src/lib.rt:37:27
 enum-known-tokens : tie.Need-enum-known-tokens
@@ -35,9 +35,9 @@ same-length c = search needs
 -- src/lib.rt:26:1
 returns : tie.Need-returns
 returns c =
-    let S = c .before .before .before .before .before .before .before .before .before .before in
-    let h = sym (ap answerOf (c .before .k .given .1)) ∙ ap (λ (p : Answer × List ℕ). p .0) (c .before .before .before .before .before .tokenize .ensures) in
-    (refused-code _ h, ap (λ (p : Answer × List ℕ). p .1) (c .before .before .before .before .before .tokenize .ensures), refused-values _ (S .args .answer .now) h)
+    let S = c .before .before .before .before .before .before .before .before .before .before .before in
+    let h = sym (ap answerOf (c .before .before .k .given .1)) ∙ ap (λ (p : Answer × List ℕ). p .0) (c .before .before .before .before .before .before .tokenize .ensures) in
+    (c .refusal .ensures ∙ refused-code _ h, ap (λ (p : Answer × List ℕ). p .1) (c .before .before .before .before .before .before .tokenize .ensures), refused-values _ (S .args .answer .now) h)
 
 -- src/lib.rt:26:1
 same-length-2 : tie.Need-same-length-2
@@ -60,7 +60,7 @@ asciimath-tokens-spec =
     (tie.spec
     tokenize-requires
     enum-known-k
-    cast-result
+    refusal-requires
     enum-known-tokens
     put-requires
     same-length
