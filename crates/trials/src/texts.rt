@@ -124,11 +124,11 @@ pub(crate) fn short_print() -> bool {
     let mut work = [7u32; 15];
     let mut tree = [7u32; 100];
     let printed = print::print(b"a b", &mut table, &mut work, &mut tree, &mut [7; 185]);
-    is_accepted(print_answer(printed), &table, &work, &tree)
+    is_short(print_answer(printed), &table, &work, &tree)
 }
 
-// Whether a call answered 10 and left the buffers as after acceptance.
-fn is_accepted(number: u8, table: &[u32], work: &[u32], tree: &[u32]) -> bool {
+// Whether the answer is 10 and the buffers are as after acceptance.
+fn is_short(number: u8, table: &[u32], work: &[u32], tree: &[u32]) -> bool {
     number == 10 && all_words(work, 0) && is_parsed(table, tree)
 }
 
