@@ -1,61 +1,13 @@
--- The test of a cell's words, and of bytes of the text, is the definition's.
+-- The test of a cell's words is the definition's.
 use mathlib.Core.Path.{_≡_, refl, ap, sym, _∙_}
 use mathlib.Core.List.{List, [], _∷_}
 use mathlib.Core.Bool.{Bool, true, false, _&&_}
-use Prim.Native.Nat.{ℕ, zero, suc, _+_, _-_, _≤_, _<_}
+use Prim.Native.Nat.{ℕ, zero, suc, _+_, _≤_, _<_}
 use native.Mathlib.Omega.{arith}
-use lib.ListN.{length, take, drop, getD, length-drop, drop-of-length-le}
-use lib.Seq.{drop-cons, take-nil, getD-take, getD-drop, length-take-le}
-use lib.Dec.{eqb}
-use borrow.Author.Tests.{eq-eqb, ne-eqb, eqb-true, eqb-false}
-use Rattle.reading.specs.Reading.{same}
+use lib.ListN.{length, take, drop, getD, length-drop}
+use lib.Seq.{getD-take, getD-drop, length-take-le}
+use Rattle.lexing.specs.Rules.{same}
 use Rattle.columns.specs.Columns.{cellLen, loneSymbol, isLine}
-
--- the text of a span is the byte b
-module _ (X : List ℕ) (b i : ℕ) where
-  abbrev Byte : ℕ → Bool
-  Byte n = same (take n (drop i X)) (b ∷ [])
-
-  pub byte-none : (n : ℕ) → n ≡ 0 → false ≡ Byte n
-  unfolding same
-  byte-none n e = rw e refl
-
-  pub byte-past : (n : ℕ) → length X ≤ i → false ≡ Byte n
-  unfolding same
-  byte-past n h = sym (ap (λ (r : List ℕ). same (take n r) (b ∷ [])) (drop-of-length-le X {i = i} h) ∙ ap (λ (r : List ℕ). same r (b ∷ [])) (take-nil n))
-
-  byte-at : (m : ℕ) → i < length X → Byte (suc m) ≡ (eqb (getD X i 0) b && same (take m (drop (suc i) X)) [])
-  unfolding same
-  byte-at m h = ap (λ (r : List ℕ). same (take (suc m) r) (b ∷ [])) (drop-cons X i 0 h)
-
-  pub byte-other : (n : ℕ) → i < length X → (getD X i 0 ≡ b → ⊥) → (n ≡ 0 → ⊥) → false ≡ Byte n
-  byte-other zero h q z = absurd (z refl)
-  byte-other (suc m) h q z = sym (byte-at m h ∙ ap (λ (t : Bool). t && same (take m (drop (suc i) X)) []) (ne-eqb _ _ q))
-
-  pub byte-one : (n : ℕ) → i < length X → getD X i 0 ≡ b → n ≡ 1 → true ≡ Byte n
-  unfolding same
-  byte-one n h q z = sym (ap Byte z ∙ byte-at 0 h ∙ ap (λ (t : Bool). t && same [] []) (eq-eqb _ _ q))
-
-  last : i < length X → eqb (length X) (i + 1) ≡ eqb (length X - suc i) 0
-  last h = go (eqb (length X) (i + 1)) refl
-    where
-      go : (e : Bool) → eqb (length X) (i + 1) ≡ e → eqb (length X) (i + 1) ≡ eqb (length X - suc i) 0
-      go true p = p ∙ sym (eq-eqb (length X - suc i) 0 (omega (arith, eqb-true (length X) (i + 1) p)))
-      go false p = p ∙ sym (ne-eqb (length X - suc i) 0 (λ e. eqb-false (length X) (i + 1) p (omega arith)))
-
-  tail : (m : ℕ) (r : List ℕ) → same (take (suc m) r) [] ≡ eqb (length r) 0
-  unfolding same
-  tail m [] = refl
-  tail m (x ∷ r) = sym (ne-eqb (suc (length r)) 0 (λ e. omega arith))
-
-  pub byte-more : (n : ℕ) → i < length X → getD X i 0 ≡ b → (n ≡ 0 → ⊥) → (n ≡ 1 → ⊥) → eqb (length X) (i + 1) ≡ Byte n
-  byte-more zero h q y z = absurd (y refl)
-  byte-more (suc zero) h q y z = absurd (z refl)
-  byte-more (suc (suc m)) h q y z =
-      last h
-      ∙ ap (λ (k : ℕ). eqb k 0) (sym (length-drop (suc i) X))
-      ∙ sym (tail m (drop (suc i) X))
-      ∙ sym (byte-at (suc m) h ∙ ap (λ (t : Bool). t && same (take (suc m) (drop (suc i) X)) []) (eq-eqb _ _ q))
 
 -- the cell at `at`, which is there whole
 module _ (X x : List ℕ) (at : ℕ) (h : at + cellLen x at ≤ length x) where

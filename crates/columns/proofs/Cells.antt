@@ -2,11 +2,11 @@
 use mathlib.Core.Path.{_≡_, refl, ap, sym, _∙_}
 use mathlib.Core.List.{List}
 use mathlib.Core.Bool.{Bool, true, false}
-use Prim.Native.Nat.{ℕ, zero, suc, _+_, _-_, _≤_, _<_}
+use Prim.Native.Nat.{ℕ, zero, suc, _+_, _≤_, _<_}
 use native.Mathlib.Omega.{arith}
 use lib.ListN.{length, take, drop}
-use lib.Dec.{eqb, leb}
-use borrow.Author.Tests.{eqb-true, eqb-false, eq-eqb, ne-eqb, leb-true, leb-false, le-leb, lt-leb}
+use lib.Dec.{eqb}
+use borrow.Author.Tests.{eqb-true, eqb-false, eq-eqb, ne-eqb}
 use Rattle.tree.specs.Words.{pick}
 use Rattle.columns.specs.Columns.{cellLen, cellsEnd, cellsFrom, next}
 use Rattle.columns.proofs.Buffer.{Same, part-same}
@@ -23,14 +23,6 @@ next-last cols j e = ap (λ (b : Bool). pick b 0 (j + 1)) (eq-eqb (j + 1) cols e
 
 pub next-more : (cols j : ℕ) → (j + 1 ≡ cols → ⊥) → next cols j ≡ j + 1
 next-more cols j e = ap (λ (b : Bool). pick b 0 (j + 1)) (ne-eqb (j + 1) cols e)
-
--- a test of a sum without the sum
-pub within : (len i n : ℕ) → n ≤ len → leb i (len - n) ≡ leb (i + n) len
-within len i n h = go (leb i (len - n)) refl
-  where
-    go : (b : Bool) → leb i (len - n) ≡ b → leb i (len - n) ≡ leb (i + n) len
-    go true p = p ∙ sym (le-leb (i + n) len (omega (arith, leb-true i (len - n) p)))
-    go false p = p ∙ sym (lt-leb (i + n) len (omega (arith, leb-false i (len - n) p)))
 
 -- by the lengths in the headers
 pub cells-le : (x : List ℕ) (n at : ℕ) → at ≤ cellsEnd x at n

@@ -1,8 +1,8 @@
 // A flag for each column, past the cells: 1 for a column whose every cell is a column line, else 0.
 use crate::line::cell_within;
-use crate::line::fits;
 use crate::line::is_column_line;
 use crate::line::word;
+use buffer::fits;
 ghost use mathlib.Core.Path.{_≡_};
 ghost use mathlib.Core.Bool.{true};
 ghost use Prim.Native.Nat.{_+_, _≤_, _<_};

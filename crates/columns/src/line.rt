@@ -1,11 +1,11 @@
 // Cells by their words: their lengths, and which are column lines.
+use buffer::fits;
+use spans::is_span_byte;
 ghost use mathlib.Core.Path.{_≡_};
-ghost use mathlib.Core.List.{[], _∷_};
 ghost use Prim.Native.Nat.{_+_, _≤_, _<_};
 ghost use lib.ListN.{length, getD, take, drop};
 ghost use lib.Dec.{leb};
 ghost use Rattle.tree.specs.Words.{pick};
-ghost use Rattle.reading.specs.Reading.{same};
 ghost use Rattle.columns.specs.Columns.{cellLen, loneSymbol, isLine};
 
 // kinds of nodes: docs/LAYOUT.md
@@ -28,13 +28,6 @@ pub(crate) fn cell_len(tree: &[u32], at: usize) -> usize
     6 + word(tree, at, 4) as usize
 }
 
-// n words from i on are within `len`.
-pub(crate) fn fits(len: usize, i: usize, n: usize) -> bool
-    ensures { λ r. ⌜ r ≡ leb (i + n) len ⌝ }
-{
-    if n <= len { i <= len - n } else { false }
-}
-
 // The length of the cell at `at`, or 0 if it passes `end`.
 pub(crate) fn cell_within(tree: &[u32], at: usize, end: usize) -> usize
     requires { ⌜ end ≤ length (now tree) ⌝ }
@@ -45,24 +38,6 @@ pub(crate) fn cell_within(tree: &[u32], at: usize, end: usize) -> usize
         if fits(end, at, n) { n } else { 0 }
     } else {
         0
-    }
-}
-
-// Whether the text of a span is the byte b.
-fn is_byte(text: &[u8], b: u8, start: u32, len: u32) -> bool
-    ensures { λ r. ⌜ r ≡ same (take len (drop start (now (text .entry)))) (b ∷ []) ⌝ }
-{
-    let at = start as usize;
-    if len == 0 {
-        false
-    } else if at < text.len() {
-        if text[at] == b {
-            if len == 1 { true } else { text.len() == at + 1 }
-        } else {
-            false
-        }
-    } else {
-        false
     }
 }
 
@@ -87,7 +62,9 @@ pub(crate) fn is_column_line(text: &[u8], tree: &[u32], at: usize) -> bool
         word(tree, at, 10),
         word(tree, at, 13),
     ) {
-        is_byte(text, b'|', word(tree, at, 14), word(tree, at, 15))
+        let start = word(tree, at, 14) as usize;
+        let len = word(tree, at, 15) as usize;
+        is_span_byte(text, start, len, b'|')
     } else {
         false
     }

@@ -1,10 +1,14 @@
--- The words of the leaves that the readers write. t are the words of the token table, K the work words.
+-- The words of nodes that stand for one entry. t are the words of the token table, K the work words.
 use Prim.Native.Nat.{ℕ, _-_}
 use mathlib.Core.List.{List, [], _∷_}
 use mathlib.Core.Bool.{Bool, true, false}
 use lib.Dec.{eqb, ltb}
 use Rattle.tree.specs.Words.{pick}
-use Rattle.nodes.specs.Nodes.{nodeWords}
+use Rattle.records.specs.Record.{startOf, lenOf}
+
+-- a node of the entry i, of this kind and with this word
+abbrev pub nodeWords : List ℕ → List ℕ → ℕ → ℕ → ℕ → List ℕ
+nodeWords t K i kind extra = kind ∷ startOf t K i ∷ lenOf t K i ∷ extra ∷ 0 ∷ 0 ∷ []
 
 -- a leaf's node kind (Number to Operator 1 to 4, Sign 5, any other token a symbol, 7), its class, and whether it ends an operand, by
 -- the kind of its token

@@ -1,10 +1,28 @@
-// Leaves: the nodes with no node below.
+// The words of a node that stands for one entry, and the leaves, which have no node below.
 use buffer::fits;
 use buffer::put6;
-use nodes::put_node;
+use records::record::len_at;
+use records::record::start_at;
 ghost use mathlib.Core.Path.{_≡_};
 ghost use Rattle.buffer.specs.Buffer.{stored};
-ghost use Rattle.leaves.specs.Leaves.{leafKind, leafClass, leafEnds, leafWords, plainWords};
+ghost use Rattle.leaves.specs.Leaves.{nodeWords, leafKind, leafClass, leafEnds, leafWords, plainWords};
+
+// A node of the entry i: its kind, its span and one word more.
+pub fn put_node(
+    tok: &[u32],
+    work: &[u32],
+    tree: &mut [u32],
+    e: usize,
+    kind: u32,
+    i: usize,
+    extra: u32,
+)
+    ensures { λ _. ⌜ now (tree .exit) ≡ stored (now (tree .entry)) e (nodeWords (now (tok .entry)) (now (work .entry)) i kind extra) ⌝ }
+{
+    let start = start_at(tok, work, i);
+    let len = len_at(tok, work, i);
+    put6(tree, e, kind, start, len, extra, 0, 0);
+}
 
 // A leaf's node kind, its class, and whether it ends an operand, by the kind of its token.
 fn leaf_kind(k: u32) -> u32

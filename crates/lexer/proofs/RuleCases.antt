@@ -13,16 +13,15 @@ use Rattle.tokens.specs.declared.token.Token.the-variants.{Number, Text, Ident,
 use Rattle.tokens.specs.Bytes.{bytes}
 use Rattle.tokens.specs.Lexeme.{lexeme}
 use Rattle.lexing.specs.Spellings.{rows}
-use Rattle.lexing.specs.Longest.{begins, longestAt}
+use Rattle.lexing.specs.Longest.{longestAt}
 use Rattle.lexer.specs.Constants.{rowOf, spellingOf}
 use Rattle.lexing.specs.Rules.{Read, alone, runEnd, blank, digit, letter, other, blanksAt, closer, literalAt, commandAt, same, isTextCommand, spellingAt, numberEnd, pastPoint, numberAt, quotationAt, byteAt, readAt}
 use Rattle.lexer.specs.Coded.{fromQuotation, fromNumber, fromRow}
 use Rattle.tokens.proofs.Cases.{by-test, by-lt, by-eq, clash}
 use Rattle.lexing.proofs.Runs.{run-from, run-more, run-stop}
-use Rattle.lexing.proofs.Begins.{begins-cons}
 use Rattle.lexing.proofs.Order.{before-strict}
 use Rattle.lexer.proofs.Sorted.{in-order}
-use Rattle.lexing.proofs.Moves.{past-on, command-length}
+use Rattle.lexing.proofs.Moves.{past-on, same-is, command-length}
 
 -- one token, which starts at a place and ends before the next
 abbrev pub one : ℕ → ℕ → Token → ℕ → Read
@@ -184,20 +183,6 @@ module _ (text : List ℕ) (at b : ℕ) (h : b ≡ runEnd blank text (at + 4)) w
   command-past l = command-none 0 (sym (ap closer (List·getD-eq-default text 0 {n = b} l))) refl
 
 -- rule 2: the rows of the text commands
-begins-both : (a b : List ℕ) → begins a b ≡ true → begins b a ≡ true → a ≡ b
-unfolding begins
-begins-both [] [] p q = refl
-begins-both [] (y ∷ b) p q = clash false q refl
-begins-both (x ∷ a) [] p q = clash false p refl
-begins-both (x ∷ a) (y ∷ b) p q =
-    let u = begins-cons x y a b p in
-    rw (u .0, begins-both a b (u .1) (begins-cons y x b a q .1))
-
-same-is : (a b : List ℕ) → same a b ≡ true → a ≡ b
-unfolding same
-same-is a b e =
-    by-test (begins a b) (λ p. begins-both a b p (rw (p, same) at e)) (λ p. clash false (rw (p, same) at e) refl)
-
 one-row : (i j : ℕ) → i < 429 → j < 429 → spellingOf i ≡ spellingOf j → i ≡ j
 one-row i j h l e =
     by-lt i j (λ m. absurd (before-strict (spellingOf j) (rw e at (in-order i j m l))))
@@ -213,11 +198,11 @@ mbox-row = (refl, refl)
 
 module _ (k : ℕ) where
   pub command-text : k ≡ 373 → isTextCommand (spellingOf k) ≡ true
-  unfolding isTextCommand same begins
+  unfolding isTextCommand same
   command-text e = rw (e, text-row .0)
 
   pub command-mbox : k ≡ 272 → isTextCommand (spellingOf k) ≡ true
-  unfolding isTextCommand same begins
+  unfolding isTextCommand same
   command-mbox e = rw (e, mbox-row .0)
 
   module _ (l : k < 429) where

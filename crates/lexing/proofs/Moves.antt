@@ -7,17 +7,16 @@ use Prim.Native.Nat.{ℕ, suc, _+_, _-_, _≤_, _<_}
 use native.Mathlib.Omega.{arith}
 use lib.Dec.{eqb}
 use lib.ListN.{length, getD, List·getD-eq-default}
-use borrow.Author.Tests.{lt-ltb, le-ltb, eq-eqb, ne-eqb}
+use borrow.Author.Tests.{lt-ltb, le-ltb, eq-eqb, ne-eqb, eqb-true}
 use Rattle.tokens.specs.declared.token.Token.{Token}
 use Rattle.tokens.specs.declared.token.Token.the-variants.{Space}
 use Rattle.tokens.specs.Bytes.{bytes}
 use Rattle.tokens.specs.Kinds.{numberOf}
 use Rattle.tokens.specs.Lexeme.{Lexeme}
-use Rattle.lexing.specs.Longest.{Numbered, begins, longestAt}
+use Rattle.lexing.specs.Longest.{Numbered, longestAt}
 use Rattle.lexing.specs.Rules.{Read, alone, runEnd, blank, digit, letter, other, blanksAt, closer, literalAt, commandAt, same, isTextCommand, spellingAt, numberEnd, pastPoint, numberAt, quotationAt, byteAt, readAt}
 use Rattle.tokens.proofs.Cases.{by-test, by-lt, by-eq, by-option, clash, Given}
 use Rattle.lexing.proofs.Runs.{run-from, run-within}
-use Rattle.lexing.proofs.Begins.{begins-length}
 use Rattle.lexing.proofs.Rows.{FoundAt, found-at}
 
 -- the first token starts no earlier than one place, each other no earlier than the one before it ends, and the last ends by
@@ -48,17 +47,19 @@ by-rules P rule5 text at a b c d e =
     or-else P (blanksAt text at) _ a
     (or-else P (spellingAt text at) _ b (or-else P (numberAt text at) _ c (or-else P (quotationAt text at) _ d e)))
 
-same-length : (a b : List ℕ) → same a b ≡ true → length a ≡ length b
+pub same-is : (a b : List ℕ) → same a b ≡ true → a ≡ b
 unfolding same
-same-length a b p =
-    by-test (begins a b) (λ e. omega (arith, begins-length a b e, begins-length b a (rw (e, same) at p)))
-    (λ e. clash false (rw (e, same) at p) refl)
+same-is [] [] e = refl
+same-is [] (y ∷ b) e = clash false e refl
+same-is (x ∷ a) [] e = clash false e refl
+same-is (x ∷ a) (y ∷ b) e =
+    by-test (eqb x y) (λ h. rw (eqb-true x y h, same-is a b (rw h at e))) (λ h. clash false (rw h at e) refl)
 
 pub command-length : (s : List ℕ) → isTextCommand s ≡ true → length s ≡ 4
 unfolding isTextCommand
 command-length s p =
-    by-test (same s (bytes "text")) (λ e. same-length s (bytes "text") e)
-    (λ e. same-length s (bytes "mbox") (rw (e, isTextCommand) at p))
+    by-test (same s (bytes "text")) (λ e. ap length (same-is s (bytes "text") e))
+    (λ e. ap length (same-is s (bytes "mbox") (rw (e, isTextCommand) at p)))
 
 -- what holds of a text command and of any other spelling holds of the second rule
 pub by-spelling : (P : Read → Type 0) (text : List ℕ) (at : ℕ)

@@ -9,7 +9,7 @@ use Rattle.tokens.specs.declared.token.Token.{Token}
 use Rattle.tokens.specs.declared.token.Token.the-variants.{Number, Text, Ident, Operator, OpenBracket, CloseBracket, Space}
 use Rattle.tokens.specs.Bytes.{bytes}
 use Rattle.tokens.specs.Lexeme.{Lexeme, lexeme}
-use Rattle.lexing.specs.Longest.{begins, longestAt}
+use Rattle.lexing.specs.Longest.{longestAt}
 
 -- What is read at a place: a token, those that wait behind it, and the next place.
 pub record Read : Type 0 where
@@ -88,8 +88,12 @@ commandAt text at n t =
     let c = closer (getD text b 0) in
     elim (eqb c 0) [ true ↦ alone at n t | false ↦ literalAt text at n t b c ]
 
+-- the same bytes
 unfoldable pub same : List ℕ → List ℕ → Bool
-same a b = elim (begins a b) [ true ↦ begins b a | false ↦ false ]
+same [] [] = true
+same [] (b ∷ t) = false
+same (a ∷ s) [] = false
+same (a ∷ s) (b ∷ t) = eqb a b && same s t
 
 -- the spelling is `text` or `mbox`
 unfoldable pub isTextCommand : List ℕ → Bool

@@ -7,10 +7,6 @@ use lib.Dec.{eqb, ltb}
 use Rattle.tree.specs.Words.{pick}
 use Rattle.records.specs.Record.{startOf, lenOf, spaceStart, spaceLen}
 
--- a node of the entry i, of this kind and with this word
-abbrev pub nodeWords : List ℕ → List ℕ → ℕ → ℕ → ℕ → List ℕ
-nodeWords t K i kind extra = kind ∷ startOf t K i ∷ lenOf t K i ∷ extra ∷ 0 ∷ 0 ∷ []
-
 -- a group from the bracket i to the bracket j; to none, if j is no entry: "An empty bracket that stands for no token is start 0,
 -- length 0."
 unfoldable pub groupWords : List ℕ → List ℕ → ℕ → ℕ → ℕ → ℕ → List ℕ

@@ -1,6 +1,7 @@
 // Nodes of the tree with nodes below them, and the Space between items: all the words of a node, or none.
 use buffer::fits;
 use buffer::put6;
+use leaves::put_node;
 use records::record::len_at;
 use records::record::start_at;
 use spaces::space_len;
@@ -9,24 +10,7 @@ ghost use mathlib.Core.Path.{_≡_};
 ghost use mathlib.Core.List.{[], _∷_};
 ghost use Rattle.records.specs.Record.{startOf, lenOf};
 ghost use Rattle.buffer.specs.Buffer.{stored};
-ghost use Rattle.nodes.specs.Nodes.{nodeWords, groupWords, matrixWords, gapWords, gapItems};
-
-// A node of the entry i: its kind, its span and one word more.
-pub fn put_node(
-    tok: &[u32],
-    work: &[u32],
-    tree: &mut [u32],
-    e: usize,
-    kind: u32,
-    i: usize,
-    extra: u32,
-)
-    ensures { λ _. ⌜ now (tree .exit) ≡ stored (now (tree .entry)) e (nodeWords (now (tok .entry)) (now (work .entry)) i kind extra) ⌝ }
-{
-    let start = start_at(tok, work, i);
-    let len = len_at(tok, work, i);
-    put6(tree, e, kind, start, len, extra, 0, 0);
-}
+ghost use Rattle.nodes.specs.Nodes.{groupWords, matrixWords, gapWords, gapItems};
 
 // A node from the bracket i to the bracket j: its kind, their spans, and how many nodes are below.
 fn put_between(

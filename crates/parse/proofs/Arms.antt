@@ -16,7 +16,7 @@ use Rattle.parse.specs.declared.cursor.Step.the-variants.{Found, Nothing
 use Rattle.parse.specs.declared.cursor.Part.{Part}
 use Rattle.parse.specs.Buffer.{Wrote}
 use Rattle.lookahead.specs.Tests.{testAt, isKind, marksKind}
-use Rattle.nodes.specs.Nodes.{nodeWords}
+use Rattle.leaves.specs.Leaves.{nodeWords}
 use Rattle.parse.specs.Meet.{Known, Simple, ScriptFunc, Argument, Operand, Scripts, Unary, Binary, prefixOf, onward, seen}
 use Rattle.parse.proofs.Buffer.{push, fill, seq, wrote-none}
 use Rattle.lookahead.proofs.Testing.{test-below}

@@ -16,7 +16,8 @@ use Rattle.tree.specs.Tree.{Head, Prefix, Node, end, leaf, one}
 use Rattle.tree.specs.Words.{encode, atomKind, classWord}
 use Rattle.reading.specs.Stop.{Stop}
 use Rattle.reading.specs.Entries.{Entry}
-use Rattle.reading.specs.Reading.{State, M, same, argument, begun, nextSimple, orMissing, endsOperand, look}
+use Rattle.reading.specs.Reading.{State, M, argument, begun, nextSimple, orMissing, endsOperand, look}
+use Rattle.lexing.specs.Rules.{same}
 use Rattle.parse.specs.declared.cursor.Cursor.{Cursor}
 use Rattle.parse.specs.declared.cursor.Step.the-variants.{Found, Nothing}
 use Rattle.parse.specs.declared.cursor.Part.{Part}

@@ -24,7 +24,8 @@ use Rattle.parse.specs.declared.cursor.Items.{Items}
 use Rattle.parse.specs.Buffer.{Wrote}
 use Rattle.records.specs.Record.{startOf, lenOf}
 use Rattle.lookahead.specs.Tests.{testAt, isKind, headsKind}
-use Rattle.nodes.specs.Nodes.{nodeWords, groupWords}
+use Rattle.leaves.specs.Leaves.{nodeWords}
+use Rattle.nodes.specs.Nodes.{groupWords}
 use Rattle.parse.specs.Meet.{Input, Row, At, Known, readers, Finds, Simple, ScriptFunc, Term, Intermediate, Operand, Scripts, Intermediates, Headed, OpenGroup, With, wordsOf, stopOf, scriptFuncAt, onward, seen, inner, atDepth, stepAt}
 use Rattle.parse.proofs.Buffer.{fill, seq, back, wrote-none}
 use Rattle.parse.proofs.Whole.{whole-items}

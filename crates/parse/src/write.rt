@@ -5,15 +5,15 @@ use crate::cursor::Part;
 use columns::Split;
 use leaves::leaf_ends;
 use leaves::put_leaf;
-use nodes::put_node;
+use leaves::put_node;
 ghost use mathlib.Core.Path.{_≡_};
 ghost use mathlib.Core.Bool.{true};
 ghost use mathlib.Core.List.{[], _∷_};
 ghost use Prim.Native.Nat.{_+_, _≤_};
 ghost use lib.ListN.{length};
 ghost use lib.Seq.{sets};
-ghost use Rattle.leaves.specs.Leaves.{leafEnds, leafWords};
-ghost use Rattle.nodes.specs.Nodes.{nodeWords, groupWords, matrixWords};
+ghost use Rattle.leaves.specs.Leaves.{nodeWords, leafEnds, leafWords};
+ghost use Rattle.nodes.specs.Nodes.{groupWords, matrixWords};
 ghost use Rattle.parse.specs.Columns.{SplitReady, Splits};
 ghost use Rattle.parse.specs.Meet.{Gapped};
 

@@ -9,7 +9,7 @@ use Rattle.tokens.specs.declared.token.SymbolClass.the-variants as class
 use Rattle.tokens.specs.declared.token.Token.{Token}
 use Rattle.tokens.specs.declared.token.Token.the-variants as token
 use Rattle.tokens.specs.Lexeme.{Span, Lexeme}
-use Rattle.lexing.specs.Rules.{tokens}
+use Rattle.lexing.specs.Rules.{same, tokens}
 use Rattle.tree.specs.Tree.{nowhere, Script, Head, Atom, Prefix, Node, node, Nodes, end, _▸_, _⧺_, count, leaf, one}
 use Rattle.reading.specs.Stop.{Stop}
 use Rattle.reading.specs.Entries.{Entry, is, entries, closeAfter, hasSep}
@@ -31,13 +31,6 @@ heads prefixSign e = is token.Function e || (prefixSign && is token.Sign e)
 
 unfoldable pub begins : Stop → Entry → Bool
 begins stop e = not (stops stop e || is token.CloseBracket e || is token.Space e)
-
--- "Matrix rows are `(` `)` or `[` `]` by their text": texts are compared by their bytes.
-unfoldable pub same : List ℕ → List ℕ → Bool
-same [] [] = true
-same [] (b ∷ t) = false
-same (a ∷ s) [] = false
-same (a ∷ s) (b ∷ t) = eqb a b && same s t
 
 -- Where the reading is, the takes so far, and what has failed: three marks for each entry, failed_opens for each of the two
 -- stops and failed_matrices.
@@ -229,7 +222,7 @@ module _ (text : List ℕ) (es : List Entry) where
   unfoldable pub textOf : Span → List ℕ
   textOf sp = take (sp .len) (drop (sp .start) text)
 
-  -- the text is this one byte, one of ( ) [ ] } |
+  -- "by their text": texts are compared by their bytes. This one is the byte b, one of ( ) [ ] } |
   unfoldable pub isByte : ℕ → Span → Bool
   isByte b sp = same (textOf sp) (b ∷ [])
 

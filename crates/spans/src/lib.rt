@@ -5,7 +5,7 @@ ghost use mathlib.Core.Path.{_≡_};
 ghost use mathlib.Core.List.{[], _∷_};
 ghost use Prim.Native.Nat.{_-_, _≤_};
 ghost use lib.ListN.{length};
-ghost use Rattle.reading.specs.Reading.{same};
+ghost use Rattle.lexing.specs.Rules.{same};
 ghost use Rattle.spans.specs.Spans.{bytesOf, sameSpan, sameAt, byteAt};
 
 // Two spans of l bytes in the text have the same.
@@ -62,7 +62,7 @@ pub fn same_text(text: &[u8], tok: &[u32], work: &[u32], i: usize, j: usize) -> 
 }
 
 // The text of a span is this one byte.
-fn is_span_byte(text: &[u8], at: usize, len: usize, byte: u8) -> bool
+pub fn is_span_byte(text: &[u8], at: usize, len: usize, byte: u8) -> bool
     ensures { λ r. ⌜ r ≡ same (bytesOf (now (text .entry)) at len) (byte ∷ []) ⌝ }
 {
     if span_len(text, at, len) == 1 {

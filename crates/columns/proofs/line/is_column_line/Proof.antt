@@ -30,17 +30,23 @@ is-lone-symbol-requires c κs = search needs
 word-requires-7 : tie.Need-word-requires-7
 word-requires-7 c κs = search needs
 
+cast-start : tie.Need-cast-start
+cast-start c = search needs
+
 word-requires-8 : tie.Need-word-requires-8
 word-requires-8 c κs = search needs
 
-is-byte-requires : tie.Need-is-byte-requires
-is-byte-requires c κs = search needs
+cast-len : tie.Need-cast-len
+cast-len c = search needs
+
+is-span-byte-requires : tie.Need-is-span-byte-requires
+is-span-byte-requires c κs = search needs
 
 returns : tie.Need-returns
 returns c = line-short (c .before .before .before .before .args .text .now) (c .before .before .before .before .args .tree .now) (c .before .before .before .before .args .at) (c .before .before .before .before .pre) (omega (arith, c .before .word .ensures))
 
 returns-2 : tie.Need-returns-2
-returns-2 c = let t = rw (c .before .before .before .before .before .before .before .before .before .word2 .ensures, c .before .before .before .before .before .before .before .before .word3 .ensures, c .before .before .before .before .before .before .before .word4 .ensures, c .before .before .before .before .before .before .word5 .ensures, c .before .before .before .before .before .word6 .ensures) at (sym (c .before .before .before .before .is-lone-symbol .ensures) ∙ c .before .before .before .if2 .taken) in c .is-byte .ensures ∙ rw (c .before .before .word7 .ensures, c .before .word8 .ensures) (line-lone (c .before .before .before .before .before .before .before .before .before .before .before .before .before .before .args .text .now) (c .before .before .before .before .before .before .before .before .before .before .before .before .before .before .args .tree .now) (c .before .before .before .before .before .before .before .before .before .before .before .before .before .before .args .at) (c .before .before .before .before .before .before .before .before .before .before .before .before .before .before .pre) (omega (arith, c .before .before .before .before .before .before .before .before .before .before .before .word .ensures)) t)
+returns-2 c = let t = rw (c .before .before .before .before .before .before .before .before .before .word2 .ensures, c .before .before .before .before .before .before .before .before .word3 .ensures, c .before .before .before .before .before .before .before .word4 .ensures, c .before .before .before .before .before .before .word5 .ensures, c .before .before .before .before .before .word6 .ensures) at (sym (c .before .before .before .before .is-lone-symbol .ensures) ∙ c .before .before .before .if2 .taken) in c .is-span-byte .ensures ∙ rw (c .before .before .word7 .ensures, c .before .word8 .ensures) (line-lone (c .before .before .before .before .before .before .before .before .before .before .before .before .before .before .args .text .now) (c .before .before .before .before .before .before .before .before .before .before .before .before .before .before .args .tree .now) (c .before .before .before .before .before .before .before .before .before .before .before .before .before .before .args .at) (c .before .before .before .before .before .before .before .before .before .before .before .before .before .before .pre) (omega (arith, c .before .before .before .before .before .before .before .before .before .before .before .word .ensures)) t)
 
 returns-3 : tie.Need-returns-3
 returns-3 c = let t = rw (c .before .before .before .before .before .before .word2 .ensures, c .before .before .before .before .before .word3 .ensures, c .before .before .before .before .word4 .ensures, c .before .before .before .word5 .ensures, c .before .before .word6 .ensures) at (sym (c .before .is-lone-symbol .ensures) ∙ c .if2 .left) in line-other (c .before .before .before .before .before .before .before .before .before .before .before .args .text .now) (c .before .before .before .before .before .before .before .before .before .before .before .args .tree .now) (c .before .before .before .before .before .before .before .before .before .before .before .args .at) (c .before .before .before .before .before .before .before .before .before .before .before .pre) (omega (arith, c .before .before .before .before .before .before .before .before .word .ensures)) t
@@ -57,8 +63,10 @@ is-column-line-spec =
     word-requires-6
     is-lone-symbol-requires
     word-requires-7
+    cast-start
     word-requires-8
-    is-byte-requires
+    cast-len
+    is-span-byte-requires
     returns
     returns-2
     returns-3)

@@ -1,7 +1,7 @@
 -- `put_node`: the six words.
 use borrow.Author.Needs.{needs}
-use Rattle.nodes.proofs.put_node.Statement.{statement}
-use Rattle.nodes.proofs.put_node.Tie as tie
+use Rattle.leaves.proofs.put_node.Statement.{statement}
+use Rattle.leaves.proofs.put_node.Tie as tie
 
 start-at-requires : tie.Need-start-at-requires
 start-at-requires c κs = search needs
