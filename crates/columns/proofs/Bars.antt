@@ -6,7 +6,7 @@ use Prim.Native.Nat.{ℕ, zero, suc, _+_, _≤_, _<_}
 use native.Mathlib.Omega.{arith}
 use lib.ListN.{length, take, drop, getD, length-drop}
 use lib.Seq.{getD-take, getD-drop, length-take-le}
-use Rattle.lexing.specs.Rules.{same}
+use Rattle.tokens.specs.Bytes.{same}
 use Rattle.columns.specs.Columns.{cellLen, loneSymbol, isLine}
 
 -- the cell at `at`, which is there whole

@@ -7,7 +7,7 @@ use lib.ListN.{length, getD, take, drop, set, replicate}
 use lib.Dec.{eqb, ltb, leb}
 use Rattle.tree.specs.Words.{pick}
 use Rattle.reading.specs.Reading.{keptCols, columnLines}
-use Rattle.lexing.specs.Rules.{same}
+use Rattle.tokens.specs.Bytes.{same}
 use Rattle.columns.specs.declared.Split.{Split}
 
 -- how long the cell at `at` is, by its header

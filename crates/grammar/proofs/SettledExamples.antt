@@ -6,11 +6,11 @@ use mathlib.Core.Path.{_≡_, refl}
 use mathlib.Core.List.{List, [], _∷_}
 use native.Mathlib.Omega.{arith}
 use Rattle.tokens.specs.declared.token.Token.the-variants as token
-use Rattle.tokens.specs.Bytes.{bytes}
+use Rattle.tokens.specs.Bytes.{bytes, same}
 use Rattle.tokens.specs.Lexeme.{Span, Lexeme, lexeme}
 use Rattle.lexing.specs.Longest.{begins, longestOf, longestAt}
 use Rattle.lexing.specs.Spellings.{rows}
-use Rattle.lexing.specs.Rules.{run, runEnd, blank, digit, letter, blanksAt, same, isTextCommand, spellingAt, numberEnd}
+use Rattle.lexing.specs.Rules.{run, runEnd, blank, digit, letter, blanksAt, isTextCommand, spellingAt, numberEnd}
 use Rattle.lexing.specs.Rules.{pastPoint, numberAt, quotationAt, byteAt, readAt, tokensFrom, tokensBy, tokens}
 use Rattle.tree.specs.Tree.{Script, Head, Atom, Prefix, Node, node, end, _▸_, leaf, one}
 use Rattle.grammar.specs.Grammar.{Constant, const, bracketed, unary, binary, bare, subsuper, more, fraction, alone}

@@ -10,12 +10,12 @@ use lib.ListN.{length, getD, List·getD-eq-default}
 use borrow.Author.Tests.{lt-ltb, le-ltb, lt-leb, le-leb, eq-eqb, ne-eqb, leb-true}
 use Rattle.tokens.specs.declared.token.Token.{Token}
 use Rattle.tokens.specs.declared.token.Token.the-variants.{Number, Text, Ident, Operator, Unary, OpenBracket, CloseBracket, Space}
-use Rattle.tokens.specs.Bytes.{bytes}
+use Rattle.tokens.specs.Bytes.{bytes, same}
 use Rattle.tokens.specs.Lexeme.{lexeme}
 use Rattle.lexing.specs.Spellings.{rows}
 use Rattle.lexing.specs.Longest.{longestAt}
 use Rattle.lexer.specs.Constants.{rowOf, spellingOf}
-use Rattle.lexing.specs.Rules.{Read, alone, runEnd, blank, digit, letter, other, blanksAt, closer, literalAt, commandAt, same, isTextCommand, spellingAt, numberEnd, pastPoint, numberAt, quotationAt, byteAt, readAt}
+use Rattle.lexing.specs.Rules.{Read, alone, runEnd, blank, digit, letter, other, blanksAt, closer, literalAt, commandAt, isTextCommand, spellingAt, numberEnd, pastPoint, numberAt, quotationAt, byteAt, readAt}
 use Rattle.lexer.specs.Coded.{fromQuotation, fromNumber, fromRow}
 use Rattle.tokens.proofs.Cases.{by-test, by-lt, by-eq, clash}
 use Rattle.lexing.proofs.Runs.{run-from, run-more, run-stop}

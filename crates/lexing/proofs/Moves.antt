@@ -10,11 +10,11 @@ use lib.ListN.{length, getD, List·getD-eq-default}
 use borrow.Author.Tests.{lt-ltb, le-ltb, eq-eqb, ne-eqb, eqb-true}
 use Rattle.tokens.specs.declared.token.Token.{Token}
 use Rattle.tokens.specs.declared.token.Token.the-variants.{Space}
-use Rattle.tokens.specs.Bytes.{bytes}
+use Rattle.tokens.specs.Bytes.{bytes, same}
 use Rattle.tokens.specs.Kinds.{numberOf}
 use Rattle.tokens.specs.Lexeme.{Lexeme}
 use Rattle.lexing.specs.Longest.{Numbered, longestAt}
-use Rattle.lexing.specs.Rules.{Read, alone, runEnd, blank, digit, letter, other, blanksAt, closer, literalAt, commandAt, same, isTextCommand, spellingAt, numberEnd, pastPoint, numberAt, quotationAt, byteAt, readAt}
+use Rattle.lexing.specs.Rules.{Read, alone, runEnd, blank, digit, letter, other, blanksAt, closer, literalAt, commandAt, isTextCommand, spellingAt, numberEnd, pastPoint, numberAt, quotationAt, byteAt, readAt}
 use Rattle.tokens.proofs.Cases.{by-test, by-lt, by-eq, by-option, clash, Given}
 use Rattle.lexing.proofs.Runs.{run-from, run-within}
 use Rattle.lexing.proofs.Rows.{FoundAt, found-at}

@@ -1,5 +1,5 @@
 -- The tokens of a text. Document 01, src/tokenizer.rs: "At each place, in order", rules 1 to 5.
-use mathlib.Core.Bool.{Bool, true, false, not, _||_, _&&_}
+use mathlib.Core.Bool.{Bool, true, false, not}
 use mathlib.Core.List.{List, [], _∷_, _++_}
 use mathlib.Core.Option.{Option, none, some}
 use Prim.Native.Nat.{ℕ, zero, suc, _+_, _-_}
@@ -7,7 +7,7 @@ use lib.Dec.{eqb, ltb, leb}
 use lib.ListN.{length, getD, drop}
 use Rattle.tokens.specs.declared.token.Token.{Token}
 use Rattle.tokens.specs.declared.token.Token.the-variants.{Number, Text, Ident, Operator, OpenBracket, CloseBracket, Space}
-use Rattle.tokens.specs.Bytes.{bytes}
+use Rattle.tokens.specs.Bytes.{bytes, same}
 use Rattle.tokens.specs.Lexeme.{Lexeme, lexeme}
 use Rattle.lexing.specs.Longest.{longestAt}
 
@@ -34,12 +34,15 @@ runEnd p text at = at + run p (drop at text)
 unfoldable pub blank : ℕ → Bool
 blank c = elim (leb 9 c) [ true ↦ elim (leb c 13) [ true ↦ true | false ↦ eqb c 32 ] | false ↦ false ]
 
+-- 0 to 9
 unfoldable pub digit : ℕ → Bool
 digit c = elim (leb 48 c) [ true ↦ leb c 57 | false ↦ false ]
 
+-- a to z, A to Z
 unfoldable pub letter : ℕ → Bool
 letter c = elim (leb 97 c) [ true ↦ leb c 122 | false ↦ elim (leb 65 c) [ true ↦ leb c 90 | false ↦ false ] ]
 
+-- any byte but b
 unfoldable pub other : ℕ → ℕ → Bool
 other b c = not (eqb c b)
 
@@ -87,13 +90,6 @@ commandAt text at n t =
     let b = runEnd blank text (at + n) in
     let c = closer (getD text b 0) in
     elim (eqb c 0) [ true ↦ alone at n t | false ↦ literalAt text at n t b c ]
-
--- the same bytes
-unfoldable pub same : List ℕ → List ℕ → Bool
-same [] [] = true
-same [] (b ∷ t) = false
-same (a ∷ s) [] = false
-same (a ∷ s) (b ∷ t) = eqb a b && same s t
 
 -- the spelling is `text` or `mbox`
 unfoldable pub isTextCommand : List ℕ → Bool

@@ -17,7 +17,7 @@ use Rattle.tree.specs.Words.{encode, atomKind, classWord}
 use Rattle.reading.specs.Stop.{Stop}
 use Rattle.reading.specs.Entries.{Entry}
 use Rattle.reading.specs.Reading.{State, M, argument, begun, nextSimple, orMissing, endsOperand, look}
-use Rattle.lexing.specs.Rules.{same}
+use Rattle.tokens.specs.Bytes.{same}
 use Rattle.parse.specs.declared.cursor.Cursor.{Cursor}
 use Rattle.parse.specs.declared.cursor.Step.the-variants.{Found, Nothing}
 use Rattle.parse.specs.declared.cursor.Part.{Part}

@@ -1,5 +1,5 @@
 -- The calls' tests and answers: what each says of the refusals, and what is left when none is met.
-use Prim.Native.Nat.{ℕ, suc, _+_, _-_, _*_, _/_, _≤_, _<_}
+use Prim.Native.Nat.{ℕ, suc, _+_, _-_, _*_, _≤_, _<_}
 use mathlib.Core.Path.{_≡_, refl, sym, ap, _∙_, subst}
 use mathlib.Core.Bool.{Bool}
 use mathlib.Core.List.{List, [], _∷_, _++_}
@@ -14,7 +14,8 @@ use Rattle.tokens.specs.Lexeme.{Lexeme}
 use Rattle.lexing.specs.Rules.{tokens}
 use Rattle.tokens.specs.Table.{tableWords, tokenList, countOthers}
 use Rattle.tokens.specs.Refusals.{Answer, accepted, refused, textRefusal, listRefusal, roomRefusal}
-use Rattle.room.proofs.Lengths.{work-short, tree-short, room-enough}
+use Rattle.room.specs.Room.{roomFor, lackingFor}
+use Rattle.room.proofs.Lengths.{work-short, tree-short, one-short, room-enough}
 use Rattle.tokenizer.specs.Call as call
 use Rattle.tokens.proofs.Cases.{by-lt, by-option}
 use Rattle.tokens.proofs.TokenList.{others-few}
@@ -115,10 +116,10 @@ blank-count text (x ▸ l) = ne-eqb (suc (count l)) 0 (λ e. omega arith)
 
 -- the call on a list
 module _ (text table : List ℕ) (count : ℕ) (work tree : List ℕ) where
-  pub list-turned-back : (k : ℕ) → parseTokensRefusal text table count (length work) (length tree) ≡ some k
+  pub list-when-refused : (k : ℕ) → parseTokensRefusal text table count (length work) (length tree) ≡ some k
       → _≡_ {A = Answer × List ℕ × List ℕ} (refused k, work, tree) (parsedTokens text table count work tree)
   unfolding parsedTokens
-  list-turned-back k e = sym (rw (e, parsedTokens))
+  list-when-refused k e = sym (rw (e, parsedTokens))
 
   pub list-taken : parseTokensRefusal text table count (length work) (length tree) ≡ none
       → parsedTokens text table count work tree
@@ -129,7 +130,7 @@ module _ (text table : List ℕ) (count : ℕ) (work tree : List ℕ) where
   pub list-refused : (k : ℕ) → listRefusal text count table ≡ some k
       → _≡_ {A = Answer × List ℕ × List ℕ} (refused k, work, tree) (parsedTokens text table count work tree)
   unfolding parseTokensRefusal
-  list-refused k e = list-turned-back k (rw (e, parseTokensRefusal))
+  list-refused k e = list-when-refused k (rw (e, parseTokensRefusal))
 
   module _ (ok : listRefusal text count table ≡ none) where
     room-decides : parseTokensRefusal text table count (length work) (length tree) ≡ roomRefusal (countOthers (tokenList count table)) (length work) (length tree)
@@ -138,7 +139,7 @@ module _ (text table : List ℕ) (count : ℕ) (work tree : List ℕ) where
 
     pub room-refused : (k : ℕ) → roomRefusal (countOthers (tokenList count table)) (length work) (length tree) ≡ some k
         → _≡_ {A = Answer × List ℕ × List ℕ} (refused k, work, tree) (parsedTokens text table count work tree)
-    room-refused k e = list-turned-back k (room-decides ∙ e)
+    room-refused k e = list-when-refused k (room-decides ∙ e)
 
     pub list-read : roomRefusal (countOthers (tokenList count table)) (length work) (length tree) ≡ none
         → parsedTokens text table count work tree
@@ -183,10 +184,10 @@ module _ (text : List ℕ) (table work tree : ℕ) where
 
 -- the call on a text
 module _ (text table work tree : List ℕ) where
-  pub text-turned-back : (k : ℕ) → parseRefusal text (length table) (length work) (length tree) ≡ some k
+  pub text-when-refused : (k : ℕ) → parseRefusal text (length table) (length work) (length tree) ≡ some k
       → _≡_ {A = Answer × List ℕ × List ℕ × List ℕ} (refused k, table, work, tree) (parsedText text table work tree)
   unfolding parsedText
-  text-turned-back k e = sym (rw (e, parsedText))
+  text-when-refused k e = sym (rw (e, parsedText))
 
   pub text-read : parseRefusal text (length table) (length work) (length tree) ≡ none
       → parsedText text table work tree
@@ -252,14 +253,13 @@ module _ (text table work tree : List ℕ) where
     tokens-refused k q = go case
       where
         go : Case → _≡_ {A = Answer × List ℕ × List ℕ × List ℕ} (refused k, next, work, tree) (parsedText text table work tree)
-        go (refused-text j e p n) = let j-is : j ≡ k = cc in rw n (text-turned-back k (text-refused text _ _ _ k (e ∙ ap some j-is)))
-        go (short-table ok h p n) = let k-is : 7 ≡ k = cc in rw (n, ← k-is) (text-turned-back 7 (table-short text _ _ _ ok h))
+        go (refused-text j e p n) = let j-is : j ≡ k = cc in rw n (text-when-refused k (text-refused text _ _ _ k (e ∙ ap some j-is)))
+        go (short-table ok h p n) = let k-is : 7 ≡ k = cc in rw (n, ← k-is) (text-when-refused 7 (table-short text _ _ _ ok h))
         go (many ok h l p n) = apart cc
         go (all ok h l p n) = apart cc
 
     pub tokens-many : (m k : ℕ) → r ≡ under.Many m
-        → (room ≤ length work / 4) × (room ≤ length tree / 32) × (room < length work / 4 → length tree / 32 ≤ room)
-        → (length work < 4 * (m + 1) → k ≡ 8) × (4 * (m + 1) ≤ length work → k ≡ 9)
+        → room ≡ roomFor (length work) (length tree) → k ≡ lackingFor m (length work)
         → _≡_ {A = Answer × List ℕ × List ℕ × List ℕ} (refused k, next, work, tree) (parsedText text table work tree)
     tokens-many m k q b lacks = go case
       where
@@ -269,18 +269,12 @@ module _ (text table work tree : List ℕ) where
         go (all ok h l p n) = apart cc
         go (many ok h l p n) =
             let m-is : m ≡ countOthers (tokens text) = cc in
-            by-lt (length work) (4 * (m + 1))
-            (λ w.
-            rw (n, lacks .0 w)
-            (text-turned-back 8 (table-long text _ _ _ ok h ∙ work-short (countOthers (tokens text)) (length work) (length tree) (omega (arith, w, m-is)))))
-            (λ w.
-            let tight : length tree / 32 ≤ m = omega (arith, b .2 (omega (arith, w, l, m-is)), l, m-is) in
-            rw (n, lacks .1 w)
-            (text-turned-back 9 (table-long text _ _ _ ok h
-            ∙ tree-short (countOthers (tokens text)) (length work) (length tree) (omega (arith, w, m-is)) (omega (arith, tight, m-is)))))
+            rw (n, lacks, m-is)
+            (text-when-refused _
+            (table-long text _ _ _ ok h ∙ one-short (countOthers (tokens text)) (length work) (length tree) (omega (arith, b, l))))
 
     module _ (m others : ℕ) (q : r ≡ under.Tokens m others)
-        (b : (room ≤ length work / 4) × (room ≤ length tree / 32) × (room < length work / 4 → length tree / 32 ≤ room)) where
+        (b : room ≡ roomFor (length work) (length tree)) where
       -- what an accepted text's table says
       record Listed : Type 0 where
         ok : textRefusal text ≡ none

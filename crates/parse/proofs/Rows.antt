@@ -15,7 +15,7 @@ use Rattle.tree.specs.Tree.{Nodes, end, _⧺_, count}
 use Rattle.tree.specs.Words.{pick, encodes}
 use Rattle.reading.specs.Entries.{Entry, is}
 use Rattle.reading.specs.Reading.{State, M, return, advance, any, Readers, isAt, textOf, isByte, Rows, joinRows, nextMatrixRow, moreRows, nextMatrixRows, alike, rowBrackets}
-use Rattle.lexing.specs.Rules.{same}
+use Rattle.tokens.specs.Bytes.{same}
 use Rattle.parse.specs.declared.cursor.Cursor.{Cursor}
 use Rattle.parse.specs.Buffer.{Wrote}
 use Rattle.lookahead.specs.Tests.{testAt, isKind}

@@ -18,7 +18,7 @@ use Rattle.grammar.proofs.Settled as grammar
 use Rattle.parse.specs.Entry.{bit}
 use Rattle.parse.specs.Call.{parseRefusal, parseTokensRefusal, values, treeAfter, parsedText, parsedTokens}
 use Rattle.parse.specs.Answers.{Answered}
-use Rattle.parse.proofs.Calls.{apart, text-turned-back, text-read, list-turned-back, list-taken}
+use Rattle.parse.proofs.Calls.{apart, text-when-refused, text-read, list-when-refused, list-taken}
 
 module _ (text : List ℕ) (ts : List Lexeme) (takes items blankness len : ℕ) (words : List ℕ)
     (v : takes ∷ items ∷ blankness ∷ [] ≡ values text ts) (w : words ≡ treeAfter text ts len) where
@@ -62,7 +62,7 @@ list-answered text table count work tree takes items blankness workLeft treeLeft
     let v : takes ∷ items ∷ blankness ∷ [] ≡ values text (tokenList count table) = cc in
     answered text (tokenList count table) takes items blankness (length tree) treeLeft v (ap (λ (x : Answer × List ℕ × List ℕ). x .2) q))
     (λ k p.
-    let q = list-turned-back text table count work tree k p ∙ e in
+    let q = list-when-refused text table count work tree k p ∙ e in
     let a : refused k ≡ accepted (takes ∷ items ∷ blankness ∷ []) = ap (λ (x : Answer × List ℕ × List ℕ). x .0) q in
     apart cc)
 
@@ -79,6 +79,6 @@ text-answered text table work tree number takes items blankness tableLeft workLe
     let v : takes ∷ items ∷ blankness ∷ [] ≡ values text (tokens text) = cc in
     (n, answered text (tokens text) takes items blankness (length tree) treeLeft v (ap (λ (x : Answer × List ℕ × List ℕ × List ℕ). x .3) q)))
     (λ k p.
-    let q = text-turned-back text table work tree k p ∙ e in
+    let q = text-when-refused text table work tree k p ∙ e in
     let a : refused k ≡ accepted (number ∷ takes ∷ items ∷ blankness ∷ []) = ap (λ (x : Answer × List ℕ × List ℕ × List ℕ). x .0) q in
     apart cc)

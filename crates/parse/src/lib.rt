@@ -13,12 +13,13 @@ use lists::Checked;
 use lists::check_list;
 use room::Room;
 use room::check_room;
+use room::lacking;
+use room::room_for;
 use tokenizer::TokenizedUnder;
 use tokenizer::tokenize_under;
 use top::parse_entries;
 ghost use mathlib.Core.Path.{_≡_};
 ghost use mathlib.Core.Option.{none};
-ghost use Prim.Native.Nat.{_+_, _*_, _≤_, _<_};
 ghost use lib.ListN.{length};
 ghost use Rattle.tokens.specs.Refusals.{listRefusal, roomRefusal};
 ghost use Rattle.tokens.specs.Table.{tokenList, countOthers};
@@ -41,20 +42,6 @@ pub enum Parsed {
 pub enum ParsedTokens {
     Read { takes: u64, items: u32, blank: bool },
     Refused(u8),
-}
-
-// The smaller of two numbers.
-fn least(a: usize, b: usize) -> usize
-    ensures { λ r. ⌜ (r ≤ a) × (r ≤ b) × (r < a → b ≤ r) ⌝ }
-{
-    if a <= b { a } else { b }
-}
-
-// Refusal 8 or 9, for n tokens other than Space where one of the buffers is too short for them.
-fn lacking(n: usize, work: usize) -> u8
-    ensures { λ r. ⌜ (work < 4 * (n + 1) → r ≡ 8) × (4 * (n + 1) ≤ work → r ≡ 9) ⌝ }
-{
-    if work / 4 <= n { 8 } else { 9 }
 }
 
 // The reading of an accepted list for which the buffers are long enough.
@@ -117,7 +104,7 @@ pub fn parse(text: &[u8], table: &mut [u32], work: &mut [u32], tree: &mut [u32])
         ≡ parsedText (now (text .entry)) (now (table .entry)) (now (work .entry)) (now (tree .entry))
         ⌝ }
 {
-    let room = least(work.len() / 4, tree.len() / 32);
+    let room = room_for(work.len(), tree.len());
     match tokenize_under(text, table, room) {
         TokenizedUnder::Refused(k) => Parsed::Refused(k),
         TokenizedUnder::Many { others } => Parsed::Refused(lacking(others, work.len())),

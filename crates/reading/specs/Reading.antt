@@ -1,6 +1,6 @@
 -- The reading of a token list: parse.rs function by function, with its takes counted. Document 01, src/parse.rs.
-use Prim.Native.Nat.{ℕ, zero, suc, _+_, _*_, _-_}
-use mathlib.Core.List.{List, [], _∷_, _++_, map}
+use Prim.Native.Nat.{ℕ, zero, suc, _+_, _*_}
+use mathlib.Core.List.{List, [], _∷_}
 use mathlib.Core.Option.{Option, none, some}
 use mathlib.Core.Bool.{Bool, true, false, not, _&&_, _||_}
 use lib.ListN.{length, getD, take, drop, set, replicate, getElem?}
@@ -9,17 +9,19 @@ use Rattle.tokens.specs.declared.token.SymbolClass.the-variants as class
 use Rattle.tokens.specs.declared.token.Token.{Token}
 use Rattle.tokens.specs.declared.token.Token.the-variants as token
 use Rattle.tokens.specs.Lexeme.{Span, Lexeme}
-use Rattle.lexing.specs.Rules.{same, tokens}
+use Rattle.tokens.specs.Bytes.{same}
+use Rattle.lexing.specs.Rules.{tokens}
 use Rattle.tree.specs.Tree.{nowhere, Script, Head, Atom, Prefix, Node, node, Nodes, end, _▸_, _⧺_, count, leaf, one}
 use Rattle.reading.specs.Stop.{Stop}
 use Rattle.reading.specs.Entries.{Entry, is, entries, closeAfter, hasSep}
 
+-- whether the entry is the token that the reader stops at
 unfoldable pub stops : Stop → Entry → Bool
 stops Stop.none e = false
 stops Stop.sep e = is token.Sep e
 
 -- What the readers look for at the next token: anything; a script marker; the head of a scripted part (a function, or a sign
--- that prefixes); whatever begins a simple expression.
+-- that prefixes); whatever begins a simple expression. (No entry is a Space.)
 unfoldable pub any : Entry → Bool
 any e = true
 
@@ -39,6 +41,7 @@ pub record State : Type 0 where
   pub takes : ℕ
   pub marks : List Bool
 
+-- a mark of failed_opens, by the stop, or of failed_matrices
 pub data Mark : Type 0 where
   openMark : Stop → Mark
   matrixMark : Mark
@@ -59,6 +62,7 @@ return a s = (a, s)
 unfoldable pub _>>=_ : {A B : Type 0} → M A → (A → M B) → M B
 _>>=_ m f s = let r = m s in f (r .0) (r .1)
 
+infixl 10 _>>=_
 infix 5 if_then_else_
 unfoldable pub if_then_else_ : {A : Type 0} → Bool → M A → M A → M A
 if true then m else n = m
@@ -87,6 +91,7 @@ orMissing (some a) = a
 abbrev pub unscripted : Node → Node
 unscripted a = one (Head.simple Script.none) a
 
+-- the same for an operand that is a scripted part
 abbrev pub orMissingPart : Option Node → Node
 orMissingPart none = unscripted (leaf Head.missing)
 orMissingPart (some a) = a
@@ -147,7 +152,6 @@ prefixes (some a) = not (endsOperand a)
 abbrev pub Scripted : Type 0
 Scripted = Script × Nodes
 
-infixl 10 _>>=_
 -- A matrix row: its brackets and its cells. The rows of a matrix: the first, and the cells of the others.
 pub record Row : Type 0 where
   pub left : Entry
@@ -158,6 +162,7 @@ pub record Rows : Type 0 where
   pub head : Row
   pub others : List Nodes
 
+-- for is_column_line: a simple expression without a script
 unfoldable pub isUnscripted : Head → Bool
 isUnscripted Head.missing = false
 isUnscripted (Head.atom a sp) = false
@@ -172,6 +177,7 @@ isUnscripted Head.cell = false
 isUnscripted (Head.group a b) = false
 isUnscripted (Head.matrix a b c ls) = false
 
+-- the columns that are lines in one row and in those behind it
 unfoldable pub bothLines : List Bool → List Bool → List Bool
 bothLines [] m = []
 bothLines (a ∷ l) [] = []
@@ -194,6 +200,7 @@ keepCells (b ∷ bs) end = end
 keepCells (true ∷ bs) (x ▸ l) = keepCells bs l
 keepCells (false ∷ bs) (x ▸ l) = x ▸ keepCells bs l
 
+-- the cells of all rows, what f keeps of each
 unfoldable pub joinRows : (Nodes → Nodes) → List Nodes → Nodes
 joinRows f [] = end
 joinRows f (r ∷ rs) = f r ⧺ joinRows f rs
@@ -205,6 +212,7 @@ spaced (some p) none x l = x ▸ l
 spaced (some p) (some e) x l =
     elim (e .space .len) [ zero ↦ x ▸ l | suc n ↦ leaf (Head.atom Atom.space (e .space)) ▸ x ▸ l ]
 
+-- a bar that opens nothing, and a stray mark of a script or a fraction: a symbol of class Glyph
 abbrev pub glyphOf : Entry → Node
 glyphOf o = leaf (Head.atom (Atom.symbol class.Glyph) (o .span))
 
@@ -212,6 +220,7 @@ abbrev pub orGlyph : Entry → Option Node → Node
 orGlyph o none = glyphOf o
 orGlyph o (some x) = x
 
+-- the last item, if there is one
 unfoldable pub lastOf : Nodes → Option Node
 lastOf end = none
 lastOf (x ▸ end) = some x
@@ -219,6 +228,7 @@ lastOf (x ▸ (y ▸ l)) = lastOf (y ▸ l)
 
 -- The reading of the entries es over the text.
 module _ (text : List ℕ) (es : List Entry) where
+  -- the bytes of a span
   unfoldable pub textOf : Span → List ℕ
   textOf sp = take (sp .len) (drop (sp .start) text)
 
@@ -229,6 +239,7 @@ module _ (text : List ℕ) (es : List Entry) where
   unfoldable pub sameText : Span → Span → Bool
   sameText a b = same (textOf a) (textOf b)
 
+  -- the entry at a position, and whether one is there that passes the test
   abbrev pub entryAt : ℕ → Option Entry
   entryAt i = getElem? es i
 
@@ -301,6 +312,7 @@ module _ (text : List ℕ) (es : List Entry) where
   isColumnLine (node c (node h (x ▸ l) ▸ end)) = isUnscripted h && isBarSymbol x
   isColumnLine (node c (node h (x ▸ l) ▸ (y ▸ m))) = false
 
+  -- which cells of a row are such lines
   unfoldable pub lineCells : Nodes → List Bool
   lineCells end = []
   lineCells (x ▸ l) = isColumnLine x ∷ lineCells l
@@ -310,12 +322,13 @@ module _ (text : List ℕ) (es : List Entry) where
   lineCols r [] = lineCells r
   lineCols r (q ∷ qs) = bothLines (lineCells r) (lineCols q qs)
 
-  -- MATRIX_ROW_BRACKETS
+  -- MATRIX_ROW_BRACKETS: "Matrix rows are `(` `)` or `[` `]` by their text, so `left(` opens no row."
   unfoldable pub rowBrackets : Row → Bool
   rowBrackets r =
       (isByte 40 (r .left .span) && isByte 41 (r .right .span))
       || (isByte 91 (r .left .span) && isByte 93 (r .right .span))
 
+  -- a row with the brackets of the first, by their text, and as many cells
   unfoldable pub alike : Row → Row → Bool
   alike a b =
       sameText (a .left .span) (b .left .span)
@@ -550,6 +563,7 @@ module _ (text : List ℕ) (es : List Entry) where
             | none ↦ attempt (openMark stop) i (barBody o stop) >>= λ g. return (orGlyph o g)
           ]
 
+      -- the matrix or the group that the OpenBracket o at i opens
       unfoldable pub nextBracket : Entry → ℕ → M Node
       nextBracket o i =
           tryMatrix o i >>= λ m. elim m [
@@ -589,6 +603,7 @@ module _ (text : List ℕ) (es : List Entry) where
             | some e ↦ begun (e .token) e i stop prefixSign
           ]
 
+      -- the two readers at this depth
       unfoldable pub step : Readers
       step = record { simple = nextSimple; scriptFunc = nextScriptFunc }
 
@@ -611,6 +626,7 @@ module _ (text : List ℕ) (es : List Entry) where
           ]
         ]
 
+    -- Parser::new(..).parse(): from the first entry, with no take and no mark
     unfoldable pub parseEntries : Nodes × State
     parseEntries =
         parse (suc (length es)) 256 end

@@ -1,15 +1,24 @@
--- What checking the buffers' lengths answers.
+-- What checking the buffers' lengths answers. n is the number of tokens other than Space; the buffers have this many words.
+use mathlib.Core.Bool.{true, false}
 use mathlib.Core.Option.{Option, none, some}
-use Prim.Native.Nat.{ℕ}
+use Prim.Native.Nat.{ℕ, _+_, _*_, _/_, min}
+use lib.Dec.{ltb}
 use Rattle.tokens.specs.Refusals.{roomRefusal}
 use Rattle.room.specs.declared.Room.{Room}
 use Rattle.room.specs.declared.Room.the-variants.{Enough, Refused}
+
+-- "Work needs 4 × (n + 1) words, tree 32 × (n + 1)": the least n for which they are too short
+abbrev pub roomFor : ℕ → ℕ → ℕ
+roomFor work tree = min (work / 4) (tree / 32)
+
+-- "8 work too short; 9 tree too short": the number where one of the two is
+unfoldable pub lackingFor : ℕ → ℕ → ℕ
+lackingFor n work = elim (ltb work (4 * (n + 1))) [ true ↦ 8 | false ↦ 9 ]
 
 -- the number of the refusal, or none
 unfoldable pub roomOf : Option ℕ → Room
 roomOf (some k) = Refused k
 roomOf none = Enough
 
--- "8 work too short; 9 tree too short": for n tokens other than Space, by the buffers' words
 unfoldable pub roomAnswer : ℕ → ℕ → ℕ → Room
 roomAnswer n work tree = roomOf (roomRefusal n work tree)

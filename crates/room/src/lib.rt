@@ -1,6 +1,6 @@
 // Refusals 8 and 9: buffers that are too short.
 ghost use mathlib.Core.Path.{_≡_};
-ghost use Rattle.room.specs.Room.{roomAnswer};
+ghost use Rattle.room.specs.Room.{roomFor, lackingFor, roomAnswer};
 
 // Whether the buffers are long enough, or the number of the refusal.
 pub enum Room {
@@ -8,15 +8,28 @@ pub enum Room {
     Refused(u8),
 }
 
+// The least number of tokens other than Space for which the buffers are too short, by their words.
+pub fn room_for(work: usize, tree: usize) -> usize
+    ensures { λ r. ⌜ r ≡ roomFor work tree ⌝ }
+{
+    let a = work / 4;
+    let b = tree / 32;
+    if a <= b { a } else { b }
+}
+
+// The refusal where one of the two is too short for n tokens other than Space.
+pub fn lacking(n: usize, work: usize) -> u8
+    ensures { λ r. ⌜ r ≡ lackingFor n work ⌝ }
+{
+    if work / 4 <= n { 8 } else { 9 }
+}
+
 // For n tokens other than Space, by the buffers' words.
 pub fn check_room(n: usize, work: usize, tree: usize) -> Room
     ensures { λ r. ⌜ r ≡ roomAnswer n work tree ⌝ }
 {
-    if work / 4 <= n {
-        return Room::Refused(8);
+    if n < room_for(work, tree) {
+        return Room::Enough;
     }
-    if tree / 32 <= n {
-        return Room::Refused(9);
-    }
-    Room::Enough
+    Room::Refused(lacking(n, work))
 }

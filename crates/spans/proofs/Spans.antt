@@ -8,7 +8,7 @@ use lib.ListN.{length, getD, take, drop, length-drop}
 use lib.Seq.{length-take-le, take-all}
 use lib.Dec.{eqb}
 use borrow.Author.Tests.{eq-eqb, ne-eqb}
-use Rattle.lexing.specs.Rules.{same}
+use Rattle.tokens.specs.Bytes.{same}
 use Rattle.spans.specs.Spans.{sameSpan, bytesOf}
 
 drop-here : (X : List ℕ) (i : ℕ) → i < length X → drop i X ≡ getD X i 0 ∷ drop (suc i) X

@@ -3,7 +3,7 @@ use Prim.Native.Nat.{ℕ}
 use mathlib.Core.List.{List, [], _∷_}
 use mathlib.Core.Bool.{Bool}
 use lib.ListN.{take, drop}
-use Rattle.lexing.specs.Rules.{same}
+use Rattle.tokens.specs.Bytes.{same}
 use Rattle.records.specs.Record.{startOf, lenOf}
 
 -- the bytes of a span; two spans have the same; a span is this one byte

@@ -5,7 +5,7 @@ ghost use mathlib.Core.Path.{_≡_};
 ghost use mathlib.Core.List.{[], _∷_};
 ghost use Prim.Native.Nat.{_-_, _≤_};
 ghost use lib.ListN.{length};
-ghost use Rattle.lexing.specs.Rules.{same};
+ghost use Rattle.tokens.specs.Bytes.{same};
 ghost use Rattle.spans.specs.Spans.{bytesOf, sameSpan, sameAt, byteAt};
 
 // Two spans of l bytes in the text have the same.

@@ -63,7 +63,7 @@ end-of-requires c κs = search needs
 returns : tie.Need-returns Inv-loop μ-loop
 returns c = let a = c .before .before .before .before .before .before .before .before .args in
     let p = c .before .before .before .before .before .before .loop in
-    answer-refused (tokenList (a .count) (a .table .now)) (p .inv .2 ∙ kind-refused (a .size) (a .count) (a .table .now) (p .after) (p .i) (c .before .before .before .before .before .loop-test .taken) (c .if1 .taken))
+    answer-refused (tokenList (a .count) (a .table .now)) (p .inv .2 ∙ kind-refused (a .size) (a .count) (a .table .now) (p .after) (p .i) (c .before .before .before .before .before .loop-test .taken) (omega (arith, c .if1 .taken)))
 
 returns-2 : tie.Need-returns-2 Inv-loop μ-loop
 returns-2 c = let a = c .before .before .before .before .before .before .before .before .before .args in

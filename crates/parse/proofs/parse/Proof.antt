@@ -4,8 +4,8 @@ use Rattle.parse.proofs.Calls.{tokens-refused, tokens-many, list-accept
 use Rattle.parse.proofs.parse.Statement.{statement}
 use Rattle.parse.proofs.parse.Tie as tie
 
-least-requires : tie.Need-least-requires
-least-requires c κs = search needs
+room-for-requires : tie.Need-room-for-requires
+room-for-requires c κs = search needs
 
 tokenize-under-requires : tie.Need-tokenize-under-requires
 tokenize-under-requires c κs = search needs
@@ -25,7 +25,7 @@ enum-known-all c = search needs
 read-list-requires : tie.Need-read-list-requires
 read-list-requires c κs =
     let a = c .before .before .before .before .before .before .before .before .before .before .before .before .before .before .before .args in
-    (list-accepted (a .text .now) (a .table .now) (a .work .now) (a .tree .now) _ _ _ (c .before .before .before .before .before .before .before .before .tokenize-under .ensures) _ _ (c .before .before .before .before .all .given .1) (c .before .before .before .before .before .before .before .before .before .before .least .ensures), list-fits (a .text .now) (a .table .now) (a .work .now) (a .tree .now) _ _ _ (c .before .before .before .before .before .before .before .before .tokenize-under .ensures) _ _ (c .before .before .before .before .all .given .1) (c .before .before .before .before .before .before .before .before .before .before .least .ensures))
+    (list-accepted (a .text .now) (a .table .now) (a .work .now) (a .tree .now) _ _ _ (c .before .before .before .before .before .before .before .before .tokenize-under .ensures) _ _ (c .before .before .before .before .all .given .1) (c .before .before .before .before .before .before .before .before .before .before .room-for .ensures), list-fits (a .text .now) (a .table .now) (a .work .now) (a .tree .now) _ _ _ (c .before .before .before .before .before .before .before .before .tokenize-under .ensures) _ _ (c .before .before .before .before .all .given .1) (c .before .before .before .before .before .before .before .before .before .before .room-for .ensures))
 
 enum-known-k-2 : tie.Need-enum-known-k-2
 enum-known-k-2 c = search needs
@@ -47,7 +47,7 @@ same-length-2 c = search needs
 returns-2 : tie.Need-returns-2
 returns-2 c =
     let a = c .before .before .before .before .before .before .before .before .before .before .before .before .before .args in
-    tokens-many (a .text .now) (a .table .now) (a .work .now) (a .tree .now) _ _ _ (c .before .before .before .before .before .before .tokenize-under .ensures) _ _ (c .before .before .others .given .1) (c .before .before .before .before .before .before .before .before .least .ensures) (c .lacking .ensures)
+    tokens-many (a .text .now) (a .table .now) (a .work .now) (a .tree .now) _ _ _ (c .before .before .before .before .before .before .tokenize-under .ensures) _ _ (c .before .before .others .given .1) (c .before .before .before .before .before .before .before .before .room-for .ensures) (c .lacking .ensures)
 
 same-length-3 : tie.Need-same-length-3
 same-length-3 c = search needs
@@ -61,7 +61,7 @@ same-length-5 c = search needs
 returns-3 : tie.Need-returns-3
 returns-3 c =
     let a = c .before .before .before .before .before .before .before .before .before .before .before .before .before .before .before .before .before .before .before .before .before .before .before .args in
-    list-not-refused (a .text .now) (a .table .now) (a .work .now) (a .tree .now) _ _ _ (c .before .before .before .before .before .before .before .before .before .before .before .before .before .before .before .before .tokenize-under .ensures) _ _ (c .before .before .before .before .before .before .before .before .before .before .before .before .all .given .1) (c .before .before .before .before .before .before .before .before .before .before .before .before .before .before .before .before .before .before .least .ensures) _ _ _ (c .before .before .before .before .before .before .before .read-list .ensures) _ (c .before .k2 .given .1)
+    list-not-refused (a .text .now) (a .table .now) (a .work .now) (a .tree .now) _ _ _ (c .before .before .before .before .before .before .before .before .before .before .before .before .before .before .before .before .tokenize-under .ensures) _ _ (c .before .before .before .before .before .before .before .before .before .before .before .before .all .given .1) (c .before .before .before .before .before .before .before .before .before .before .before .before .before .before .before .before .before .before .room-for .ensures) _ _ _ (c .before .before .before .before .before .before .before .read-list .ensures) _ (c .before .k2 .given .1)
 
 same-length-6 : tie.Need-same-length-6
 same-length-6 c = search needs
@@ -75,13 +75,13 @@ same-length-8 c = search needs
 returns-4 : tie.Need-returns-4
 returns-4 c =
     let a = c .before .before .before .before .before .before .before .before .before .before .before .before .before .before .before .before .before .before .before .before .before .before .before .args in
-    list-was-read (a .text .now) (a .table .now) (a .work .now) (a .tree .now) _ _ _ (c .before .before .before .before .before .before .before .before .before .before .before .before .before .before .before .before .tokenize-under .ensures) _ _ (c .before .before .before .before .before .before .before .before .before .before .before .before .all .given .1) (c .before .before .before .before .before .before .before .before .before .before .before .before .before .before .before .before .before .before .least .ensures) _ _ _ (c .before .before .before .before .before .before .before .read-list .ensures) _ _ _ (c .before .takes .given .1)
+    list-was-read (a .text .now) (a .table .now) (a .work .now) (a .tree .now) _ _ _ (c .before .before .before .before .before .before .before .before .before .before .before .before .before .before .before .before .tokenize-under .ensures) _ _ (c .before .before .before .before .before .before .before .before .before .before .before .before .all .given .1) (c .before .before .before .before .before .before .before .before .before .before .before .before .before .before .before .before .before .before .room-for .ensures) _ _ _ (c .before .before .before .before .before .before .before .read-list .ensures) _ _ _ (c .before .takes .given .1)
 
 pub parse-spec : {M : Type 1} → statement M
 parse-spec =
     tie.close
     (tie.spec
-    least-requires
+    room-for-requires
     tokenize-under-requires
     enum-known-k
     enum-known-others

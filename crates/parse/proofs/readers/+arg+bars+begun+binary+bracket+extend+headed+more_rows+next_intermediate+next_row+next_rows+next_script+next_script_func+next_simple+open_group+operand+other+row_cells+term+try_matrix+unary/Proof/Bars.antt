@@ -75,7 +75,7 @@ rewind-requires t c κs = search needs
 
 pub leaf-requires-3 : (t : ℕ) → bars-lts.Need-leaf-requires-3 (uses t) (bars-at t) bars.Post
 leaf-requires-3 t c κs = let S = c .before .before .before .before .before .before .before .before .before .before .before .before .before .before .before .before .before .before .before .before .before .before .before .before .before .before .before .before in
-    omega (arith, S .pre .1 .0 .room, c .before .before .before .before .before .before .before .before .before .before .before .before .before .before .before .before .before .extend .ensures .moves .long)
+    omega (arith, S .pre .1 .0 .room, c .before .before .before .before .before .before .before .before .before .before .before .before .before .before .before .before .before .extend .ensures .moves .long, c .before .before .before .before .before .before .before .before .before .before .before .before .before .before .before .before .before .extend .ensures .moves .room)
 
 pub same-length-3 : (t : ℕ) → bars-lts.Need-same-length-3 (uses t) (bars-at t) bars.Post
 same-length-3 t c = search needs
