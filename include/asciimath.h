@@ -69,8 +69,8 @@ extern "C" {
 /* Words of work and of tree for n tokens other than Space. */
 #define ASCIIMATH_WORK_WORDS(n) (4 * ((size_t)(n) + 1))
 #define ASCIIMATH_TREE_WORDS(n) (32 * ((size_t)(n) + 1))
-/* Bytes that any print of n tokens other than Space fits in: on the whole tree a print has at most
- * 12 bytes for each word, and its first line at most 64. (Counted, not proved: a shorter or a longer
+/* Bytes that any print of n tokens other than Space fits in: a print has at most 12 bytes for each
+ * word of its tree, and a first line of at most 64. (Counted, not proved: a shorter or a longer
  * buffer is safe all the same.) */
 #define ASCIIMATH_PRINT_BYTES(n) (12 * ASCIIMATH_TREE_WORDS(n) + 64)
 

@@ -1,5 +1,6 @@
 -- The theorems about readings: what specs/Conditions.antt promises holds of every token list, so of each that is accepted and of
--- each accepted text. (Settled lists: Settled.antt. The starred strings: Starred.antt.)
+-- each accepted text. (Settled lists: crates/grammar/proofs/Settled.antt. The starred
+-- strings: crates/reading/proofs/Starred.antt.)
 use Prim.Native.Nat.{ℕ, suc, _+_, _*_, _≤_}
 use mathlib.Core.Path.{_≡_, refl, sym, ap, subst}
 use mathlib.Core.Bool.{Bool, true, false}

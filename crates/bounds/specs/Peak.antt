@@ -1,5 +1,6 @@
 -- How many words stand in the tree's buffer while a list is read: those of any partial tree, of all readers that are open, in an
--- attempt that is given back too. Each reader of Reading.antt is counted step by step. That a count is of its reader, and leaves no
+-- attempt that is given back too. It is here so that "tree 32 × (n + 1)" can be shown to be enough at every step, and not for the
+-- finished tree alone. Each reader of Reading.antt is counted step by step. That a count is of its reader, and leaves no
 -- step out, is in its type. The numbers are those of docs/LAYOUT.md; a node's own words stand in front of the nodes below it, so
 -- they are put before those are read.
 use Prim.Native.Nat.{ℕ, zero, suc, _+_, _*_, max}

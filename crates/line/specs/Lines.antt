@@ -10,22 +10,25 @@ use Rattle.tree.specs.Walk.{cellsEnd}
 use Rattle.writer.specs.Decimal.{decimal}
 use Rattle.line.specs.Print.{nameOf, field, number, commas, newline}
 
+-- depth and name
 unfoldable pub startOf : ℕ → ℕ → List ℕ
 startOf depth kind = bytes "depth=" ++ (decimal depth ++ field "node" (nameOf kind))
 
--- missing, simple, cell and frac stand for no token
+-- at and len; missing, simple, cell and frac stand for no token
 unfoldable pub leftOf : ℕ → ℕ → ℕ → List ℕ
 leftOf kind start len =
     pick (eqb kind 0) []
     (pick (eqb kind 13) []
     (pick (eqb kind 17) [] (pick (eqb kind 18) [] (number "at" start ++ number "len" len))))
 
+-- a script by its number (docs/LAYOUT.md)
 unfoldable pub scriptOf : ℕ → List ℕ
 scriptOf script =
     field "script"
     (pick (eqb script 0) (bytes "none")
     (pick (eqb script 1) (bytes "sub") (pick (eqb script 2) (bytes "super") (bytes "subsuper"))))
 
+-- the right bracket; what a group adds, and a matrix
 unfoldable pub rightOf : ℕ → ℕ → List ℕ
 rightOf start len = number "rat" start ++ number "rlen" len
 
@@ -53,6 +56,7 @@ linesOf words o = take (o .tail) (drop (cellsEnd words (o .count) (o .from)) wor
 abbrev pub wordOf : List ℕ → Opened → ℕ → ℕ
 wordOf words o i = getD words (o .head + i) 0
 
+-- what the opened node adds, and its whole line
 unfoldable pub addedOf : List ℕ → Opened → List ℕ
 addedOf words o =
     addedBy (o .kind) (wordOf words o 3) (wordOf words o 4) (wordOf words o 5) (wordOf words o 6) (o .count) (linesOf words o)

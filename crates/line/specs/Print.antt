@@ -20,10 +20,11 @@ names =
 unfoldable pub nameOf : ℕ → List ℕ
 nameOf kind = bytes (getD names kind "")
 
--- "Fields stand as name=value": a blank, the name, `=` and the value
+-- "Fields stand as name=value": the byte 32, the name, `=` and the value
 abbrev pub field : String → List ℕ → List ℕ
 field name value = bytes " " ++ (bytes name ++ (bytes "=" ++ value))
 
+-- a field whose value is a number
 abbrev pub number : String → ℕ → List ℕ
 number name n = field name (decimal n)
 
@@ -77,6 +78,7 @@ fields (Head.group a b) k = left a ++ (right b ++ number "items" k)
 fields (Head.matrix a b cols lines) k =
     left a ++ (right b ++ (number "cols" cols ++ (number "cells" k ++ field "lines" (commas lines))))
 
+-- the name of a node, by its kind
 unfoldable pub name : Head → List ℕ
 name h = nameOf (getD (headWords h 0 0) 0 0)
 
@@ -84,6 +86,7 @@ name h = nameOf (getD (headWords h 0 0) 0 0)
 abbrev pub newline : List ℕ
 newline = 10 ∷ []
 
+-- the line of a node, and the lines of all
 unfoldable pub line : Visit → List ℕ
 line v =
     bytes "depth=" ++

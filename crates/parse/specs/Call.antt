@@ -46,8 +46,8 @@ unfoldable pub values : List ℕ → List Lexeme → List ℕ
 values text ts =
     let r = readTokens text ts in r .takes ∷ count (r .tree) ∷ bit (blank text (r .tree)) ∷ []
 
--- "After an accepted reading work is all zero, tree words past the tree's end are zero": what it leaves in buffers of this many
--- words
+-- "After an accepted reading work is all zero, tree words past the tree's end are zero": what it leaves in work and tree of this
+-- many words
 unfoldable pub workAfter : ℕ → List ℕ
 workAfter work = replicate work 0
 

@@ -32,10 +32,11 @@ answerOf (answer.Refused k) = refused k
 abbrev pub tokenAnswer : Lexeme → StepAnswer
 tokenAnswer t = token (t .span .start) (t .span .len) (numberOf (t .token))
 
--- the tokens that are said to wait; places behind them are not looked at
+-- a token of the code's struct as a value of the definitions
 abbrev pub lexemeOf : Spanned → Lexeme
 lexemeOf t = lexeme (t .start) (t .len) (t .token)
 
+-- the tokens that are said to wait; places behind them are not looked at
 unfoldable pub waiting : Queue → List Lexeme
 waiting q = take (q .count) (lexemeOf (q .first) ∷ lexemeOf (q .second) ∷ lexemeOf (q .third) ∷ [])
 

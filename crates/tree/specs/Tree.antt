@@ -23,6 +23,7 @@ pub data Atom : Type 0 where
 pub data Prefix : Type 0 where
   signed ssigned unary sfunc binary : Prefix
 
+-- What a node is, with all its fields but the nodes below it.
 pub data Head : Type 0 where
   missing : Head
   atom : Atom → Span → Head
