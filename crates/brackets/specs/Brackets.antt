@@ -2,36 +2,35 @@
 -- the work words, n the number of entries.
 use Prim.Native.Nat.{ℕ, _+_}
 use mathlib.Core.List.{List}
-use mathlib.Core.Bool.{Bool, true, false}
+use mathlib.Core.Bool.{Bool, true, false, cond}
 use lib.Dec.{eqb, ltb}
-use Rattle.tree.specs.Words.{pick}
 use Rattle.records.specs.Record.{afterClose, sepWord, kindOf}
 use Rattle.lookahead.specs.Tests.{testAt, isKind}
 use Rattle.spans.specs.Spans.{sameAt, byteAt}
 
 -- the entry at j is a bar with the text of the entry i, if both are there
 unfoldable pub barAt : List ℕ → List ℕ → List ℕ → ℕ → ℕ → ℕ → Bool
-barAt X t K n i j = pick (ltb i n) (pick (testAt t K n (isKind 22) j) (sameAt X t K i j) false) false
+barAt X t K n i j = cond (ltb i n) (cond (testAt t K n (isKind 22) j) (sameAt X t K i j) false) false
 
 -- closes: the entry at j closes the bracket at i
 unfoldable pub closesAt : List ℕ → List ℕ → List ℕ → ℕ → ℕ → ℕ → Bool
-closesAt X t K n i j = pick (eqb (kindOf t K i) 20) (eqb (afterClose K i) (j + 1)) (barAt X t K n i j)
+closesAt X t K n i j = cond (eqb (kindOf t K i) 20) (eqb (afterClose K i) (j + 1)) (barAt X t K n i j)
 
 -- could_be_matrix for the bracket at i
 unfoldable pub couldBeMatrixAt : List ℕ → List ℕ → List ℕ → ℕ → ℕ → Bool
 couldBeMatrixAt X t K n i =
-    pick (testAt t K n (isKind 20) (i + 1))
-    (pick (eqb (afterClose K (i + 1)) 0) false
-    (pick (testAt t K n (isKind 3) (afterClose K (i + 1))) true
-    (pick (closesAt X t K n i (afterClose K (i + 1))) (eqb (sepWord K (i + 1)) 1) false)))
+    cond (testAt t K n (isKind 20) (i + 1))
+    (cond (eqb (afterClose K (i + 1)) 0) false
+    (cond (testAt t K n (isKind 3) (afterClose K (i + 1))) true
+    (cond (closesAt X t K n i (afterClose K (i + 1))) (eqb (sepWord K (i + 1)) 1) false)))
     false
 
 -- "Rows of `(` before text `}` make no matrix": rows that open at l, with the entry p behind them
 unfoldable pub setAt : List ℕ → List ℕ → List ℕ → ℕ → ℕ → Bool
-setAt X t K l p = pick (byteAt X t K l 40) (byteAt X t K p 125) false
+setAt X t K l p = cond (byteAt X t K l 40) (byteAt X t K p 125) false
 
 -- try_matrix: rows that open at l, of k cells, with the entry p behind them, make a matrix of the bracket at i. "One cell left after
 -- that is no matrix."
 unfoldable pub makesAt : List ℕ → List ℕ → List ℕ → ℕ → ℕ → ℕ → ℕ → ℕ → Bool
 makesAt X t K n i l k p =
-    pick (ltb p n) (pick (setAt X t K l p) false (pick (ltb 1 k) (closesAt X t K n i p) false)) false
+    cond (ltb p n) (cond (setAt X t K l p) false (cond (ltb 1 k) (closesAt X t K n i p) false)) false

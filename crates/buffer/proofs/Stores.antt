@@ -1,14 +1,13 @@
 -- Words that fit are stored, and no others.
 use Prim.Native.Nat.{ℕ, suc, _+_, _-_, _≤_, _<_}
 use mathlib.Core.Path.{_≡_, refl}
-use mathlib.Core.Bool.{Bool, true, false}
+use mathlib.Core.Bool.{Bool, true, false, cond}
 use mathlib.Core.List.{List, []}
 use native.Mathlib.Omega.{arith}
 use lib.ListN.{length}
 use lib.Dec.{leb}
 use lib.Seq.{sets, paste}
 use borrow.Author.Tests.{leb-true, leb-false, le-leb, lt-leb}
-use Rattle.tree.specs.Words.{pick}
 use Rattle.buffer.specs.Buffer.{stored, shifted}
 
 -- the test of a sum, without the sum
@@ -32,7 +31,7 @@ pub stored-none : (x : List ℕ) (i : ℕ) → stored x i [] ≡ x
 unfolding stored
 stored-none x i = go (leb (i + 0) (length x))
   where
-    go : (b : Bool) → pick b x x ≡ x
+    go : (b : Bool) → cond b x x ≡ x
     go true = refl
     go false = refl
 

@@ -1,7 +1,7 @@
 -- The test of a cell's words is the definition's.
 use mathlib.Core.Path.{_≡_, refl, ap, sym, _∙_}
 use mathlib.Core.List.{List, [], _∷_}
-use mathlib.Core.Bool.{Bool, true, false, _&&_}
+use mathlib.Core.Bool.{Bool, true, false, _&&_, and-false}
 use Prim.Native.Nat.{ℕ, zero, suc, _+_, _≤_, _<_}
 use native.Mathlib.Omega.{arith}
 use lib.ListN.{length, take, drop, getD, length-drop}
@@ -24,10 +24,6 @@ module _ (X x : List ℕ) (at : ℕ) (h : at + cellLen x at ≤ length x) where
       getD-past [] k q = refl
       getD-past (a ∷ l) zero q = absurd (omega arith)
       getD-past (a ∷ l) (suc k) q = getD-past l k (omega arith)
-
-  and-false : (b : Bool) → (b && false) ≡ false
-  and-false true = refl
-  and-false false = refl
 
   pub line-short : getD x (at + 4) 0 < 10 → false ≡ isLine X cell
   unfolding isLine same

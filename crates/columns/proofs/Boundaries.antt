@@ -1,28 +1,27 @@
 -- The columns' flags one by one: how many columns are kept, and the boundaries where the others were.
 use mathlib.Core.Path.{_≡_, refl, ap, sym, _∙_}
 use mathlib.Core.List.{List, [], _∷_, _++_, append-assoc, append-nil}
-use mathlib.Core.Bool.{Bool, true, false}
+use mathlib.Core.Bool.{Bool, true, false, cond}
 use Prim.Native.Nat.{ℕ, _+_, _≤_, _<_}
 use native.Mathlib.Omega.{arith}
 use native.Mathlib.Numerals.{add-one}
 use lib.ListN.{length, drop, getD, set, length-drop, length-set, length-map, List·getD-map, drop-of-length-le}
 use lib.Seq.{length-take-le, drop-cons, getD-take, getD-drop, drop-set-lt, getD-set-other}
 use lib.Dec.{eqb}
-use Rattle.tree.specs.Words.{pick}
 use Rattle.reading.specs.Reading.{keptCols, columnLines}
 use Rattle.columns.specs.Steps.{Wrote, flags, bit, bits, Lines}
 use Rattle.columns.proofs.Buffer.{Same, seq, wrote-none, wrote-one}
 
-pub one-most : (b : Bool) → pick b 1 0 ≤ 1
+pub one-most : (b : Bool) → cond b 1 0 ≤ 1
 one-most true = omega arith
 one-most false = omega arith
 
-kept-cons : (b : Bool) (l : List Bool) → keptCols (b ∷ l) ≡ pick (eqb (bit b) 0) 1 0 + keptCols l
+kept-cons : (b : Bool) (l : List Bool) → keptCols (b ∷ l) ≡ cond (eqb (bit b) 0) 1 0 + keptCols l
 unfolding keptCols
 kept-cons true l = omega arith
 kept-cons false l = omega arith
 
-lines-cons : (n : ℕ) (b : Bool) (l : List Bool) → columnLines n (b ∷ l) ≡ pick (eqb (bit b) 0) (columnLines (n + 1) l) (n ∷ columnLines n l)
+lines-cons : (n : ℕ) (b : Bool) (l : List Bool) → columnLines n (b ∷ l) ≡ cond (eqb (bit b) 0) (columnLines (n + 1) l) (n ∷ columnLines n l)
 unfolding columnLines
 lines-cons n true l = refl
 lines-cons n false l = ap (λ (k : ℕ). columnLines k l) (sym (add-one n))
@@ -40,10 +39,10 @@ module _ (x : List ℕ) (e cols : ℕ) (room : e + cols ≤ length x) (m : List 
   mask-none : (k : ℕ) → cols ≤ k → drop k m ≡ []
   mask-none k q = drop-of-length-le m {i = k} (omega (arith, mask-long))
 
-  pub count-more : (k n w v : ℕ) → k < cols → w ≡ getD x (e + k) 0 → v ≡ pick (eqb w 0) 1 0
+  pub count-more : (k n w v : ℕ) → k < cols → w ≡ getD x (e + k) 0 → v ≡ cond (eqb w 0) 1 0
       → n + keptCols (drop k m) ≡ keptCols m → n + v + keptCols (drop (k + 1) m) ≡ keptCols m
   count-more k n w v q u s h =
-      let f : keptCols (drop k m) ≡ pick (eqb w 0) 1 0 + keptCols (drop (k + 1) m) =
+      let f : keptCols (drop k m) ≡ cond (eqb w 0) 1 0 + keptCols (drop (k + 1) m) =
       ap keptCols (mask-cons k q) ∙ rw (u, flag-at k q) (kept-cons (getD m k false) (drop (k + 1) m)) in
       omega arith
 
@@ -53,11 +52,11 @@ module _ (x : List ℕ) (e cols : ℕ) (room : e + cols ≤ length x) (m : List 
 
   -- the next boundary, if the column's flag is z
   lines-next : (k n : ℕ) (z : Bool) → k < cols → eqb (getD x (e + k) 0) 0 ≡ z
-      → columnLines n (drop k m) ≡ pick z (columnLines (n + 1) (drop (k + 1) m)) (n ∷ columnLines n (drop (k + 1) m))
+      → columnLines n (drop k m) ≡ cond z (columnLines (n + 1) (drop (k + 1) m)) (n ∷ columnLines n (drop (k + 1) m))
   lines-next k n z q u =
       ap (columnLines n) (mask-cons k q)
       ∙ lines-cons n (getD m k false) (drop (k + 1) m)
-      ∙ ap (λ (t : Bool). pick t (columnLines (n + 1) (drop (k + 1) m)) (n ∷ columnLines n (drop (k + 1) m))) (ap (λ (w : ℕ). eqb w 0) (sym (flag-at k q)) ∙ u)
+      ∙ ap (λ (t : Bool). cond t (columnLines (n + 1) (drop (k + 1) m)) (n ∷ columnLines n (drop (k + 1) m))) (ap (λ (w : ℕ). eqb w 0) (sym (flag-at k q)) ∙ u)
 
   lines-none : (k n : ℕ) → cols ≤ k → columnLines n (drop k m) ≡ []
   unfolding columnLines
@@ -91,7 +90,7 @@ putting-none x to e cols = record {
 
 module _ {x y : List ℕ} {to e cols out b k : ℕ} (room : e + cols ≤ length x) (fit : to ≤ e) (p : Putting x to e cols y out b k) where
   putting-step : (z : Bool) → k < cols → eqb (getD x (e + k) 0) 0 ≡ z
-      → Putting x to e cols (pick z y (set y out b)) (pick z out (out + 1)) (pick z (b + 1) b) (k + 1)
+      → Putting x to e cols (cond z y (set y out b)) (cond z out (out + 1)) (cond z (b + 1) b) (k + 1)
   putting-step true q u = record {
     long = p .long;
     on = p .on;
@@ -119,8 +118,8 @@ module _ {x y : List ℕ} {to e cols out b k : ℕ} (room : e + cols ≤ length 
         };
   }
 
-  pub putting-more : {y′ : List ℕ} {out′ b′ w : ℕ} → k < cols → w ≡ getD y (e + k) 0 → out′ ≡ pick (eqb w 0) out (out + 1)
-      → y′ ≡ pick (eqb w 0) y (set y out b) → b′ ≡ pick (eqb w 0) (b + 1) b → Putting x to e cols y′ out′ b′ (k + 1)
+  pub putting-more : {y′ : List ℕ} {out′ b′ w : ℕ} → k < cols → w ≡ getD y (e + k) 0 → out′ ≡ cond (eqb w 0) out (out + 1)
+      → y′ ≡ cond (eqb w 0) y (set y out b) → b′ ≡ cond (eqb w 0) (b + 1) b → Putting x to e cols y′ out′ b′ (k + 1)
   putting-more {w = w} q u f g h =
       rw (f, g, h) (putting-step (eqb w 0) q (ap (λ (v : ℕ). eqb v 0) (sym (p .after (e + k) (omega arith) (omega arith)) ∙ sym u)))
 

@@ -1,13 +1,12 @@
 -- Cells in the tree's words, one by one: where they end, and their words.
 use mathlib.Core.Path.{_≡_, refl, ap, sym, _∙_}
 use mathlib.Core.List.{List}
-use mathlib.Core.Bool.{Bool, true, false}
+use mathlib.Core.Bool.{Bool, true, false, cond}
 use Prim.Native.Nat.{ℕ, zero, suc, _+_, _≤_, _<_}
 use native.Mathlib.Omega.{arith}
 use lib.ListN.{length, take, drop}
 use lib.Dec.{eqb}
 use borrow.Author.Tests.{eqb-true, eqb-false, eq-eqb, ne-eqb}
-use Rattle.tree.specs.Words.{pick}
 use Rattle.columns.specs.Columns.{cellLen, cellsEnd, cellsFrom, next}
 use Rattle.columns.proofs.Buffer.{Same, part-same}
 
@@ -19,10 +18,10 @@ next-below cols j h = go (eqb (j + 1) cols) refl
     go false p = rw p (omega (arith, eqb-false (j + 1) cols p))
 
 pub next-last : (cols j : ℕ) → j + 1 ≡ cols → next cols j ≡ 0
-next-last cols j e = ap (λ (b : Bool). pick b 0 (j + 1)) (eq-eqb (j + 1) cols e)
+next-last cols j e = ap (λ (b : Bool). cond b 0 (j + 1)) (eq-eqb (j + 1) cols e)
 
 pub next-more : (cols j : ℕ) → (j + 1 ≡ cols → ⊥) → next cols j ≡ j + 1
-next-more cols j e = ap (λ (b : Bool). pick b 0 (j + 1)) (ne-eqb (j + 1) cols e)
+next-more cols j e = ap (λ (b : Bool). cond b 0 (j + 1)) (ne-eqb (j + 1) cols e)
 
 -- by the lengths in the headers
 pub cells-le : (x : List ℕ) (n at : ℕ) → at ≤ cellsEnd x at n

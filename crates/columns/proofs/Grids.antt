@@ -1,14 +1,13 @@
 -- Rows of cells, cell by cell: after all of them the columns of lines and the cells that are kept are the definition's.
 use mathlib.Core.Path.{_≡_, refl, ap, sym, _∙_}
 use mathlib.Core.List.{List, [], _∷_, _++_, append-assoc}
-use mathlib.Core.Bool.{Bool, true, false, _&&_}
+use mathlib.Core.Bool.{Bool, true, false, _&&_, cond}
 use Prim.Native.Nat.{ℕ, zero, suc, _+_, _<_}
 use native.Mathlib.Omega.{arith}
 use native.Mathlib.Numerals.{add-one}
 use lib.ListN.{length, drop, getD, set, replicate, length-append, length-replicate}
 use lib.Seq.{set-at, drop-cons}
 use Rattle.tree.specs.Tree.{Node, Nodes, end, _▸_, _⧺_, count}
-use Rattle.tree.specs.Words.{pick}
 use Rattle.reading.specs.Entries.{Entry}
 use Rattle.reading.specs.Reading.{isColumnLine, bothLines, lineCells, lineCols, keepCells, joinRows}
 use Rattle.columns.specs.Columns.{next}
@@ -42,7 +41,7 @@ both-long zero (x ∷ a) (y ∷ b) e f = absurd (omega arith)
 both-long (suc n) (x ∷ a) (y ∷ b) e f = ap suc (both-long n a b (omega arith) (omega arith))
 
 mark-one : (p : List Bool) (j : ℕ) (b c : Bool) (r : List Bool) → length p ≡ j
-    → pick c (p ++ (b ∷ r)) (set (p ++ (b ∷ r)) j false) ≡ p ++ ((b && c) ∷ r)
+    → cond c (p ++ (b ∷ r)) (set (p ++ (b ∷ r)) j false) ≡ p ++ ((b && c) ∷ r)
 mark-one p j true true r e = refl
 mark-one p j false true r e = refl
 mark-one p j true false r e = set-at p true r false j e
@@ -55,7 +54,7 @@ module _ (X : List ℕ) (es : List Entry) where
   -- the mask after the cells l, of which the first is in the column j
   unfoldable pub marks : ℕ → List Bool → ℕ → Nodes → List Bool
   marks cols m j end = m
-  marks cols m j (x ▸ l) = marks cols (pick (line x) m (set m j false)) (next cols j) l
+  marks cols m j (x ▸ l) = marks cols (cond (line x) m (set m j false)) (next cols j) l
 
   marks-row : (cols j : ℕ) (p q : List Bool) (x : Node) (r rest : Nodes) → length p ≡ j → length q ≡ count (x ▸ r) → j + count (x ▸ r) ≡ cols
       → marks cols (p ++ q) j ((x ▸ r) ⧺ rest) ≡ marks cols (p ++ bothLines q (lineCells X es (x ▸ r))) 0 rest
@@ -63,11 +62,11 @@ module _ (X : List ℕ) (es : List Entry) where
   marks-row cols j p [] x r rest e f g = absurd (omega arith)
   marks-row cols j p (b ∷ (c ∷ q)) x end rest e f g = absurd (omega arith)
   marks-row cols j p (b ∷ []) x end rest e f g =
-      ap (λ (k : ℕ). marks cols (pick (line x) (p ++ (b ∷ [])) (set (p ++ (b ∷ [])) j false)) k rest) (next-last cols j (omega arith))
+      ap (λ (k : ℕ). marks cols (cond (line x) (p ++ (b ∷ [])) (set (p ++ (b ∷ [])) j false)) k rest) (next-last cols j (omega arith))
       ∙ ap (λ (m : List Bool). marks cols m 0 rest) (mark-one p j b (line x) [] e)
   marks-row cols j p (b ∷ q) x (y ▸ r) rest e f g =
       let s : List Bool = (b && line x) ∷ [] in
-      ap (λ (k : ℕ). marks cols (pick (line x) (p ++ (b ∷ q)) (set (p ++ (b ∷ q)) j false)) k ((y ▸ r) ⧺ rest)) (next-more cols j (λ z. omega arith))
+      ap (λ (k : ℕ). marks cols (cond (line x) (p ++ (b ∷ q)) (set (p ++ (b ∷ q)) j false)) k ((y ▸ r) ⧺ rest)) (next-more cols j (λ z. omega arith))
       ∙ ap (λ (m : List Bool). marks cols m (j + 1) ((y ▸ r) ⧺ rest)) (mark-one p j b (line x) q e ∙ sym (append-assoc p s q))
       ∙ marks-row cols (j + 1) (p ++ s) q y r rest (length-append p s ∙ ap (λ (k : ℕ). k + 1) e) (omega arith) (omega arith)
       ∙ ap (λ (m : List Bool). marks cols m 0 rest) (append-assoc p s (bothLines q (lineCells X es (y ▸ r))))
@@ -104,9 +103,9 @@ module _ (X : List ℕ) (es : List Entry) where
 -- the cells kept of l, of which the first is in the column j
 unfoldable pub keep : ℕ → List Bool → ℕ → Nodes → Nodes
 keep cols m j end = end
-keep cols m j (x ▸ l) = pick (getD m j false) (keep cols m (next cols j) l) (x ▸ keep cols m (next cols j) l)
+keep cols m j (x ▸ l) = cond (getD m j false) (keep cols m (next cols j) l) (x ▸ keep cols m (next cols j) l)
 
-cells-cons : (b : Bool) (q : List Bool) (x : Node) (l : Nodes) → keepCells (b ∷ q) (x ▸ l) ≡ pick b (keepCells q l) (x ▸ keepCells q l)
+cells-cons : (b : Bool) (q : List Bool) (x : Node) (l : Nodes) → keepCells (b ∷ q) (x ▸ l) ≡ cond b (keepCells q l) (x ▸ keepCells q l)
 unfolding keepCells
 cells-cons true q x l = refl
 cells-cons false q x l = refl
@@ -116,7 +115,7 @@ unfolding keepCells
 cells-none [] = refl
 cells-none (b ∷ q) = refl
 
-pick-join : (b : Bool) (x : Node) (l r : Nodes) → pick b (l ⧺ r) (x ▸ (l ⧺ r)) ≡ pick b l (x ▸ l) ⧺ r
+pick-join : (b : Bool) (x : Node) (l r : Nodes) → cond b (l ⧺ r) (x ▸ (l ⧺ r)) ≡ cond b l (x ▸ l) ⧺ r
 pick-join true x l r = refl
 pick-join false x l r = refl
 
@@ -129,7 +128,7 @@ module _ (cols : ℕ) (m : List Bool) (long : length m ≡ cols) (rest : Nodes) 
   unfolding keep
   keep-one j x r h t =
       let l : Nodes = keepCells (drop (suc j) m) r in
-      ap (λ (k : Nodes). pick (getD m j false) k (x ▸ k)) t
+      ap (λ (k : Nodes). cond (getD m j false) k (x ▸ k)) t
       ∙ pick-join (getD m j false) x l (keep cols m 0 rest)
       ∙ ap (λ (k : Nodes). k ⧺ keep cols m 0 rest) (sym (ap (λ (q : List Bool). keepCells q (x ▸ r)) (drop-cons m j false (omega arith)) ∙ cells-cons (getD m j false) (drop (suc j) m) x r))
 

@@ -1,13 +1,12 @@
 -- The cells that are kept, one by one.
 use mathlib.Core.Path.{_≡_, refl, ap, sym, subst, _∙_}
 use mathlib.Core.List.{List, [], _∷_, _++_, append-assoc, append-nil}
-use mathlib.Core.Bool.{Bool, true, false}
+use mathlib.Core.Bool.{Bool, true, false, cond}
 use Prim.Native.Nat.{ℕ, zero, suc, _+_, _-_, _≤_, _<_}
 use native.Mathlib.Omega.{arith}
 use lib.ListN.{length, take, drop, getD, length-append, length-drop}
 use lib.Seq.{paste, drop-paste, length-paste}
 use lib.Dec.{eqb}
-use Rattle.tree.specs.Words.{pick}
 use Rattle.columns.specs.Columns.{cellLen, cellsEnd, cellsFrom, otherCells, joinWords, next}
 use Rattle.columns.specs.Steps.{Wrote, flags, bit, bits, CellsStand, KeptCells}
 use Rattle.columns.proofs.Buffer.{same-drop, drop-more, seq, wrote-none, wrote-moved}
@@ -38,7 +37,7 @@ pub record Keeping (x : List ℕ) (from e cells cols : ℕ) (y : List ℕ) (at t
   pub rest : drop at y ≡ drop at x
   pub gives : (m : List Bool) → flags e cols x ≡ bits m → Upto x from cells cols y at to c j left m
 
-flag-pick : {A : Type 0} (b : Bool) (u v : A) → pick b u v ≡ pick (eqb (bit b) 0) v u
+flag-pick : {A : Type 0} (b : Bool) (u v : A) → cond b u v ≡ cond (eqb (bit b) 0) v u
 flag-pick true u v = refl
 flag-pick false u v = refl
 
@@ -47,11 +46,11 @@ module _ (y : List ℕ) (to at n : ℕ) (t : to ≤ at) (h : at + n ≤ length y
   abbrev moved : List ℕ
   moved = paste y to (drop at y) n
 
-  after-pick : (z : Bool) → drop (at + n) (pick z moved y) ≡ drop (at + n) y
+  after-pick : (z : Bool) → drop (at + n) (cond z moved y) ≡ drop (at + n) y
   after-pick true = drop-more y moved (to + n) (at + n) (omega arith) (drop-paste y to (drop at y) n (omega arith) (omega (arith, length-drop at y)))
   after-pick false = refl
 
-  long-pick : (z : Bool) → length (pick z moved y) ≡ length y
+  long-pick : (z : Bool) → length (cond z moved y) ≡ length y
   long-pick true = length-paste y to (drop at y) n (omega arith) (omega (arith, length-drop at y))
   long-pick false = refl
 
@@ -67,13 +66,13 @@ module _ {x : List ℕ} {from cells cols : ℕ} {y : List ℕ} {at to c j left :
   abbrev others : List (List ℕ)
   others = otherCells cols m (next cols j) (cellsFrom x (at + n) left)
 
-  cell-same : (z : Bool) → eqb (bit (getD m j false)) 0 ≡ z → u .done ++ pick z (this ∷ others) others ≡ otherCells cols m 0 (cellsFrom x from cells)
+  cell-same : (z : Bool) → eqb (bit (getD m j false)) 0 ≡ z → u .done ++ cond z (this ∷ others) others ≡ otherCells cols m 0 (cellsFrom x from cells)
   unfolding otherCells cellsFrom
   cell-same z g =
-      ap (λ (l : List (List ℕ)). u .done ++ l) (sym (flag-pick (getD m j false) others (this ∷ others) ∙ ap (λ (b : Bool). pick b (this ∷ others) others) g)) ∙ u .same
+      ap (λ (l : List (List ℕ)). u .done ++ l) (sym (flag-pick (getD m j false) others (this ∷ others) ∙ ap (λ (b : Bool). cond b (this ∷ others) others) g)) ∙ u .same
 
   upto-cell : (z : Bool) → eqb (bit (getD m j false)) 0 ≡ z
-      → Upto x from cells cols (pick z (paste y to (drop at y) n) y) (at + n) (pick z (to + n) to) (c + pick z 1 0) (next cols j) left m
+      → Upto x from cells cols (cond z (paste y to (drop at y) n) y) (at + n) (cond z (to + n) to) (c + cond z 1 0) (next cols j) left m
   upto-cell true g = record {
     done = u .done ++ (this ∷ []);
     wrote = rw (join-one (u .done) this) (subst (λ (r : List ℕ). Wrote x from (paste y to (drop at y) n) (to + n) (joinWords (u .done) ++ take n r)) rest (seq (u .wrote) (wrote-moved y to at n t fit)));
@@ -111,11 +110,11 @@ module _ {x : List ℕ} {from e cells cols : ℕ} (ready : CellsStand x from e c
 
     keeping-step : (z : Bool) (l : ℕ) → i + suc l ≡ cells → cellsEnd x at (suc l) ≡ e → ((m : List Bool) → flags e cols x ≡ bits m → Upto x from cells cols y at to c j (suc l) m)
         → i < cells → eqb (getD y (e + j) 0) 0 ≡ z
-        → let n = cellLen x at in Keeping x from e cells cols (pick z (paste y to (drop at y) n) y) (at + n) (pick z (to + n) to) (c + pick z 1 0) (next cols j) (i + 1)
+        → let n = cellLen x at in Keeping x from e cells cols (cond z (paste y to (drop at y) n) y) (at + n) (cond z (to + n) to) (c + cond z 1 0) (next cols j) (i + 1)
     unfolding cellsEnd
     keeping-step z l s d gives h f =
         let n : ℕ = cellLen x at in
-        let y′ : List ℕ = pick z (paste y to (drop at y) n) y in
+        let y′ : List ℕ = cond z (paste y to (drop at y) n) y in
         let fits : at + n ≤ e = omega (arith, keeping-fits h, keeping-len) in
         let inside : at + n ≤ length y = omega (arith, p .long, ready .room) in
         record {
@@ -132,12 +131,12 @@ module _ {x : List ℕ} {from e cells cols : ℕ} (ready : CellsStand x from e c
               upto-cell (gives m g) (p .behind) inside (p .rest) z (rw b at f);
         }
       where
-        to-pick : (z : Bool) → pick z (to + cellLen x at) to ≤ at + cellLen x at
+        to-pick : (z : Bool) → cond z (to + cellLen x at) to ≤ at + cellLen x at
         to-pick true = omega (arith, p .behind)
         to-pick false = omega (arith, p .behind)
 
     pub keeping-more : {y′ : List ℕ} {to′ v j′ n w : ℕ} → i < cells → n ≡ cellLen y at → w ≡ getD y (e + j) 0
-        → to′ ≡ pick (eqb w 0) (to + n) to → y′ ≡ pick (eqb w 0) (paste y to (drop at y) n) y → v ≡ pick (eqb w 0) 1 0 → j′ ≡ next cols j
+        → to′ ≡ cond (eqb w 0) (to + n) to → y′ ≡ cond (eqb w 0) (paste y to (drop at y) n) y → v ≡ cond (eqb w 0) 1 0 → j′ ≡ next cols j
         → Keeping x from e cells cols y′ (at + n) to′ (c + v) j′ (i + 1)
     keeping-more {y′} {to′} {v} {j′} {n} {w} h u f a b g k = go (p .left) (p .sum) (p .chain) (p .gives)
       where

@@ -1,12 +1,11 @@
 -- Bounds of what the split leaves.
 use mathlib.Core.Path.{_≡_, refl, ap, _∙_}
 use mathlib.Core.List.{List, [], _∷_, _++_}
-use mathlib.Core.Bool.{Bool, true, false}
+use mathlib.Core.Bool.{Bool, true, false, cond}
 use Prim.Native.Nat.{ℕ, zero, suc, _+_, _≤_}
 use native.Mathlib.Omega.{arith}
 use lib.ListN.{length, take, drop, getD, set, replicate, length-append, length-set, length-replicate}
 use lib.Seq.{take-take, take-append-le, length-take-le}
-use Rattle.tree.specs.Words.{pick}
 use Rattle.reading.specs.Reading.{keptCols, columnLines}
 use Rattle.columns.specs.Columns.{cellLen, cellsEnd, cellsFrom, areCells, isLine, next, onlyLines, otherCells, joinWords, mask, left, isSplit, splitWords, splitOf}
 use Rattle.columns.specs.Rows.{Bounds}
@@ -28,9 +27,9 @@ lines-most b (false ∷ m) = omega (arith, lines-most (suc b) m)
 only-long : (X : List ℕ) (cols : ℕ) (m : List Bool) (j : ℕ) (ws : List (List ℕ)) → length (onlyLines X cols m j ws) ≡ length m
 unfolding onlyLines
 only-long X cols m j [] = refl
-only-long X cols m j (w ∷ ws) = only-long X cols (pick (isLine X w) m (set m j false)) (next cols j) ws ∙ one (isLine X w)
+only-long X cols m j (w ∷ ws) = only-long X cols (cond (isLine X w) m (set m j false)) (next cols j) ws ∙ one (isLine X w)
   where
-    one : (b : Bool) → length (pick b m (set m j false)) ≡ length m
+    one : (b : Bool) → length (cond b m (set m j false)) ≡ length m
     one true = refl
     one false = length-set m j false
 
@@ -39,7 +38,7 @@ unfolding otherCells
 other-most cols m j [] = omega arith
 other-most cols m j (w ∷ ws) = one (getD m j false) (otherCells cols m (next cols j) ws) (other-most cols m (next cols j) ws)
   where
-    one : (b : Bool) (r : List (List ℕ)) → length r ≤ length ws → length (pick b r (w ∷ r)) ≤ suc (length ws)
+    one : (b : Bool) (r : List (List ℕ)) → length r ≤ length ws → length (cond b r (w ∷ r)) ≤ suc (length ws)
     one true r h = omega arith
     one false r h = omega arith
 
@@ -60,7 +59,7 @@ words-most cols m x (suc n) at j =
     one (getD m j false) (take (cellLen x at) (drop at x)) (otherCells cols m (next cols j) (cellsFrom x (at + cellLen x at) n)) (take-most (cellLen x at) (drop at x)) (words-most cols m x n (at + cellLen x at) (next cols j))
   where
     one : (b : Bool) (w : List ℕ) (r : List (List ℕ)) → length w ≤ cellLen x at → at + cellLen x at + length (joinWords r) ≤ cellsEnd x (at + cellLen x at) n
-        → at + length (joinWords (pick b r (w ∷ r))) ≤ cellsEnd x (at + cellLen x at) n
+        → at + length (joinWords (cond b r (w ∷ r))) ≤ cellsEnd x (at + cellLen x at) n
     one true w r k h = omega arith
     one false w r k h = omega (arith, length-append w (joinWords r))
 

@@ -1,14 +1,13 @@
 -- The flags after each cell.
 use mathlib.Core.Path.{_≡_, refl, ap, sym, _∙_}
 use mathlib.Core.List.{List, [], _∷_}
-use mathlib.Core.Bool.{Bool, true, false}
+use mathlib.Core.Bool.{Bool, true, false, cond}
 use Prim.Native.Nat.{ℕ, zero, suc, _+_, _≤_, _<_}
 use native.Mathlib.Omega.{arith}
 use lib.ListN.{length, take, drop, set, replicate, length-replicate, length-set}
 use lib.Seq.{paste, take-all, length-paste, drop-paste, take-set-le, take-set-lt, drop-set-add, drop-set-lt}
 use lib.Dec.{eqb, leb}
 use borrow.Author.Tests.{leb-true, leb-false, ne-eqb, eqb-true}
-use Rattle.tree.specs.Words.{pick}
 use Rattle.columns.specs.Columns.{cellLen, cellsEnd, cellsFrom, isLine, onlyLines, next, mask}
 use Rattle.columns.specs.Steps.{flags, bit, bits, Beside, Marked}
 use Rattle.columns.proofs.Buffer.{Same, same-take, front-paste, part-paste, part-same}
@@ -25,12 +24,12 @@ bits-ones (suc n) = ap (λ (r : List ℕ). 1 ∷ r) (bits-ones n)
 
 -- the flags, and the words beside them, after one cell
 flag-mark : (x : List ℕ) (e cols j : ℕ) (t : Bool) (m : List Bool) → j < cols → flags e cols x ≡ bits m
-    → flags e cols (pick t x (set x (e + j) 0)) ≡ bits (pick t m (set m j false))
+    → flags e cols (cond t x (set x (e + j) 0)) ≡ bits (cond t m (set m j false))
 flag-mark x e cols j true m h f = f
 flag-mark x e cols j false m h f =
     ap (take cols) (drop-set-add e x j 0) ∙ take-set-lt cols (drop e x) j 0 h ∙ ap (λ (r : List ℕ). set r j 0) f ∙ sym (bits-set m j)
 
-beside-mark : (t : Bool) (x : List ℕ) (e cols j : ℕ) → j < cols → Beside x e cols (pick t x (set x (e + j) 0))
+beside-mark : (t : Bool) (x : List ℕ) (e cols j : ℕ) → j < cols → Beside x e cols (cond t x (set x (e + j) 0))
 beside-mark true x e cols j h = record { long = refl; front = refl; after = refl }
 beside-mark false x e cols j h = record {
   long = length-set x (e + j) 0;
@@ -53,7 +52,7 @@ pub record Marking (X x : List ℕ) (from e cells cols : ℕ) (y : List ℕ) (at
   pub same : onlyLines X cols sofar j (cellsFrom x at left) ≡ mask X x from e cells cols
 
 module _ {X x y : List ℕ} {from e cells cols at j i n : ℕ} (room : e ≤ length x) (m : Marking X x from e cells cols y at j i) (h : i < cells)
-    (fit : n ≡ pick (leb (at + cellLen y at) e) (cellLen y at) 0) where
+    (fit : n ≡ cond (leb (at + cellLen y at) e) (cellLen y at) 0) where
   -- the next cell passes e
   pub marking-broken : n ≡ 0 → false ≡ eqb (cellsEnd x from cells) e
   unfolding cellsEnd
@@ -63,7 +62,7 @@ module _ {X x y : List ℕ} {from e cells cols at j i n : ℕ} (room : e ≤ len
       past true q p = omega (arith, same-take x y at e (m .beside .front) (at + 4) (omega arith) (omega (arith, leb-true (at + 6) e q)))
       past false q p = omega (arith, leb-false (at + 6) e q)
 
-      go : (l : ℕ) → i + l ≡ cells → cellsEnd x at l ≡ cellsEnd x from cells → (b : Bool) → leb (at + cellLen y at) e ≡ b → n ≡ pick b (cellLen y at) 0 → cellsEnd x from cells ≡ e → ⊥
+      go : (l : ℕ) → i + l ≡ cells → cellsEnd x at l ≡ cellsEnd x from cells → (b : Bool) → leb (at + cellLen y at) e ≡ b → n ≡ cond b (cellLen y at) 0 → cellsEnd x from cells ≡ e → ⊥
       go zero s c b p q r = omega arith
       go (suc l) s c true p q r = omega arith
       go (suc l) s c false p q r = omega (arith, cells-le x l (at + cellLen x at), past (leb (at + 6) e) refl (leb-false (at + cellLen y at) e p))
@@ -71,7 +70,7 @@ module _ {X x y : List ℕ} {from e cells cols at j i n : ℕ} (room : e ≤ len
   fits : (n ≡ 0 → ⊥) → (n ≡ cellLen y at) × (at + cellLen y at ≤ e)
   fits z = go (leb (at + cellLen y at) e) refl fit
     where
-      go : (b : Bool) → leb (at + cellLen y at) e ≡ b → n ≡ pick b (cellLen y at) 0 → (n ≡ cellLen y at) × (at + cellLen y at ≤ e)
+      go : (b : Bool) → leb (at + cellLen y at) e ≡ b → n ≡ cond b (cellLen y at) 0 → (n ≡ cellLen y at) × (at + cellLen y at ≤ e)
       go true p q = (q, leb-true (at + cellLen y at) e p)
       go false p q = absurd (z q)
 
@@ -81,7 +80,7 @@ module _ {X x y : List ℕ} {from e cells cols at j i n : ℕ} (room : e ≤ len
   pub marking-fits : (n ≡ 0 → ⊥) → at + cellLen y at ≤ length y
   marking-fits z = omega (arith, fits z .1, m .beside .long)
 
-  pub marking-more : {y′ : List ℕ} {t : Bool} {j′ : ℕ} → (n ≡ 0 → ⊥) → t ≡ isLine X (take (cellLen y at) (drop at y)) → y′ ≡ pick t y (set y (e + j) 0) → j′ ≡ next cols j
+  pub marking-more : {y′ : List ℕ} {t : Bool} {j′ : ℕ} → (n ≡ 0 → ⊥) → t ≡ isLine X (take (cellLen y at) (drop at y)) → y′ ≡ cond t y (set y (e + j) 0) → j′ ≡ next cols j
       → Marking X x from e cells cols y′ (at + n) j′ (i + 1)
   unfolding cellsEnd cellsFrom onlyLines
   marking-more {y′} {t} {j′} z u g c =
@@ -101,7 +100,7 @@ module _ {X x y : List ℕ} {from e cells cols at j i n : ℕ} (room : e ≤ len
         left = l;
         sum = omega arith;
         chain = d;
-        sofar = pick t (m .sofar) (set (m .sofar) j false);
+        sofar = cond t (m .sofar) (set (m .sofar) j false);
         flag = ap (flags e cols) g ∙ flag-mark y e cols j t (m .sofar) (m .col) (m .flag);
         same = rw v o;
       })
@@ -150,7 +149,7 @@ module _ (X x y : List ℕ) (from e cells cols : ℕ) (room : e + cols ≤ lengt
             f g ∙ ap (λ (ws : List (List ℕ)). bits (onlyLines X cols (replicate cols true) 0 ws)) c;
       }
 
-  pub marked-broken : {z : List ℕ} {at j i n : ℕ} → Marking X y from e cells cols z at j i → i < cells → n ≡ pick (leb (at + cellLen z at) e) (cellLen z at) 0 → n ≡ 0
+  pub marked-broken : {z : List ℕ} {at j i n : ℕ} → Marking X y from e cells cols z at j i → i < cells → n ≡ cond (leb (at + cellLen z at) e) (cellLen z at) 0 → n ≡ 0
       → Marked X x from e cells cols z false
   marked-broken m h f o = marked (m .beside) (marking-broken (omega (arith, beside-ones .long)) m h f o) (λ g. absurd (let q : _≡_ {A = ℕ} 0 1 = cc in omega arith))
 

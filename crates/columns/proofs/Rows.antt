@@ -1,14 +1,14 @@
 -- Where the words are those of rows, the split leaves the words of the definition's matrix.
 use mathlib.Core.Path.{_≡_, refl, ap, sym, _∙_}
 use mathlib.Core.List.{List, [], _∷_, _++_, append-nil}
-use mathlib.Core.Bool.{Bool, true, false, not, _||_}
+use mathlib.Core.Bool.{Bool, true, false, not, _||_, cond}
 use Prim.Native.Nat.{ℕ, zero, suc, _+_, _≤_, _<_}
 use native.Mathlib.Omega.{arith}
 use lib.ListN.{length, take, drop, getD, set, replicate, length-append, List·getD-append}
 use lib.Seq.{take-take, take-at, getD-take, getD-append-add}
 use lib.Dec.{eqb}
 use Rattle.tree.specs.Tree.{Head, node, Nodes, end, _▸_, _⧺_, count}
-use Rattle.tree.specs.Words.{pick, encode, encodes, encodeItems}
+use Rattle.tree.specs.Words.{encode, encodes, encodeItems}
 use Rattle.reading.specs.Entries.{Entry}
 use Rattle.reading.specs.Reading.{Rows, isColumnLine, joinRows, keptCols, columnLines, keepCells, lineCols, splitColumnLines}
 use Rattle.columns.specs.Columns.{cellLen, cellsEnd, cellsFrom, areCells, next, onlyLines, otherCells, joinWords, mask, left, isSplit, splitWords, splitOf}
@@ -39,16 +39,16 @@ only-is : (X : List ℕ) (es : List Entry) (cols : ℕ) {n : ℕ} {l : Nodes} �
 unfolding onlyLines wordsOf marks
 only-is X es cols none m j = refl
 only-is X es cols (cell {l} {m = r} c) m j =
-    ap (λ (b : Bool). onlyLines X cols (pick b m (set m j false)) (next cols j) (wordsOf r)) (line-cell X es l)
-    ∙ only-is X es cols c (pick (isColumnLine X es (node Head.cell l)) m (set m j false)) (next cols j)
+    ap (λ (b : Bool). onlyLines X cols (cond b m (set m j false)) (next cols j) (wordsOf r)) (line-cell X es l)
+    ∙ only-is X es cols c (cond (isColumnLine X es (node Head.cell l)) m (set m j false)) (next cols j)
 
 other-is : (cols : ℕ) (m : List Bool) (j : ℕ) (l : Nodes) → otherCells cols m j (wordsOf l) ≡ wordsOf (keep cols m j l)
 unfolding otherCells wordsOf keep
 other-is cols m j end = refl
 other-is cols m j (x ▸ l) =
-    ap (λ (r : List (List ℕ)). pick (getD m j false) r (encode x ∷ r)) (other-is cols m (next cols j) l) ∙ one (getD m j false) (keep cols m (next cols j) l)
+    ap (λ (r : List (List ℕ)). cond (getD m j false) r (encode x ∷ r)) (other-is cols m (next cols j) l) ∙ one (getD m j false) (keep cols m (next cols j) l)
   where
-    one : (b : Bool) (k : Nodes) → pick b (wordsOf k) (encode x ∷ wordsOf k) ≡ wordsOf (pick b k (x ▸ k))
+    one : (b : Bool) (k : Nodes) → cond b (wordsOf k) (encode x ∷ wordsOf k) ≡ wordsOf (cond b k (x ▸ k))
     one true k = refl
     one false k = refl
 

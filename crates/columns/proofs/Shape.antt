@@ -1,22 +1,17 @@
 -- The tests of the cells' room.
 use mathlib.Core.Path.{_≡_, refl, ap, sym, _∙_}
 use mathlib.Core.List.{List}
-use mathlib.Core.Bool.{Bool, true, false, _&&_}
+use mathlib.Core.Bool.{Bool, true, false, _&&_, cond, and-false}
 use Prim.Native.Nat.{ℕ, zero, suc, _+_, _≤_, _<_}
 use native.Mathlib.Omega.{arith}
 use lib.ListN.{length}
 use lib.Dec.{eqb, ltb, leb}
 use borrow.Author.Tests.{ltb-true, leb-true, leb-false, eqb-true, lt-ltb, le-ltb, le-leb, lt-leb, eq-eqb}
-use Rattle.tree.specs.Words.{pick}
 use Rattle.columns.specs.Columns.{cellLen, cellsEnd, hasRoom, areCells}
 
 pub and-true : (a b : Bool) → (a && b) ≡ true → (a ≡ true) × (b ≡ true)
 and-true true b e = (refl, e)
 and-true false b e = let z : _≡_ {A = ℕ} 0 1 = cc in absurd (omega arith)
-
-and-false : (a : Bool) → false ≡ (a && false)
-and-false true = refl
-and-false false = refl
 
 module _ (long e cols : ℕ) where
   pub room-none : cols ≡ 0 → false ≡ hasRoom long e cols
@@ -25,7 +20,7 @@ module _ (long e cols : ℕ) where
 
   pub room-many : 4096 < cols → false ≡ hasRoom long e cols
   unfolding hasRoom
-  room-many h = and-false (ltb 0 cols) ∙ sym (ap (λ (b : Bool). ltb 0 cols && (b && leb (e + cols) long)) (lt-leb cols 4096 h))
+  room-many h = sym (and-false (ltb 0 cols)) ∙ sym (ap (λ (b : Bool). ltb 0 cols && (b && leb (e + cols) long)) (lt-leb cols 4096 h))
 
   pub room-some : (cols ≡ 0 → ⊥) → cols ≤ 4096 → leb (e + cols) long ≡ hasRoom long e cols
   unfolding hasRoom
@@ -46,16 +41,16 @@ module _ (long e cols : ℕ) where
 -- the cell at `at` ends within e, or not
 module _ (x : List ℕ) (at e : ℕ) where
   abbrev Within : ℕ → Type 0
-  Within r = r ≡ pick (leb (at + cellLen x at) e) (cellLen x at) 0
+  Within r = r ≡ cond (leb (at + cellLen x at) e) (cellLen x at) 0
 
   pub within-yes : (n : ℕ) (b : Bool) → n ≡ cellLen x at → b ≡ leb (at + n) e → b ≡ true → Within n
-  within-yes n b k t h = k ∙ ap (λ (t : Bool). pick t (cellLen x at) 0) (sym (ap (λ (m : ℕ). leb (at + m) e) (sym k) ∙ sym t ∙ h))
+  within-yes n b k t h = k ∙ ap (λ (t : Bool). cond t (cellLen x at) 0) (sym (ap (λ (m : ℕ). leb (at + m) e) (sym k) ∙ sym t ∙ h))
 
   pub within-no : (n : ℕ) (b : Bool) → n ≡ cellLen x at → b ≡ leb (at + n) e → b ≡ false → Within 0
-  within-no n b k t h = ap (λ (t : Bool). pick t (cellLen x at) 0) (sym (ap (λ (m : ℕ). leb (at + m) e) (sym k) ∙ sym t ∙ h))
+  within-no n b k t h = ap (λ (t : Bool). cond t (cellLen x at) 0) (sym (ap (λ (m : ℕ). leb (at + m) e) (sym k) ∙ sym t ∙ h))
 
   pub within-short : (b : Bool) → b ≡ leb (at + 6) e → b ≡ false → Within 0
-  within-short b t h = ap (λ (t : Bool). pick t (cellLen x at) 0) (sym (lt-leb (at + cellLen x at) e (omega (arith, leb-false (at + 6) e (sym t ∙ h)))))
+  within-short b t h = ap (λ (t : Bool). cond t (cellLen x at) 0) (sym (lt-leb (at + cellLen x at) e (omega (arith, leb-false (at + 6) e (sym t ∙ h)))))
 
 -- whether the cells stand there
 module _ (x : List ℕ) (from e cells cols : ℕ) where

@@ -1,12 +1,11 @@
 -- The steps of the split put together.
 use mathlib.Core.Path.{_≡_, refl, ap, sym, _∙_}
 use mathlib.Core.List.{List, _++_}
-use mathlib.Core.Bool.{Bool, true, false, not, _&&_, _||_}
+use mathlib.Core.Bool.{Bool, true, false, not, _&&_, _||_, cond}
 use Prim.Native.Nat.{ℕ, _+_, _-_, _≤_, _<_}
 use native.Mathlib.Omega.{arith}
 use lib.ListN.{length, take, drop}
 use lib.Dec.{eqb}
-use Rattle.tree.specs.Words.{pick}
 use Rattle.reading.specs.Reading.{keptCols, columnLines}
 use Rattle.columns.specs.declared.moves.Kept.{Kept}
 use Rattle.columns.specs.Columns.{cellsEnd, cellsFrom, hasRoom, areCells, joinWords, mask, left, isSplit, splitWords, splitOf}
@@ -27,14 +26,14 @@ module _ (X x : List ℕ) (from e cells cols : ℕ) where
     pub count-not : t ≡ false → KeptCount X x from e cells cols y 0
     count-not q = record {
       beside = p .beside;
-      tells = sym (ap (λ (s : Bool). pick s (keptCols (mask X x from e cells cols)) 0) (sym are ∙ q));
+      tells = sym (ap (λ (s : Bool). cond s (keptCols (mask X x from e cells cols)) 0) (sym are ∙ q));
       flag = λ g. differ (sym g ∙ sym are ∙ q);
     }
 
     pub count-some : {r : ℕ} → t ≡ true → Counted y e cols r → KeptCount X x from e cells cols y r
     count-some q n = record {
       beside = p .beside;
-      tells = n (mask X x from e cells cols) (p .flag q) ∙ sym (ap (λ (s : Bool). pick s (keptCols (mask X x from e cells cols)) 0) (sym are ∙ q));
+      tells = n (mask X x from e cells cols) (p .flag q) ∙ sym (ap (λ (s : Bool). cond s (keptCols (mask X x from e cells cols)) 0) (sym are ∙ q));
       flag = λ g. p .flag q;
     }
 
@@ -43,7 +42,7 @@ module _ (X x : List ℕ) (from e cells cols : ℕ) where
     unfolding isSplit
     split-told = go (areCells x from e cells cols) refl (p .tells)
       where
-        go : (a : Bool) → areCells x from e cells cols ≡ a → k ≡ pick a (keptCols (mask X x from e cells cols)) 0
+        go : (a : Bool) → areCells x from e cells cols ≡ a → k ≡ cond a (keptCols (mask X x from e cells cols)) 0
             → (areCells x from e cells cols && not (eqb (keptCols (mask X x from e cells cols)) 0 || eqb (keptCols (mask X x from e cells cols)) cols)) ≡ not w
         go true h q = rw (h, u, q) refl
         go false h q = rw (h, u, q) refl
@@ -60,7 +59,7 @@ module _ (X x : List ℕ) (from e cells cols : ℕ) where
       are-cells : areCells x from e cells cols ≡ true
       are-cells = go (areCells x from e cells cols) refl (p .tells)
         where
-          go : (a : Bool) → areCells x from e cells cols ≡ a → k ≡ pick a (keptCols (mask X x from e cells cols)) 0 → areCells x from e cells cols ≡ true
+          go : (a : Bool) → areCells x from e cells cols ≡ a → k ≡ cond a (keptCols (mask X x from e cells cols)) 0 → areCells x from e cells cols ≡ true
           go true h q = h
           go false h q = differ (sym (rw q at u) ∙ v)
 

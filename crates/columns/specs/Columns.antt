@@ -2,10 +2,9 @@
 -- `end`, row after row, `cols` in a row. A word that is not there is read as 0.
 use Prim.Native.Nat.{ℕ, zero, suc, _+_, _-_}
 use mathlib.Core.List.{List, [], _∷_, _++_}
-use mathlib.Core.Bool.{Bool, true, false, not, _&&_, _||_}
+use mathlib.Core.Bool.{Bool, true, false, not, _&&_, _||_, cond}
 use lib.ListN.{length, getD, take, drop, set, replicate}
 use lib.Dec.{eqb, ltb, leb}
-use Rattle.tree.specs.Words.{pick}
 use Rattle.reading.specs.Reading.{keptCols, columnLines}
 use Rattle.tokens.specs.Bytes.{same}
 use Rattle.columns.specs.declared.Split.{Split}
@@ -43,19 +42,19 @@ isLine X w =
 
 -- the column after j
 abbrev pub next : ℕ → ℕ → ℕ
-next cols j = pick (eqb (j + 1) cols) 0 (j + 1)
+next cols j = cond (eqb (j + 1) cols) 0 (j + 1)
 
 -- "Columns whose every cell is" such a line: which of them are. m tells it of the cells before these, the first of which is in the
 -- column j.
 unfoldable pub onlyLines : List ℕ → ℕ → List Bool → ℕ → List (List ℕ) → List Bool
 onlyLines X cols m j [] = m
-onlyLines X cols m j (w ∷ ws) = onlyLines X cols (pick (isLine X w) m (set m j false)) (next cols j) ws
+onlyLines X cols m j (w ∷ ws) = onlyLines X cols (cond (isLine X w) m (set m j false)) (next cols j) ws
 
 -- the cells of the other columns
 unfoldable pub otherCells : ℕ → List Bool → ℕ → List (List ℕ) → List (List ℕ)
 otherCells cols m j [] = []
 otherCells cols m j (w ∷ ws) =
-    pick (getD m j false) (otherCells cols m (next cols j) ws) (w ∷ otherCells cols m (next cols j) ws)
+    cond (getD m j false) (otherCells cols m (next cols j) ws) (w ∷ otherCells cols m (next cols j) ws)
 
 -- the words of cells, one after another
 unfoldable pub joinWords : List (List ℕ) → List ℕ
@@ -76,12 +75,12 @@ module _ (X x : List ℕ) (from end cells cols : ℕ) where
 
   -- The words up to the new end: the cells that are left and the boundaries where the columns of lines stood, or all as it was.
   unfoldable pub splitWords : List ℕ
-  splitWords = pick isSplit (take from x ++ (joinWords left ++ columnLines 0 mask)) (take end x)
+  splitWords = cond isSplit (take from x ++ (joinWords left ++ columnLines 0 mask)) (take end x)
 
   -- the new end, and how many columns, cells and lines there are
   unfoldable pub splitOf : Split
   splitOf =
-      pick isSplit
+      cond isSplit
       (record {
         end = from + (length (joinWords left) + length (columnLines 0 mask));
         cols = keptCols mask;
@@ -94,6 +93,6 @@ module _ (X x : List ℕ) (from end cells cols : ℕ) where
   -- room past the cells, all as it was.
   unfoldable pub splitTree : List ℕ
   splitTree =
-      pick (hasRoom (length x) end cols)
+      cond (hasRoom (length x) end cols)
       (splitWords ++ (replicate (end + cols - splitOf .end) 0 ++ drop (end + cols) x))
       x

@@ -2,10 +2,9 @@
 use Prim.Native.Nat.{ℕ, _+_, _≤_, _<_}
 use mathlib.Core.Path.{_≡_}
 use mathlib.Core.List.{List, _++_, map}
-use mathlib.Core.Bool.{Bool, true, false}
+use mathlib.Core.Bool.{Bool, true, false, cond}
 use lib.ListN.{length, take, drop}
 use lib.Dec.{eqb}
-use Rattle.tree.specs.Words.{pick}
 use Rattle.reading.specs.Reading.{keptCols, columnLines}
 use Rattle.columns.specs.declared.moves.Kept.{Kept}
 use Rattle.columns.specs.Columns.{cellsEnd, cellsFrom, areCells, otherCells, joinWords, mask}
@@ -46,7 +45,7 @@ Counted x end cols r = (m : List Bool) → flags end cols x ≡ bits m → r ≡
 -- What count_kept leaves and answers.
 pub record KeptCount (X x : List ℕ) (from end cells cols : ℕ) (y : List ℕ) (r : ℕ) : Type 0 where
   pub beside : Beside x end cols y
-  pub tells : r ≡ pick (areCells x from end cells cols) (keptCols (mask X x from end cells cols)) 0
+  pub tells : r ≡ cond (areCells x from end cells cols) (keptCols (mask X x from end cells cols)) 0
   pub flag : areCells x from end cells cols ≡ true → flags end cols y ≡ bits (mask X x from end cells cols)
 
 -- What keep_cells asks: the cells stand there, and past them the flags.

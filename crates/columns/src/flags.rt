@@ -4,12 +4,11 @@ use crate::line::is_column_line;
 use crate::line::word;
 use buffer::fits;
 ghost use mathlib.Core.Path.{_≡_};
-ghost use mathlib.Core.Bool.{true};
+ghost use mathlib.Core.Bool.{true, cond};
 ghost use Prim.Native.Nat.{_+_, _≤_, _<_};
 ghost use lib.ListN.{length, set, replicate};
 ghost use lib.Seq.{paste};
 ghost use lib.Dec.{eqb};
-ghost use Rattle.tree.specs.Words.{pick};
 ghost use Rattle.columns.specs.Columns.{next, hasRoom};
 ghost use Rattle.columns.specs.Steps.{Marked, Counted, KeptCount, Lines};
 
@@ -35,7 +34,7 @@ pub(crate) fn fill(tree: &mut [u32], at: usize, n: usize, value: u32)
 
 fn mark(tree: &mut [u32], at: usize, line: bool)
     requires { ⌜ at < length (now tree) ⌝ }
-    ensures { λ _. ⌜ now (tree .exit) ≡ pick line (now (tree .entry)) (set (now (tree .entry)) at 0) ⌝ }
+    ensures { λ _. ⌜ now (tree .exit) ≡ cond line (now (tree .entry)) (set (now (tree .entry)) at 0) ⌝ }
 {
     if !line {
         tree[at] = 0;
@@ -74,7 +73,7 @@ fn mark_columns(
 }
 
 pub(crate) fn flag_kept(flag: u32) -> usize
-    ensures { λ r. ⌜ r ≡ pick (eqb flag 0) 1 0 ⌝ }
+    ensures { λ r. ⌜ r ≡ cond (eqb flag 0) 1 0 ⌝ }
 {
     if flag == 0 { 1 } else { 0 }
 }
@@ -126,8 +125,8 @@ pub(crate) fn count_kept(
 
 fn put_line(tree: &mut [u32], to: usize, flag: u32, boundary: u32) -> usize
     requires { ⌜ to < length (now tree) ⌝ }
-    ensures { λ r. ⌜ r ≡ pick (eqb flag 0) to (to + 1) ⌝ }
-    ensures { λ _. ⌜ now (tree .exit) ≡ pick (eqb flag 0) (now (tree .entry)) (set (now (tree .entry)) to boundary) ⌝ }
+    ensures { λ r. ⌜ r ≡ cond (eqb flag 0) to (to + 1) ⌝ }
+    ensures { λ _. ⌜ now (tree .exit) ≡ cond (eqb flag 0) (now (tree .entry)) (set (now (tree .entry)) to boundary) ⌝ }
 {
     if flag == 0 {
         to
@@ -139,7 +138,7 @@ fn put_line(tree: &mut [u32], to: usize, flag: u32, boundary: u32) -> usize
 
 fn next_boundary(flag: u32, boundary: u32) -> u32
     requires { ⌜ boundary < 4096 ⌝ }
-    ensures { λ r. ⌜ r ≡ pick (eqb flag 0) (boundary + 1) boundary ⌝ }
+    ensures { λ r. ⌜ r ≡ cond (eqb flag 0) (boundary + 1) boundary ⌝ }
 {
     if flag == 0 { boundary + 1 } else { boundary }
 }

@@ -1,11 +1,11 @@
 // Cells by their words: their lengths, and which are column lines.
 use buffer::fits;
 use spans::is_span_byte;
+ghost use mathlib.Core.Bool.{cond};
 ghost use mathlib.Core.Path.{_≡_};
 ghost use Prim.Native.Nat.{_+_, _≤_, _<_};
 ghost use lib.ListN.{length, getD, take, drop};
 ghost use lib.Dec.{leb};
-ghost use Rattle.tree.specs.Words.{pick};
 ghost use Rattle.columns.specs.Columns.{cellLen, loneSymbol, isLine};
 
 // kinds of nodes: docs/LAYOUT.md
@@ -31,7 +31,7 @@ pub(crate) fn cell_len(tree: &[u32], at: usize) -> usize
 // The length of the cell at `at`, or 0 if it passes `end`.
 pub(crate) fn cell_within(tree: &[u32], at: usize, end: usize) -> usize
     requires { ⌜ end ≤ length (now tree) ⌝ }
-    ensures { λ r. ⌜ r ≡ pick (leb (at + cellLen (now (tree .entry)) at) end) (cellLen (now (tree .entry)) at) 0 ⌝ }
+    ensures { λ r. ⌜ r ≡ cond (leb (at + cellLen (now (tree .entry)) at) end) (cellLen (now (tree .entry)) at) 0 ⌝ }
 {
     if fits(end, at, 6) {
         let n = cell_len(tree, at);

@@ -3,12 +3,12 @@ use crate::flags::flag_kept;
 use crate::flags::next_col;
 use crate::line::cell_len;
 use crate::line::word;
+ghost use mathlib.Core.Bool.{cond};
 ghost use mathlib.Core.Path.{_≡_};
 ghost use Prim.Native.Nat.{_+_, _≤_};
 ghost use lib.ListN.{length, drop};
 ghost use lib.Seq.{paste};
 ghost use lib.Dec.{eqb};
-ghost use Rattle.tree.specs.Words.{pick};
 ghost use Rattle.columns.specs.Steps.{CellsStand, KeptCells};
 
 // Where the cells that are kept end, and how many they are.
@@ -33,8 +33,8 @@ fn move_left(tree: &mut [u32], to: usize, at: usize, n: usize)
 fn keep_cell(tree: &mut [u32], to: usize, at: usize, n: usize, flag: u32) -> usize
     requires { ⌜ to ≤ at ⌝ }
     requires { ⌜ at + n ≤ length (now tree) ⌝ }
-    ensures { λ r. ⌜ r ≡ pick (eqb flag 0) (to + n) to ⌝ }
-    ensures { λ _. ⌜ now (tree .exit) ≡ pick (eqb flag 0) (paste (now (tree .entry)) to (drop at (now (tree .entry))) n) (now (tree .entry)) ⌝ }
+    ensures { λ r. ⌜ r ≡ cond (eqb flag 0) (to + n) to ⌝ }
+    ensures { λ _. ⌜ now (tree .exit) ≡ cond (eqb flag 0) (paste (now (tree .entry)) to (drop at (now (tree .entry))) n) (now (tree .entry)) ⌝ }
 {
     if flag == 0 {
         move_left(tree, to, at, n);

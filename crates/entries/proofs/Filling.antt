@@ -1,7 +1,7 @@
 -- The records of the first entries, with the brackets among them that are still open: one token after the other.
 use Prim.Native.Nat.{ℕ, zero, suc, _+_, _*_, _-_, _/_, _%_, _≤_, _<_}
 use mathlib.Core.Path.{_≡_, refl, sym, ap, _∙_}
-use mathlib.Core.Bool.{true, false}
+use mathlib.Core.Bool.{true, false, cond}
 use mathlib.Core.List.{List, [], _∷_, _++_}
 use native.Mathlib.Omega.{arith}
 use native.Mathlib.Numerals.{add-one}
@@ -18,7 +18,6 @@ use Rattle.tokens.proofs.Cases.{by-eq, by-lt}
 use Rattle.tokens.proofs.Numbers.{number-of-token}
 use Rattle.tokens.proofs.TokenList.{kind-space, kind-other, count-space, count-other, tokenAt, tokensFrom, tokens-all, tokens-none, tokens-next, others-same, others-more}
 use Rattle.tree.specs.Tree.{nowhere}
-use Rattle.tree.specs.Words.{pick}
 use Rattle.reading.specs.Entries.{Entry, is, entries, closeAfter, hasSep}
 use Rattle.records.specs.Record.{placeOf, afterClose, sepWord, marksOf, withRecord}
 use Rattle.stores.proofs.Stores.{record-whole}
@@ -128,7 +127,7 @@ module _ (count : ℕ) (table J : List ℕ) where
             ∙ places-other i (f .space) (tokenAt table i) behind (kind-other (getD table (3 * i + 2) 0) k)
             ∙ ap (λ (j : ℕ). i ∷ places j behind) (sym (add-one i))
 
-        row : drop (4 * n) words ≡ i ∷ ofBracket entry (closeFrom zero (suc n) later) ∷ ofBracket entry (pick (hasSep zero later) 1 0) ∷ 0 ∷ records (suc n) (places (i + 1) behind) later
+        row : drop (4 * n) words ≡ i ∷ ofBracket entry (closeFrom zero (suc n) later) ∷ ofBracket entry (cond (hasSep zero later) 1 0) ∷ 0 ∷ records (suc n) (places (i + 1) behind) later
         unfolding records
         row = f .rest ∙ rw (places-now, entries-now)
 
@@ -143,7 +142,7 @@ module _ (count : ℕ) (table J : List ℕ) where
         unfolding afterClose
         close-word = rw (word 1, row)
 
-        sep-word : sepWord words n ≡ ofBracket entry (pick (hasSep zero later) 1 0)
+        sep-word : sepWord words n ≡ ofBracket entry (cond (hasSep zero later) 1 0)
         unfolding sepWord
         sep-word = rw (word 2, row)
 

@@ -2,22 +2,17 @@
 -- in it, one entry after the other.
 use Prim.Native.Nat.{ℕ, zero, suc, _+_, _≤_, _<_}
 use mathlib.Core.Path.{_≡_, refl, sym, ap, _∙_}
-use mathlib.Core.Bool.{Bool, true, false, _&&_}
+use mathlib.Core.Bool.{Bool, true, false, _&&_, cond, and-false}
 use mathlib.Core.List.{List, [], _∷_}
 use mathlib.Core.Option.{Option, none, some}
 use native.Mathlib.Omega.{arith}
 use lib.Dec.{eqb}
 use borrow.Author.Tests.{eq-eqb, ne-eqb}
 use Rattle.tokens.specs.declared.token.Token.the-variants as token
-use Rattle.tree.specs.Words.{pick}
 use Rattle.reading.specs.Entries.{Entry, is, closeAfter, hasSep}
 use Rattle.tokens.proofs.Cases.{by-eq}
 use Rattle.entries.specs.Prepared.{closeFrom, ofBracket}
 use Rattle.entries.specs.Open.{Chain}
-
-and-false : (b : Bool) → b && false ≡ false
-and-false true = refl
-and-false false = refl
 
 -- The law over depth: what closes a bracket before e ∷ es, and the Sep in it, by what does so before es.
 module _ (n : ℕ) (e : Entry) (es : List Entry) where
@@ -71,13 +66,13 @@ module _ (n : ℕ) (e : Entry) (es : List Entry) where
 -- What the word of an entry comes to in the end: f of its depth, if its bracket is open, else itself.
 abbrev pub comes : (ℕ → ℕ → ℕ) → ℕ → List ℕ → ℕ → ℕ → ℕ
 comes f d [] i w = w
-comes f d (s ∷ st) i w = pick (eqb i s) (f d w) (comes f (suc d) st i w)
+comes f d (s ∷ st) i w = cond (eqb i s) (f d w) (comes f (suc d) st i w)
 
 abbrev pub closing : ℕ → List Entry → ℕ → ℕ → ℕ
 closing n es d w = closeFrom d n es
 
 abbrev pub parting : List Entry → ℕ → ℕ → ℕ
-parting es d w = pick (hasSep d es) 1 w
+parting es d w = cond (hasSep d es) 1 w
 
 module _ (f g : ℕ → ℕ → ℕ) (i w : ℕ) where
   -- the same from one depth further in, and one further out
@@ -93,12 +88,12 @@ module _ (f g : ℕ → ℕ → ℕ) (i w : ℕ) where
   comes-same h d [] = refl
   comes-same h d (s ∷ st) = rw (h d, comes-same h (suc d) st)
 
-pub pick-same : (b : Bool) (x : ℕ) → pick b x x ≡ x
+pub pick-same : (b : Bool) (x : ℕ) → cond b x x ≡ x
 pick-same true x = refl
 pick-same false x = refl
 
 -- y is x but for v at b
-picked : (x y : ℕ → ℕ) (b i : ℕ) {v : ℕ} → y b ≡ v → ((i ≡ b → ⊥) → y i ≡ x i) → pick (eqb i b) v (x i) ≡ y i
+picked : (x y : ℕ → ℕ) (b i : ℕ) {v : ℕ} → y b ≡ v → ((i ≡ b → ⊥) → y i ≡ x i) → cond (eqb i b) v (x i) ≡ y i
 picked x y b i p q = by-eq i b (λ e. rw (eq-eqb i b e, e) (sym p)) (λ e. rw (ne-eqb i b e) (sym (q e)))
 
 -- Every number below suc n is below n or n.
@@ -141,7 +136,7 @@ module _ {c : ℕ → ℕ} where
 
   -- the last bracket o is open no more: its word is what it comes to
   pub comes-popped : (f g : ℕ → ℕ → ℕ) (i w : ℕ) {o top : ℕ} {st : List ℕ} → Chain c o st top → ((d : ℕ) → g d w ≡ f (suc d) w)
-      → comes f 0 (o ∷ st) i w ≡ comes g 0 st i (pick (eqb i o) (f 0 w) w)
+      → comes f 0 (o ∷ st) i w ≡ comes g 0 st i (cond (eqb i o) (f 0 w) w)
   comes-popped f g i w {o} {top} {st} p h =
       by-eq i o
       (λ e. rw (eq-eqb i o e) (sym (chain-out g 0 (f 0 w) p (omega arith))))
@@ -170,7 +165,7 @@ module _ (fc fs c s : ℕ → ℕ) where
 
   -- One entry more, e, whose words are what the definition says.
   module _ (n top : ℕ) (e : Entry) (es : List Entry) (m : Matching fc fs c s n top (e ∷ es))
-      (fcn : fc n ≡ ofBracket e (closeFrom zero (suc n) es)) (fsn : fs n ≡ ofBracket e (pick (hasSep zero es) 1 0)) (cn : c n ≡ 0) (sn : s n ≡ 0)
+      (fcn : fc n ≡ ofBracket e (closeFrom zero (suc n) es)) (fsn : fs n ≡ ofBracket e (cond (hasSep zero es) 1 0)) (cn : c n ≡ 0) (sn : s n ≡ 0)
     where
       pub opened : (c′ : ℕ → ℕ) → is token.OpenBracket e ≡ true → ((i : ℕ) → i < n → c′ i ≡ c i) → c′ n ≡ top → Matching fc fs c′ s (suc n) (suc n) es
       unfolding ofBracket

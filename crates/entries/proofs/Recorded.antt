@@ -1,7 +1,7 @@
 -- What the records say of each entry: its token with the Space before it, what closes it, the Sep in it, and no mark.
 use Prim.Native.Nat.{ℕ, zero, suc, _+_, _*_, _-_, _≤_, _<_}
 use mathlib.Core.Path.{_≡_, refl, sym, ap, _∙_, subst⁻¹}
-use mathlib.Core.Bool.{true, false}
+use mathlib.Core.Bool.{true, false, cond}
 use mathlib.Core.List.{List, [], _∷_, _++_, map}
 use mathlib.Core.Option.{Option, none, some}
 use native.Mathlib.Omega.{arith}
@@ -16,7 +16,6 @@ use Rattle.tokens.proofs.Cases.{by-eq, by-lt, by-option}
 use Rattle.tokens.proofs.Numbers.{number-of-token}
 use Rattle.tokens.proofs.TokenList.{kind-space, kind-other, count-space, count-other, tokenAt, tokensFrom, tokens-all, tokens-none, tokens-next}
 use Rattle.tree.specs.Tree.{nowhere}
-use Rattle.tree.specs.Words.{pick}
 use Rattle.reading.specs.Entries.{Entry, is, entries, closeAfter, hasSep}
 use Rattle.reading.specs.Reading.{closeOf}
 use Rattle.records.specs.Record.{placeOf, afterClose, sepWord, marksOf, isPlaced, kindOf, startOf, lenOf, spaceWord, spaceStart, spaceLen}
@@ -30,7 +29,7 @@ record Fields (L : List ℕ) (i j : ℕ) (ps : List ℕ) (es : List Entry) : Typ
   there : getElem? es i ≡ some entry
   place : placeOf L i ≡ getD ps i 0
   close : afterClose L i ≡ ofBracket entry (closeFrom zero (suc (j + i)) (drop (suc i) es))
-  sep : sepWord L i ≡ ofBracket entry (pick (hasSep zero (drop (suc i) es)) 1 0)
+  sep : sepWord L i ≡ ofBracket entry (cond (hasSep zero (drop (suc i) es)) 1 0)
   marks : marksOf L i ≡ 0
 
 fields : (j i : ℕ) (ps : List ℕ) (es : List Entry) → i < length ps → i < length es → Fields (records j ps es) i j ps es
@@ -102,7 +101,7 @@ pub record Recorded (count : ℕ) (table K : List ℕ) (es : List Entry) (i : �
   pub space : spaceStart table K i ≡ entry .space .start
   pub spaceSize : spaceLen table K i ≡ entry .space .len
   pub close : (text : List ℕ) → is token.OpenBracket entry ≡ true → afterClose K i ≡ behind (closeOf text es i)
-  pub sep : is token.OpenBracket entry ≡ true → sepWord K i ≡ pick (hasSep zero (drop (suc i) es)) 1 0
+  pub sep : is token.OpenBracket entry ≡ true → sepWord K i ≡ cond (hasSep zero (drop (suc i) es)) 1 0
   pub other : is token.OpenBracket entry ≡ false → (afterClose K i ≡ 0) × (sepWord K i ≡ 0)
   pub marks : marksOf K i ≡ 0
 
@@ -177,7 +176,7 @@ module _ (count : ℕ) (table : List ℕ) (kinds : (j : ℕ) → j < count → g
     unfolding afterClose
     close-is = word 1 (omega arith) ∙ row .close ∙ rw (entry-is, zero-add i)
 
-    sep-is : sepWord K i ≡ ofBracket (entryAt table (placeOf K i)) (pick (hasSep zero (drop (suc i) (entries nowhere (tokenList count table)))) 1 0)
+    sep-is : sepWord K i ≡ ofBracket (entryAt table (placeOf K i)) (cond (hasSep zero (drop (suc i) (entries nowhere (tokenList count table)))) 1 0)
     unfolding sepWord
     sep-is = word 2 (omega arith) ∙ row .sep ∙ rw entry-is
 

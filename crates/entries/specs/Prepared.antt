@@ -1,6 +1,6 @@
 -- Parser::new over lent words: the records of a list's entries, and what the call answers.
 use Prim.Native.Nat.{ℕ, zero, suc, _+_, _*_}
-use mathlib.Core.Bool.{true, false}
+use mathlib.Core.Bool.{true, false, cond}
 use mathlib.Core.List.{List, [], _∷_, _++_}
 use mathlib.Core.Option.{none, some}
 use lib.Dec.{eqb, ltb}
@@ -10,7 +10,6 @@ use Rattle.tokens.specs.Kinds.{numberOf}
 use Rattle.tokens.specs.Lexeme.{Lexeme}
 use Rattle.tokens.specs.Table.{tokenList, countOthers}
 use Rattle.tree.specs.Tree.{nowhere}
-use Rattle.tree.specs.Words.{pick}
 use Rattle.reading.specs.Entries.{Entry, is, entries, closeAfter, hasSep}
 use Rattle.entries.specs.declared.Prepared.{Prepared}
 use Rattle.entries.specs.declared.Prepared.the-variants.{Entries, Refused}
@@ -28,14 +27,14 @@ closeFrom depth i es = elim (closeAfter depth es) [ none ↦ 0 | some k ↦ suc 
 
 -- what only an OpenBracket has
 unfoldable pub ofBracket : Entry → ℕ → ℕ
-ofBracket e w = pick (is token.OpenBracket e) w 0
+ofBracket e w = cond (is token.OpenBracket e) w 0
 
 -- the records of the entries from number i on, at these places
 unfoldable pub records : ℕ → List ℕ → List Entry → List ℕ
 records i [] es = []
 records i (p ∷ ps) [] = []
 records i (p ∷ ps) (e ∷ es) =
-    p ∷ ofBracket e (closeFrom zero (suc i) es) ∷ ofBracket e (pick (hasSep zero es) 1 0) ∷ 0 ∷ records (suc i) ps es
+    p ∷ ofBracket e (closeFrom zero (suc i) es) ∷ ofBracket e (cond (hasSep zero es) 1 0) ∷ 0 ∷ records (suc i) ps es
 
 unfoldable pub workWords : List Lexeme → List ℕ
 workWords ts = records zero (places zero ts) (entries nowhere ts)

@@ -3,7 +3,7 @@ use Prim.Native.Nat.{ℕ, zero, suc, _≤_, _<_}
 use mathlib.Core.Path.{_≡_, refl, sym, ap, _∙_, subst}
 use mathlib.Core.List.{List, [], _∷_, _++_, map}
 use mathlib.Core.Option.{Option, none, some}
-use mathlib.Core.Bool.{Bool, true, false, _&&_}
+use mathlib.Core.Bool.{Bool, true, false, _&&_, and-false}
 use native.Mathlib.Omega.{arith}
 use lib.ListN.{length, drop, getElem?}
 use Rattle.tokens.specs.declared.token.SymbolClass.the-variants as class
@@ -94,10 +94,6 @@ bearing k = entryOf (tok k nowhere)
 pub plain-as : {b : Bool} {k : Token} (e : Entry) → e .token ≡ k → Plain b (bearing k) → Plain b e
 unfolding is marksScript heads begins stops
 plain-as {b} e h p = subst (λ x. Plain b (record { token = x; span = e .span; space = e .space })) (sym h) p
-
-and-false : (x : Bool) → (x && false) ≡ false
-and-false true = refl
-and-false false = refl
 
 pub constant-plain : {k : Token} {a : Atom} → Constant k a → Plain true (bearing k)
 unfolding is marksScript heads begins stops

@@ -1,9 +1,8 @@
 -- The words of nodes that stand for one entry. t are the words of the token table, K the work words.
 use Prim.Native.Nat.{ℕ, _-_}
 use mathlib.Core.List.{List, [], _∷_}
-use mathlib.Core.Bool.{Bool, true, false}
+use mathlib.Core.Bool.{Bool, true, false, cond}
 use lib.Dec.{eqb, ltb}
-use Rattle.tree.specs.Words.{pick}
 use Rattle.records.specs.Record.{startOf, lenOf}
 
 -- a node of the entry i, of this kind and with this word
@@ -13,15 +12,15 @@ nodeWords t K i kind extra = kind ∷ startOf t K i ∷ lenOf t K i ∷ extra �
 -- a leaf's node kind (Number to Operator 1 to 4, Sign 5, any other token a symbol, 7), its class, and whether it ends an operand, by
 -- the kind of its token
 abbrev pub leafKind : ℕ → ℕ
-leafKind k = pick (ltb k 4) 7 (pick (ltb k 8) (k - 3) (pick (ltb k 16) 7 (pick (eqb k 16) 5 7)))
+leafKind k = cond (ltb k 4) 7 (cond (ltb k 8) (k - 3) (cond (ltb k 16) 7 (cond (eqb k 16) 5 7)))
 
 abbrev pub leafClass : ℕ → ℕ
-leafClass k = pick (eqb k 3) 7 (pick (ltb k 8) 0 (pick (ltb k 16) (k - 8) 0))
+leafClass k = cond (eqb k 3) 7 (cond (ltb k 8) 0 (cond (ltb k 16) (k - 8) 0))
 
 abbrev pub leafEnds : ℕ → Bool
 leafEnds k =
-    pick (ltb k 3) true
-    (pick (eqb k 3) false (pick (ltb k 7) true (pick (ltb k 8) false (pick (ltb k 10) true (pick (ltb k 22) false true)))))
+    cond (ltb k 3) true
+    (cond (eqb k 3) false (cond (ltb k 7) true (cond (ltb k 8) false (cond (ltb k 10) true (cond (ltb k 22) false true)))))
 
 abbrev pub leafWords : List ℕ → List ℕ → ℕ → ℕ → List ℕ
 leafWords t K i k = nodeWords t K i (leafKind k) (leafClass k)

@@ -1,11 +1,11 @@
 -- The line of a node from its words: what Print.antt says of a head, by the node's kind and the numbers in its words.
+use mathlib.Core.Bool.{cond}
 use Prim.Native.Nat.{ℕ, _+_}
 use mathlib.Core.List.{List, [], _++_}
 use lib.ListN.{getD, take, drop}
 use lib.Dec.{eqb}
 use Rattle.tokens.specs.Bytes.{bytes}
 use Rattle.tree.specs.declared.walk.Opened.{Opened}
-use Rattle.tree.specs.Words.{pick}
 use Rattle.tree.specs.Walk.{cellsEnd}
 use Rattle.writer.specs.Decimal.{decimal}
 use Rattle.line.specs.Print.{nameOf, field, number, commas, newline}
@@ -17,16 +17,16 @@ startOf depth kind = bytes "depth=" ++ (decimal depth ++ field "node" (nameOf ki
 -- at and len; missing, simple, cell and frac stand for no token
 unfoldable pub leftOf : ℕ → ℕ → ℕ → List ℕ
 leftOf kind start len =
-    pick (eqb kind 0) []
-    (pick (eqb kind 13) []
-    (pick (eqb kind 17) [] (pick (eqb kind 18) [] (number "at" start ++ number "len" len))))
+    cond (eqb kind 0) []
+    (cond (eqb kind 13) []
+    (cond (eqb kind 17) [] (cond (eqb kind 18) [] (number "at" start ++ number "len" len))))
 
 -- a script by its number (docs/LAYOUT.md)
 unfoldable pub scriptOf : ℕ → List ℕ
 scriptOf script =
     field "script"
-    (pick (eqb script 0) (bytes "none")
-    (pick (eqb script 1) (bytes "sub") (pick (eqb script 2) (bytes "super") (bytes "subsuper"))))
+    (cond (eqb script 0) (bytes "none")
+    (cond (eqb script 1) (bytes "sub") (cond (eqb script 2) (bytes "super") (bytes "subsuper"))))
 
 -- the right bracket; what a group adds, and a matrix
 unfoldable pub rightOf : ℕ → ℕ → List ℕ
@@ -42,12 +42,12 @@ matrixOf start len cols cells lines =
 -- what the kind adds: symbol, simple, func, group, matrix, cell. `held` is the node's word 3.
 unfoldable pub addedBy : ℕ → ℕ → ℕ → ℕ → ℕ → ℕ → List ℕ → List ℕ
 addedBy kind held start len cols count lines =
-    pick (eqb kind 7) (number "class" held)
-    (pick (eqb kind 13) (scriptOf held)
-    (pick (eqb kind 14) (scriptOf held)
-    (pick (eqb kind 15) (groupOf start len count)
-    (pick (eqb kind 16) (matrixOf start len cols count lines)
-    (pick (eqb kind 17) (number "items" count) [])))))
+    cond (eqb kind 7) (number "class" held)
+    (cond (eqb kind 13) (scriptOf held)
+    (cond (eqb kind 14) (scriptOf held)
+    (cond (eqb kind 15) (groupOf start len count)
+    (cond (eqb kind 16) (matrixOf start len cols count lines)
+    (cond (eqb kind 17) (number "items" count) [])))))
 
 -- a node's column lines, and its word i
 unfoldable pub linesOf : List ℕ → Opened → List ℕ

@@ -1,12 +1,11 @@
 -- What a test of an entry by its kind says.
 use Prim.Native.Nat.{ℕ, _<_}
 use mathlib.Core.Path.{_≡_, refl, sym, ap, _∙_}
-use mathlib.Core.Bool.{Bool, true, false, not, _&&_, _||_}
+use mathlib.Core.Bool.{Bool, true, false, not, _&&_, _||_, cond, and-false, and-true}
 use mathlib.Core.List.{List}
 use lib.Dec.{eqb, ltb}
 use native.Mathlib.Omega.{arith}
 use borrow.Author.Tests.{ltb-true, ne-eqb}
-use Rattle.tree.specs.Words.{pick}
 use Rattle.records.specs.Record.{kindOf}
 use Rattle.lookahead.specs.Tests.{nextKind, testAt, headsKind, marksKind, beginsKind}
 
@@ -15,7 +14,7 @@ pub test-below : (t K : List ℕ) (n : ℕ) (f : ℕ → Bool) (i : ℕ) → tes
 unfolding testAt
 test-below t K n f i h = go (ltb i n) refl h
   where
-    go : (b : Bool) → ltb i n ≡ b → pick b (f (kindOf t K i)) false ≡ true → i < n
+    go : (b : Bool) → ltb i n ≡ b → cond b (f (kindOf t K i)) false ≡ true → i < n
     go true e k = ltb-true i n e
     go false e k = let z : _≡_ {A = ℕ} 0 1 = cc in absurd (omega arith)
 
@@ -24,30 +23,22 @@ pub test-next : (t K : List ℕ) (n : ℕ) (f : ℕ → Bool) (i : ℕ) {k : ℕ
 unfolding testAt nextKind
 test-next t K n f i {k} h e = ap f e ∙ go (ltb i n)
   where
-    go : (b : Bool) → f (pick b (kindOf t K i) 23) ≡ pick b (f (kindOf t K i)) false
+    go : (b : Bool) → f (cond b (kindOf t K i) 23) ≡ cond b (f (kindOf t K i)) false
     go true = refl
     go false = h
 
-never : (b : Bool) → (b && false) ≡ false
-never true = refl
-never false = refl
-
-always : (b : Bool) → (b && true) ≡ b
-always true = refl
-always false = refl
-
 either : (a b : Bool) → (a || (b && false)) ≡ a
 either true b = refl
-either false b = never b
+either false b = and-false b
 
 -- A head is a sign where one prefixes, or a function.
 module _ (sg : Bool) where
   pub no-head : headsKind sg 23 ≡ false
-  no-head = never sg
+  no-head = and-false sg
 
   module _ (k : ℕ) where
     pub by-sign : k ≡ 16 → sg ≡ headsKind sg k
-    by-sign h = rw h (sym (always sg))
+    by-sign h = rw h (sym (and-true sg))
 
     pub by-function : (k ≡ 16 → ⊥) → eqb k 17 ≡ headsKind sg k
     by-function h = rw (ne-eqb k 16 h) (sym (either (eqb k 17) sg))
@@ -66,7 +57,7 @@ module _ (stop : Bool) (k : ℕ) where
   at-closing h = rw h
 
   pub at-sep : k ≡ 3 → not stop ≡ beginsKind stop k
-  at-sep h = rw h (ap not (sym (always stop)))
+  at-sep h = rw h (ap not (sym (and-true stop)))
 
   pub at-other : (k ≡ 21 → ⊥) → (k ≡ 3 → ⊥) → not (eqb k 23) ≡ beginsKind stop k
   at-other h l = rw (ne-eqb k 21 h, ne-eqb k 3 l) (ap not (sym (either (eqb k 23) stop)))

@@ -1,18 +1,17 @@
 -- What the readers ask of an entry by its kind. t are the words of the token table, K the work words, n the number of entries.
 use Prim.Native.Nat.{ℕ, _+_}
 use mathlib.Core.List.{List}
-use mathlib.Core.Bool.{Bool, true, false, not, _&&_, _||_}
+use mathlib.Core.Bool.{Bool, true, false, not, _&&_, _||_, cond}
 use lib.Dec.{eqb, ltb}
-use Rattle.tree.specs.Words.{pick}
 use Rattle.records.specs.Record.{kindOf}
 
 -- the entry at i is there, and its kind passes the test
 unfoldable pub testAt : List ℕ → List ℕ → ℕ → (ℕ → Bool) → ℕ → Bool
-testAt t K n f i = pick (ltb i n) (f (kindOf t K i)) false
+testAt t K n f i = cond (ltb i n) (f (kindOf t K i)) false
 
 -- the kind of the entry at i, or that of a Space, which is no entry's
 unfoldable pub nextKind : List ℕ → List ℕ → ℕ → ℕ → ℕ
-nextKind t K n i = pick (ltb i n) (kindOf t K i) 23
+nextKind t K n i = cond (ltb i n) (kindOf t K i) 23
 
 -- it is of the kind k
 abbrev pub isKind : ℕ → ℕ → Bool
@@ -32,7 +31,7 @@ beginsKind stop w = not (eqb w 21 || (eqb w 23 || (stop && eqb w 3)))
 
 -- a leaf by its kind: a Number, Text, Ident, Operator or Symbol
 abbrev pub leafOnly : ℕ → Bool
-leafOnly w = pick (ltb w 4) false (ltb w 16)
+leafOnly w = cond (ltb w 4) false (ltb w 16)
 
 -- what joins on to the item before it: Frac, Super or Sub
 abbrev pub joinsKind : ℕ → Bool
@@ -41,8 +40,8 @@ joinsKind w = ltb w 3
 -- an entry that is a leaf by its kind, with neither a script nor a fraction behind it, and no reader too deep for it: an item by
 -- itself. An item at depth d is read by next_simple at d + 1, which must be below 256.
 unfoldable pub plainAt : List ℕ → List ℕ → ℕ → ℕ → ℕ → Bool
-plainAt t K n d i = pick (ltb d 255) (pick (testAt t K n leafOnly i) (not (testAt t K n joinsKind (i + 1))) false) false
+plainAt t K n d i = cond (ltb d 255) (cond (testAt t K n leafOnly i) (not (testAt t K n joinsKind (i + 1))) false) false
 
 -- no item begins at i, and no reader is too deep to see it
 unfoldable pub overAt : List ℕ → List ℕ → ℕ → ℕ → Bool → ℕ → Bool
-overAt t K n d stop i = pick (ltb d 255) (not (testAt t K n (beginsKind stop) i)) false
+overAt t K n d stop i = cond (ltb d 255) (not (testAt t K n (beginsKind stop) i)) false

@@ -2,9 +2,8 @@
 use crate::depth::MAX_ITEM_DEPTH;
 use records::record::kind_at;
 ghost use mathlib.Core.Path.{_≡_};
-ghost use mathlib.Core.Bool.{false, not};
+ghost use mathlib.Core.Bool.{false, not, cond};
 ghost use Prim.Native.Nat.{_+_};
-ghost use Rattle.tree.specs.Words.{pick};
 ghost use Rattle.lookahead.specs.Tests.{nextKind, testAt, isKind, headsKind, marksKind, beginsKind, leafOnly, joinsKind, plainAt, overAt};
 
 // The entry at i is there and of kind k.
@@ -76,7 +75,7 @@ fn is_leaf(k: u32) -> bool
 
 // The entry at i is a leaf by its kind, and what follows does not join it.
 fn stands_alone(tok: &[u32], work: &[u32], n: usize, i: usize) -> bool
-    ensures { λ r. ⌜ r ≡ pick (testAt (now (tok .entry)) (now (work .entry)) n leafOnly i) (not (testAt (now (tok .entry)) (now (work .entry)) n joinsKind (i + 1))) false ⌝ }
+    ensures { λ r. ⌜ r ≡ cond (testAt (now (tok .entry)) (now (work .entry)) n leafOnly i) (not (testAt (now (tok .entry)) (now (work .entry)) n joinsKind (i + 1))) false ⌝ }
 {
     if is_leaf(next_kind(tok, work, n, i)) {
         return !(next_kind(tok, work, n, i + 1) < 3);

@@ -1,16 +1,15 @@
 -- The marks of an entry in one word: 1 and 2 for a failed open with the stops none and Sep, 4 for a failed matrix. "An open mark is
 -- separate for the stops "none" and Sep."
 use Prim.Native.Nat.{ℕ, _+_, _/_, _%_, _^_}
-use mathlib.Core.Bool.{Bool}
+use mathlib.Core.Bool.{Bool, cond}
 use lib.Dec.{eqb}
-use Rattle.tree.specs.Words.{pick}
 
 unfoldable pub isMarked : ℕ → ℕ → Bool
 isMarked w m = eqb (w / m % 2) 1
 
 -- a word has 32 bits
 unfoldable pub withMark : ℕ → ℕ → ℕ
-withMark w m = pick (isMarked w m) w ((w + m) % 2 ^ 32)
+withMark w m = cond (isMarked w m) w ((w + m) % 2 ^ 32)
 
 abbrev pub openMark : Bool → ℕ
-openMark stop = pick stop 2 1
+openMark stop = cond stop 2 1

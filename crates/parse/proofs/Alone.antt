@@ -2,13 +2,12 @@
 use Prim.Native.Nat.{ℕ, _+_, _*_, _-_, _≤_, _<_}
 use mathlib.Core.Path.{_≡_, refl, sym, ap, subst, _∙_}
 use mathlib.Core.List.{List, [], _∷_}
-use mathlib.Core.Bool.{Bool, true, false, not, _&&_}
+use mathlib.Core.Bool.{Bool, true, false, not, _&&_, cond, and-false}
 use native.Mathlib.Omega.{arith}
 use lib.ListN.{length}
 use lib.Seq.{sets}
 use lib.Dec.{ltb}
 use borrow.Author.Tests.{ltb-true, ltb-false, ne-eqb}
-use Rattle.tree.specs.Words.{pick}
 use Rattle.parse.specs.declared.cursor.Cursor.{Cursor}
 use Rattle.parse.specs.declared.cursor.Part.{Part}
 use Rattle.parse.specs.declared.cursor.Step.the-variants.{Found, Nothing}
@@ -26,7 +25,7 @@ use Rattle.parse.proofs.Scripting.{script-term, script-nothing, term-sc
 use Rattle.parse.proofs.Begins.{simple-begun, simple-nothing, begun-leaf}
 
 -- what the tests say of a kind
-both : (a b : Bool) → pick a b false ≡ true → (a ≡ true) × (b ≡ true)
+both : (a b : Bool) → cond a b false ≡ true → (a ≡ true) × (b ≡ true)
 both true b h = (refl, h)
 both false b h = let z : _≡_ {A = ℕ} 0 1 = cc in absurd (omega arith)
 
@@ -34,14 +33,10 @@ never : (b : Bool) → not b ≡ true → b ≡ false
 never true h = let z : _≡_ {A = ℕ} 0 1 = cc in absurd (omega arith)
 never false h = refl
 
-and-false : (b : Bool) → (b && false) ≡ false
-and-false true = refl
-and-false false = refl
-
 range : (k : ℕ) → leafOnly k ≡ true → (4 ≤ k) × (k < 16)
 range k h = go (ltb k 4) refl h
   where
-    go : (b : Bool) → ltb k 4 ≡ b → pick b false (ltb k 16) ≡ true → (4 ≤ k) × (k < 16)
+    go : (b : Bool) → ltb k 4 ≡ b → cond b false (ltb k 16) ≡ true → (4 ≤ k) × (k < 16)
     go true e h = let z : _≡_ {A = ℕ} 0 1 = cc in absurd (omega arith)
     go false e h = (ltb-false k 4 e, ltb-true k 16 h)
 
@@ -51,7 +46,7 @@ apart k h =
     (rw (ne-eqb k 1 (λ z. omega arith), ne-eqb k 2 (λ z. omega arith)), ne-eqb k 0 (λ z. omega arith))
 
 module _ (t K : List ℕ) (n d i : ℕ) (h : plainAt t K n d i ≡ true) where
-  whole : (ltb d 255 ≡ true) × (pick (testAt t K n leafOnly i) (not (testAt t K n joinsKind (i + 1))) false ≡ true)
+  whole : (ltb d 255 ≡ true) × (cond (testAt t K n leafOnly i) (not (testAt t K n joinsKind (i + 1))) false ≡ true)
   unfolding plainAt
   whole = both _ _ h
 

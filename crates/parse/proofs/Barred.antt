@@ -3,14 +3,14 @@ use Prim.Native.Nat.{ℕ, suc, _+_, _*_, _-_, _≤_, _<_}
 use mathlib.Core.Path.{_≡_, refl, sym, ap, _∙_, subst}
 use mathlib.Core.List.{List}
 use mathlib.Core.Option.{Option, none, some}
-use mathlib.Core.Bool.{Bool, true, false}
+use mathlib.Core.Bool.{Bool, true, false, cond}
 use native.Mathlib.Omega.{arith}
 use lib.ListN.{length, getD, getElem?, set}
 use lib.Dec.{eqb, ltb}
 use borrow.Author.Tests.{ne-eqb}
 use lib.Seq.{sets, length-sets}
 use Rattle.tree.specs.Tree.{Head, Node, node, Nodes, end, _▸_, count}
-use Rattle.tree.specs.Words.{pick, encode, encodeItems}
+use Rattle.tree.specs.Words.{encode, encodeItems}
 use Rattle.reading.specs.Entries.{Entry}
 use Rattle.reading.specs.Reading.{State, M, Try, made, lost, nought, return, _>>=_, if_then_else_, here, advance, any, openMark, slot, isAt, isBar, barBody, tryMatrix, nextOpenCloseGroup, nextBracket, glyphOf, endsOperand, look, atomEnds, prefixes}
 use Rattle.parse.specs.declared.cursor.Cursor.{Cursor}
@@ -51,7 +51,7 @@ pub bar-below : (X t K : List ℕ) (n i p : ℕ) → barAt X t K n i p ≡ true 
 unfolding barAt
 bar-below X t K n i p h = go (ltb i n) (testAt t K n (isKind 22) p) refl h
   where
-    go : (a b : Bool) → testAt t K n (isKind 22) p ≡ b → pick a (pick b (sameAt X t K i p) false) false ≡ true → p < n
+    go : (a b : Bool) → testAt t K n (isKind 22) p ≡ b → cond a (cond b (sameAt X t K i p) false) false ≡ true → p < n
     go true true e k = test-below t K n (isKind 22) p e
     go true false e k = let z : _≡_ {A = ℕ} 0 1 = cc in absurd (omega arith)
     go false b e k = let z : _≡_ {A = ℕ} 0 1 = cc in absurd (omega arith)

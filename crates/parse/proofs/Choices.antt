@@ -2,7 +2,7 @@
 use Prim.Native.Nat.{ℕ, _+_, _*_, _-_, _≤_, _<_}
 use mathlib.Core.Path.{_≡_, refl, sym, ap, _∙_, subst}
 use mathlib.Core.List.{List, [], _∷_}
-use mathlib.Core.Bool.{Bool, true, false}
+use mathlib.Core.Bool.{Bool, true, false, cond}
 use mathlib.Core.Logic.{⊎-elim}
 use native.Mathlib.Omega.{arith}
 use lib.ListN.{length}
@@ -11,7 +11,7 @@ use lib.Seq.{sets}
 use types.Run.{OneOf}
 use denote.Enum.Declared.{tagOf}
 use borrow.Author.Tests.{eqb-true}
-use Rattle.tree.specs.Words.{pick, prefixKind}
+use Rattle.tree.specs.Words.{prefixKind}
 use Rattle.parse.specs.declared.cursor.Cursor.{Cursor}
 use Rattle.parse.specs.declared.cursor.Part.{Part}
 use Rattle.parse.specs.declared.cursor.Items.{Items}
@@ -29,7 +29,7 @@ use Rattle.parse.proofs.Scripting.{group-shut, group-open}
 
 -- the kind of node, by the token's being 18, 17 and 16
 abbrev number : Bool → Bool → Bool → Bool → ℕ
-number a b d s = pick a 10 (pick b 11 (pick d (pick s 9 0) 0))
+number a b d s = cond a 10 (cond b 11 (cond d (cond s 9 0) 0))
 
 known-of : (a b d s : Bool) → (number a b d s ≡ 0 → ⊥) → prefixKind (prefixOf (number a b d s)) ≡ number a b d s
 known-of true b d s h = refl
@@ -76,8 +76,8 @@ module _ {X t : List ℕ} {n : ℕ} {K L : List ℕ} (i : ℕ) (stop sg : Bool) 
 
 -- A group ends at its closing bracket, or is left open.
 module _ {X t : List ℕ} {n : ℕ} {K L : List ℕ} (i : ℕ) {c : Cursor} {e : ℕ} {x y : List ℕ} {g : Items} (inside : i < n) (p : Intermediates X t n K L n false true true c (e + 6) x y g) (room : e + 20 + 32 * (n - c .pos) ≤ length x) where
-  pub group-end : {z : List ℕ} (b : Bool) → b ≡ testAt t L n (isKind 21) (g .cur .pos) → z ≡ sets y e (groupWords t L n i (pick b (g .cur .pos) n) (g .count))
-      → OpenGroup X t n K L i c e x z (record { cur = pick b (onward (g .cur)) (seen n (g .cur)); end = g .end; ends = true })
+  pub group-end : {z : List ℕ} (b : Bool) → b ≡ testAt t L n (isKind 21) (g .cur .pos) → z ≡ sets y e (groupWords t L n i (cond b (g .cur .pos) n) (g .count))
+      → OpenGroup X t n K L i c e x z (record { cur = cond b (onward (g .cur)) (seen n (g .cur)); end = g .end; ends = true })
   group-end true h hz = group-shut i inside p room (sym h) hz
   group-end false h hz = group-open i inside p room (sym h) hz
 

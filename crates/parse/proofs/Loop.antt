@@ -3,14 +3,14 @@ use Prim.Native.Nat.{ℕ, zero, suc, _+_, _*_, _-_, _≤_, _<_}
 use mathlib.Core.Path.{_≡_, refl, sym, ap, _∙_}
 use mathlib.Core.List.{List, _++_, append-nil, append-assoc}
 use mathlib.Core.Option.{Option, none, some}
-use mathlib.Core.Bool.{Bool, true, false, not, _&&_}
+use mathlib.Core.Bool.{Bool, true, false, not, _&&_, cond}
 use native.Mathlib.Omega.{arith}
 use lib.ListN.{length, getElem?}
 use lib.Dec.{eqb, ltb}
 use borrow.Author.Tests.{ltb-true, ltb-false, lt-ltb, le-ltb, ne-eqb}
 use Rattle.tokens.specs.declared.token.Token.the-variants as token
 use Rattle.tree.specs.Tree.{Head, Atom, Node, node, Nodes, end, _▸_, _⧺_, count, leaf}
-use Rattle.tree.specs.Words.{pick, encodeItem, encodeItems}
+use Rattle.tree.specs.Words.{encodeItem, encodeItems}
 use Rattle.reading.specs.Entries.{Entry}
 use Rattle.reading.specs.Reading.{State, Readers, isAt, isBar, atOpenClose, sameText, textOf, nextIntermediate, intermediates, prefixes, spaced}
 use Rattle.parse.specs.declared.cursor.Cursor.{Cursor}
@@ -97,11 +97,11 @@ pub same-text : {X t K : List ℕ} {i j : ℕ} (text : List ℕ) (es : List Entr
 unfolding sameText textOf sameAt
 same-text text es a b h r q = rw (h, r .start, r .len, q .start, q .len)
 
-and-pick : (a b : Bool) → (a && b) ≡ pick a b false
+and-pick : (a b : Bool) → (a && b) ≡ cond a b false
 and-pick true b = refl
 and-pick false b = refl
 
-bar-in : (X t K : List ℕ) (n i j : ℕ) → i < n → j < n → barAt X t K n i j ≡ pick (eqb (kindOf t K j) 22) (sameAt X t K i j) false
+bar-in : (X t K : List ℕ) (n i j : ℕ) → i < n → j < n → barAt X t K n i j ≡ cond (eqb (kindOf t K j) 22) (sameAt X t K i j) false
 unfolding barAt
 bar-in X t K n i j h k = rw (lt-ltb i n h, test-in t K n (isKind 22) j k)
 
@@ -109,7 +109,7 @@ bar-out : (X t K : List ℕ) (n i j : ℕ) → n ≤ j → barAt X t K n i j ≡
 unfolding barAt
 bar-out X t K n i j h = go (ltb i n)
   where
-    go : (b : Bool) → pick b (pick (testAt t K n (isKind 22) j) (sameAt X t K i j) false) false ≡ false
+    go : (b : Bool) → cond b (cond (testAt t K n (isKind 22) j) (sameAt X t K i j) false) false ≡ false
     go true = rw (test-out t K n (isKind 22) j h)
     go false = refl
 
@@ -181,7 +181,7 @@ module _ (I : Input) (d : ℕ) (until : Option Entry) (stop : Bool) (s : State) 
   turn-met (some b) f k = bind _ _ s (at-here s) ∙ if-true _ _ s k ∙ ret _ _
 
 -- the code's test
-ended-is : {X t : List ℕ} {n : ℕ} {K : List ℕ} (u : ℕ) (I : Input) (until : Option Entry) (before : Option Node) (p : ℕ) → Given X t n K I → Until n I u until → ended before (atOpenClose (I .text) (I .es) until p) ≡ barAt X t K n (pick (isNone before) n u) p
+ended-is : {X t : List ℕ} {n : ℕ} {K : List ℕ} (u : ℕ) (I : Input) (until : Option Entry) (before : Option Node) (p : ℕ) → Given X t n K I → Until n I u until → ended before (atOpenClose (I .text) (I .es) until p) ≡ barAt X t K n (cond (isNone before) n u) p
 ended-is {X} {t} {n} {K} u I until none p g h = sym (bar-none X t K n n p (omega arith))
 ended-is u I until (some b) p g h = until-is u I until p g h
 
@@ -195,7 +195,7 @@ module _ {X t : List ℕ} {n : ℕ} {K : List ℕ} (u : ℕ) (stop first₀ sign
   }
 
   module _ {L y y2 y3 : List ℕ} {cur : Cursor} {stp num : ℕ} {first sign : Bool} {g : Gap} (i : Inv X t n K L u stop first₀ sign₀ c e x y cur stp num first sign) (gp : Gapped t L n first (cur .pos) stp y y2 g)
-      (room : stp + 14 + 32 * (n - cur .pos) ≤ length y) (unmet : barAt X t L n (pick first n u) (cur .pos) ≡ false) where
+      (room : stp + 14 + 32 * (n - cur .pos) ≤ length y) (unmet : barAt X t L n (cond first n u) (cur .pos) ≡ false) where
     pub along-more : {J : List ℕ} {b : Cursor} {E : ℕ} {f : Bool} → Intermediate X t n L J stop sign cur (g .end) y2 y3 (Found b E f) → Inv X t n K J u stop first₀ sign₀ c e x y3 b E (num + (1 + g .items)) false (not f)
     unfolding encodeItems prefixes
     along-more {J} {b} {E} {f} p = record {
@@ -208,7 +208,7 @@ module _ {X t : List ℕ} {n : ℕ} {K : List ℕ} (u : ℕ) (stop first₀ sign
           let run : nextIntermediate (I .text) (I .es) true (readers (c .depth) I) (stopOf stop) (prefixes (a .before)) (a .state) ≡ (some (q .node), q .state) = rw (a .isSign) at (q .runs) in
           let l1 : a .left ≡ suc (a .left - 1) = omega (arith, a .enough, p .0 .on, p .0 .within) in
           let rest = itemsAt (c .depth) (a .left) until stop (some (q .node)) I (q .state) in
-          let go : ended (a .before) (atOpenClose (I .text) (I .es) until (a .state .pos)) ≡ false = ap (λ (p : ℕ). ended (a .before) (atOpenClose (I .text) (I .es) until p)) (sym (a .at .pos)) ∙ ended-is u I until (a .before) (cur .pos) (a .at .given) hu ∙ ap (λ (b : Bool). barAt X t L n (pick b n u) (cur .pos)) (sym (a .isFirst)) ∙ unmet in
+          let go : ended (a .before) (atOpenClose (I .text) (I .es) until (a .state .pos)) ≡ false = ap (λ (p : ℕ). ended (a .before) (atOpenClose (I .text) (I .es) until p)) (sym (a .at .pos)) ∙ ended-is u I until (a .before) (cur .pos) (a .at .given) hu ∙ ap (λ (b : Bool). barAt X t L n (cond b n u) (cur .pos)) (sym (a .isFirst)) ∙ unmet in
           record {
             left = a .left - 1;
             acc = a .acc ⧺ (k .nodes ⧺ (q .node ▸ end));
@@ -239,14 +239,14 @@ module _ {X t : List ℕ} {n : ℕ} {K : List ℕ} (u : ℕ) (stop first₀ sign
           record {
             answer = a .acc;
             state = q .state;
-            runs = a .whole ∙ ap (joined (a .acc)) (turn-nothing I (c .depth) until stop (a .state) (q .state) (a .before) (a .left) (ap (λ (p : ℕ). ended (a .before) (atOpenClose (I .text) (I .es) until p)) (sym (a .at .pos)) ∙ ended-is u I until (a .before) (cur .pos) (a .at .given) hu ∙ ap (λ (b : Bool). barAt X t L n (pick b n u) (cur .pos)) (sym (a .isFirst)) ∙ unmet) run) ∙ ap (λ (w : Nodes). (w, q .state)) (nodes-nil (a .acc));
+            runs = a .whole ∙ ap (joined (a .acc)) (turn-nothing I (c .depth) until stop (a .state) (q .state) (a .before) (a .left) (ap (λ (p : ℕ). ended (a .before) (atOpenClose (I .text) (I .es) until p)) (sym (a .at .pos)) ∙ ended-is u I until (a .before) (cur .pos) (a .at .given) hu ∙ ap (λ (b : Bool). barAt X t L n (cond b n u) (cur .pos)) (sym (a .isFirst)) ∙ unmet) run) ∙ ap (λ (w : Nodes). (w, q .state)) (nodes-nil (a .acc));
             at = q .at;
             tree = rw append-nil at (seq (a .tree) (back stp (seq (gp .tree) (q .tree)) (omega arith) (omega (arith, gp .short))));
             besides = (a .number, a .isSign ∙ ap prefixes (a .last));
           };
     }
 
-  pub along-met : {L y : List ℕ} {cur : Cursor} {stp num : ℕ} {first sign : Bool} → Inv X t n K L u stop first₀ sign₀ c e x y cur stp num first sign → barAt X t L n (pick first n u) (cur .pos) ≡ true
+  pub along-met : {L y : List ℕ} {cur : Cursor} {stp num : ℕ} {first sign : Bool} → Inv X t n K L u stop first₀ sign₀ c e x y cur stp num first sign → barAt X t L n (cond first n u) (cur .pos) ≡ true
       → Intermediates X t n K L u stop first₀ sign₀ c e x y (record { cur = cur; end = stp; count = num; sign = sign })
   along-met {L} {y} {cur} {stp} {num} {first} i h = record {
     moves = i .moves;
@@ -256,7 +256,7 @@ module _ {X t : List ℕ} {n : ℕ} {K : List ℕ} (u : ℕ) (stop first₀ sign
         record {
           answer = a .acc;
           state = a .state;
-          runs = a .whole ∙ ap (joined (a .acc)) (turn-met I (c .depth) until stop (a .state) (a .before) (a .left) (ap (λ (p : ℕ). ended (a .before) (atOpenClose (I .text) (I .es) until p)) (sym (a .at .pos)) ∙ ended-is u I until (a .before) (cur .pos) (a .at .given) hu ∙ ap (λ (b : Bool). barAt X t L n (pick b n u) (cur .pos)) (sym (a .isFirst)) ∙ h)) ∙ ap (λ (w : Nodes). (w, a .state)) (nodes-nil (a .acc));
+          runs = a .whole ∙ ap (joined (a .acc)) (turn-met I (c .depth) until stop (a .state) (a .before) (a .left) (ap (λ (p : ℕ). ended (a .before) (atOpenClose (I .text) (I .es) until p)) (sym (a .at .pos)) ∙ ended-is u I until (a .before) (cur .pos) (a .at .given) hu ∙ ap (λ (b : Bool). barAt X t L n (cond b n u) (cur .pos)) (sym (a .isFirst)) ∙ h)) ∙ ap (λ (w : Nodes). (w, a .state)) (nodes-nil (a .acc));
           at = a .at;
           tree = a .tree;
           besides = (a .number, a .isSign ∙ ap prefixes (a .last));

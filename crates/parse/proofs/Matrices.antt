@@ -3,7 +3,7 @@ use Prim.Native.Nat.{ℕ, zero, suc, _+_, _*_, _-_, _≤_, _<_}
 use mathlib.Core.Path.{_≡_, refl, sym, ap, _∙_, subst}
 use mathlib.Core.List.{List, [], _∷_, _++_, append-assoc}
 use mathlib.Core.Option.{Option, none, some}
-use mathlib.Core.Bool.{Bool, true, false, not, _&&_}
+use mathlib.Core.Bool.{Bool, true, false, not, _&&_, cond}
 use native.Mathlib.Omega.{arith}
 use lib.ListN.{length, length-append, getD, getElem?, set, take, drop}
 use lib.Dec.{eqb, ltb}
@@ -11,7 +11,7 @@ use lib.Seq.{sets, length-sets, take-take, take-at, length-take-le, getD-take, g
 use borrow.Author.Tests.{ltb-true, ltb-false, eqb-true, eqb-false, eq-eqb, ne-eqb}
 use Rattle.tokens.specs.declared.token.Token.the-variants as token
 use Rattle.tree.specs.Tree.{Head, Node, node, Nodes, end, _▸_, _⧺_, count}
-use Rattle.tree.specs.Words.{pick, encode, encodes, encodeItems}
+use Rattle.tree.specs.Words.{encode, encodes, encodeItems}
 use Rattle.reading.specs.Entries.{Entry, is, hasSep}
 use Rattle.reading.specs.Reading.{State, M, matrixMark, made, lost, isAt, isByte, closeOf, closes, couldBeMatrix, makesMatrix, tryMatrix, endsOperand, look, Rows, joinRows, matrixBody, splitColumnLines}
 use Rattle.parse.specs.declared.cursor.Cursor.{Cursor}
@@ -123,7 +123,7 @@ module _ {X t : List ℕ} {n : ℕ} {K : List ℕ} {I : Input} (g : Given X t n 
       let ob : is token.OpenBracket o ≡ eqb (kindOf t K i) 20 = same-is token.OpenBracket o ∙ ap (λ (w : ℕ). eqb w 20) (sym (r .kind)) in
       go (eqb (kindOf t K i) 20) refl ob
     where
-      go : (b : Bool) → eqb (kindOf t K i) 20 ≡ b → is token.OpenBracket o ≡ b → closes (I .text) (I .es) o i j ≡ pick b (eqb (afterClose K i) (j + 1)) (barAt X t K n i j)
+      go : (b : Bool) → eqb (kindOf t K i) 20 ≡ b → is token.OpenBracket o ≡ b → closes (I .text) (I .es) o i j ≡ cond b (eqb (afterClose K i) (j + 1)) (barAt X t K n i j)
       go true e h = rw (closes, h) (linked-to j (closeOf (I .text) (I .es) i)) ∙ ap (λ (w : ℕ). eqb w (j + 1)) (sym (g .linked i inside (eqb-true (kindOf t K i) 20 e) .close))
       go false e h = rw (closes, h) (bar-is i j o g inside there)
 
@@ -134,19 +134,19 @@ module _ {X t : List ℕ} {n : ℕ} {K : List ℕ} {I : Input} (g : Given X t n 
           | true ↦ true
           | false ↦ closes (I .text) (I .es) o i (suc c) && hasSep zero (drop (suc (suc i)) (I .es))
         ]
-      ] ≡ pick (eqb w 0) false (pick (testAt t K n (isKind 3) w) true (pick (closesAt X t K n i w) (hasSep zero (drop (suc (suc i)) (I .es))) false))
+      ] ≡ cond (eqb w 0) false (cond (testAt t K n (isKind 3) w) true (cond (closesAt X t K n i w) (hasSep zero (drop (suc (suc i)) (I .es))) false))
   gate-row none w h = rw h
   gate-row (some c) w h =
       let z : eqb w 0 ≡ false = ne-eqb w 0 (λ q. omega arith) in
       let H = hasSep zero (drop (suc (suc i)) (I .es)) in
       let C = closes (I .text) (I .es) o i (suc c) in
       two (isAt (I .text) (I .es) (is token.Sep) (suc c)) C H
-      ∙ ap (λ (b : Bool). pick b true (pick C H false)) (is-at-is token.Sep (suc c) g)
-      ∙ ap (λ (b : Bool). pick (testAt t K n (isKind 3) (suc c)) true (pick b H false)) (closes-is (suc c))
-      ∙ ap (λ (j : ℕ). pick (testAt t K n (isKind 3) j) true (pick (closesAt X t K n i j) H false)) (sym h)
-      ∙ sym (ap (λ (b : Bool). pick b false (pick (testAt t K n (isKind 3) w) true (pick (closesAt X t K n i w) H false))) z)
+      ∙ ap (λ (b : Bool). cond b true (cond C H false)) (is-at-is token.Sep (suc c) g)
+      ∙ ap (λ (b : Bool). cond (testAt t K n (isKind 3) (suc c)) true (cond b H false)) (closes-is (suc c))
+      ∙ ap (λ (j : ℕ). cond (testAt t K n (isKind 3) j) true (cond (closesAt X t K n i j) H false)) (sym h)
+      ∙ sym (ap (λ (b : Bool). cond b false (cond (testAt t K n (isKind 3) w) true (cond (closesAt X t K n i w) H false))) z)
     where
-      two : (a b c : Bool) → elim a as (λ _. Bool) [ true ↦ true | false ↦ b && c ] ≡ pick a true (pick b c false)
+      two : (a b c : Bool) → elim a as (λ _. Bool) [ true ↦ true | false ↦ b && c ] ≡ cond a true (cond b c false)
       two true b c = refl
       two false true c = refl
       two false false c = refl
@@ -170,7 +170,7 @@ module _ {X t : List ℕ} {n : ℕ} {K : List ℕ} {I : Input} (g : Given X t n 
             | false ↦ closes (I .text) (I .es) o i (suc c) && hasSep zero (drop (suc (suc i)) (I .es))
           ]
         ]
-      ] ≡ pick b (pick (eqb (afterClose K (suc i)) 0) false (pick (testAt t K n (isKind 3) (afterClose K (suc i))) true (pick (closesAt X t K n i (afterClose K (suc i))) (eqb (sepWord K (suc i)) 1) false))) false
+      ] ≡ cond b (cond (eqb (afterClose K (suc i)) 0) false (cond (testAt t K n (isKind 3) (afterClose K (suc i))) true (cond (closesAt X t K n i (afterClose K (suc i))) (eqb (sepWord K (suc i)) 1) false))) false
       go false e = refl
       go true e =
           let h : suc i < n = test-below t K n (isKind 20) (suc i) e in
@@ -182,16 +182,16 @@ module _ {X t : List ℕ} {n : ℕ} {K : List ℕ} {I : Input} (g : Given X t n 
   unfolding makesMatrix makesAt setAt
   makes-is {l} {k} r p hl tl hk = rw (closes-is p, hk) (go (ltb p n) refl)
     where
-      both : (a b : Bool) → (a && b) ≡ pick a b false
+      both : (a b : Bool) → (a && b) ≡ cond a b false
       both true b = refl
       both false b = refl
 
-      last : (a b c : Bool) → (not (a && b) && (ltb 1 k && c)) ≡ pick (pick a b false) false (pick (ltb 1 k) c false)
+      last : (a b c : Bool) → (not (a && b) && (ltb 1 k && c)) ≡ cond (cond a b false) false (cond (ltb 1 k) c false)
       last true true c = refl
       last true false c = both (ltb 1 k) c
       last false b c = both (ltb 1 k) c
 
-      go : (b : Bool) → ltb p n ≡ b → (isAt (I .text) (I .es) (λ e. not (isByte (I .text) (I .es) 40 (r .head .left .span) && isByte (I .text) (I .es) 125 (e .span))) p && (ltb 1 k && closesAt X t K n i p)) ≡ pick b (pick (setAt X t K l p) false (pick (ltb 1 k) (closesAt X t K n i p) false)) false
+      go : (b : Bool) → ltb p n ≡ b → (isAt (I .text) (I .es) (λ e. not (isByte (I .text) (I .es) 40 (r .head .left .span) && isByte (I .text) (I .es) 125 (e .span))) p && (ltb 1 k && closesAt X t K n i p)) ≡ cond b (cond (setAt X t K l p) false (cond (ltb 1 k) (closesAt X t K n i p) false)) false
       go true e =
           let q = g .stands p (ltb-true p n e) in
           rw (at-some (I .text) (I .es) (λ e. not (isByte (I .text) (I .es) 40 (r .head .left .span) && isByte (I .text) (I .es) 125 (e .span))) p (q .entry) (q .there), byte-at (I .text) (I .es) 40 (r .head .left) (g .text) (row-of g hl tl), byte-at (I .text) (I .es) 125 (q .entry) (g .text) (q .row))
@@ -202,7 +202,7 @@ pub makes-below : (X t K : List ℕ) (n i l k p : ℕ) → makesAt X t K n i l k
 unfolding makesAt
 makes-below X t K n i l k p h = go (ltb p n) refl h
   where
-    go : (b : Bool) → ltb p n ≡ b → pick b (pick (setAt X t K l p) false (pick (ltb 1 k) (closesAt X t K n i p) false)) false ≡ true → p < n
+    go : (b : Bool) → ltb p n ≡ b → cond b (cond (setAt X t K l p) false (cond (ltb 1 k) (closesAt X t K n i p) false)) false ≡ true → p < n
     go true e q = ltb-true p n e
     go false e q = let z : _≡_ {A = ℕ} 0 1 = cc in absurd (omega arith)
 

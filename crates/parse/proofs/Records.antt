@@ -1,7 +1,7 @@
 -- The records of an accepted list are what the whole reading needs, and it reads the list's entries.
 use Prim.Native.Nat.{ℕ, zero, suc, _+_, _*_, _≤_, _<_}
 use mathlib.Core.Path.{_≡_, refl, sym, _∙_}
-use mathlib.Core.Bool.{Bool, true, false}
+use mathlib.Core.Bool.{Bool, true, false, cond}
 use mathlib.Core.List.{List, _++_}
 use mathlib.Core.Option.{Option, none, some}
 use native.Mathlib.Omega.{arith}
@@ -14,7 +14,6 @@ use Rattle.tokens.specs.Table.{tokenList, countOthers}
 use Rattle.tokens.specs.Refusals.{listRefusal}
 use Rattle.tokens.proofs.TokenList.{others-few}
 use Rattle.tree.specs.Tree.{nowhere}
-use Rattle.tree.specs.Words.{pick}
 use Rattle.reading.specs.Entries.{is, entries, hasSep}
 use Rattle.reading.specs.Reading.{closeOf}
 use Rattle.bounds.proofs.Theorems.{entries-count}
@@ -31,7 +30,7 @@ use Rattle.parse.specs.Top.{TopReady}
 abbrev pub inputOf : List ℕ → List Lexeme → Input
 inputOf text ts = record { text = text; es = entries nowhere ts }
 
-same-bit : (b : Bool) → pick b 1 0 ≡ bit b
+same-bit : (b : Bool) → cond b 1 0 ≡ bit b
 same-bit true = refl
 same-bit false = refl
 

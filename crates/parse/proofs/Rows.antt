@@ -3,7 +3,7 @@ use Prim.Native.Nat.{ℕ, suc, _+_, _*_, _-_, _≤_, _<_}
 use mathlib.Core.Path.{_≡_, refl, sym, ap, _∙_, subst}
 use mathlib.Core.List.{List, [], _∷_, _++_, append-nil, append-assoc}
 use mathlib.Core.Option.{Option, none, some}
-use mathlib.Core.Bool.{Bool, true, false, _&&_, _||_}
+use mathlib.Core.Bool.{Bool, true, false, _&&_, _||_, cond}
 use native.Mathlib.Omega.{arith}
 use lib.ListN.{length, getElem?}
 use lib.Dec.{eqb, ltb}
@@ -12,7 +12,7 @@ use Rattle.tokens.specs.declared.token.Token.{Token}
 use Rattle.tokens.specs.declared.token.Token.the-variants as token
 use Rattle.tokens.specs.Kinds.{numberOf}
 use Rattle.tree.specs.Tree.{Nodes, end, _⧺_, count}
-use Rattle.tree.specs.Words.{pick, encodes}
+use Rattle.tree.specs.Words.{encodes}
 use Rattle.reading.specs.Entries.{Entry, is}
 use Rattle.reading.specs.Reading.{State, M, return, advance, any, Readers, isAt, textOf, isByte, Rows, joinRows, nextMatrixRow, moreRows, nextMatrixRows, alike, rowBrackets}
 use Rattle.tokens.specs.Bytes.{same}
@@ -74,7 +74,7 @@ brackets-are {X} {t} {n} {K} {I} {l} {r} row g hl hr tl tr =
     rw (byte-at (I .text) (I .es) 40 (row .left) (g .text) a, byte-at (I .text) (I .es) 41 (row .right) (g .text) b, byte-at (I .text) (I .es) 91 (row .left) (g .text) a, byte-at (I .text) (I .es) 93 (row .right) (g .text) b)
     (go (byteAt X t K l 40) (byteAt X t K l 91) (byteAt X t K r 41) (byteAt X t K r 93) (not-both X t K l 40 91 (λ z. omega arith)))
   where
-    go : (a c b d : Bool) → (a ≡ true → c ≡ false) → ((a && b) || (c && d)) ≡ pick a b (pick c d false)
+    go : (a c b d : Bool) → (a ≡ true → c ≡ false) → ((a && b) || (c && d)) ≡ cond a b (cond c d false)
     go true true b d h = let z : true ≡ false = h refl in let w : _≡_ {A = ℕ} 0 1 = cc in absurd (omega arith)
     go true false true d h = refl
     go true false false d h = refl
@@ -83,13 +83,13 @@ brackets-are {X} {t} {n} {K} {I} {l} {r} row g hl hr tl tr =
     go false false b d h = refl
 
 pub alike-is : {X t : List ℕ} {n : ℕ} {K : List ℕ} {I : Input} {l r l2 r2 cols k : ℕ} (a b : reading.Row) → Given X t n K I → l < n → r < n → l2 < n → r2 < n → getElem? (I .es) l ≡ some (a .left) → getElem? (I .es) r ≡ some (a .right)
-    → getElem? (I .es) l2 ≡ some (b .left) → getElem? (I .es) r2 ≡ some (b .right) → cols ≡ count (a .cells) → k ≡ count (b .cells) → alike (I .text) (I .es) a b ≡ pick (eqb cols k) (entry.likeAt X t K l r l2 r2) false
+    → getElem? (I .es) l2 ≡ some (b .left) → getElem? (I .es) r2 ≡ some (b .right) → cols ≡ count (a .cells) → k ≡ count (b .cells) → alike (I .text) (I .es) a b ≡ cond (eqb cols k) (entry.likeAt X t K l r l2 r2) false
 unfolding alike entry.likeAt
 alike-is {X} {t} {n} {K} {I} {l} {r} {l2} {r2} {cols} {k} a b g h1 h2 h3 h4 t1 t2 t3 t4 hc hk =
     rw (same-text (I .text) (I .es) (a .left) (b .left) (g .text) (row-of g h1 t1) (row-of g h3 t3), same-text (I .text) (I .es) (a .right) (b .right) (g .text) (row-of g h2 t2) (row-of g h4 t4), ← hc, ← hk)
     (go (sameAt X t K l l2) (eqb cols k) (sameAt X t K r r2))
   where
-    go : (a b c : Bool) → (a && b && c) ≡ pick b (pick a c false) false
+    go : (a b c : Bool) → (a && b && c) ≡ cond b (cond a c false) false
     go true true c = refl
     go true false c = refl
     go false true c = refl
@@ -218,10 +218,10 @@ module _ {X t : List ℕ} {n : ℕ} {K : List ℕ} (cols l r : ℕ) (c : Cursor)
 
       module _ {J z : List ℕ} {m q E : ℕ} {d : Cursor} (p : MatrixRow X t n L J (onward cur) stp y z (record { cur = d; end = E; count = m; close = close.At q })) where
         alike-row : {I : Input} {s : State} {h : reading.Row} (row : reading.Row) → At X t n J (d .pos) (d .takes) I s → First X t n I cols l r h → getElem? (I .es) (cur .pos + 1) ≡ some (row .left) → getElem? (I .es) q ≡ some (row .right) → m ≡ count (row .cells)
-            → alike (I .text) (I .es) h row ≡ pick (eqb cols m) (entry.likeAt X t J l r (cur .pos + 1) q) false
+            → alike (I .text) (I .es) h row ≡ cond (eqb cols m) (entry.likeAt X t J l r (cur .pos + 1) q) false
         alike-row {I} {s} {h} row a fst tl tr hm = alike-is h row (a .given) hl hr (p .2) (p .3) (fst .left) (fst .right) tl tr (fst .number) hm
 
-        pub rows-differ : pick (eqb cols m) (entry.likeAt X t J l r (cur .pos + 1) q) false ≡ false → (v : ℕ) → MoreRows X t n K J cols l r c e x z (record { cur = d; end = E; cells = v; cols = cols; left = l; why = why.Differs })
+        pub rows-differ : cond (eqb cols m) (entry.likeAt X t J l r (cur .pos + 1) q) false ≡ false → (v : ℕ) → MoreRows X t n K J cols l r c e x z (record { cur = d; end = E; cells = v; cols = cols; left = l; why = why.Differs })
         rows-differ df v = (
           record { cols′ = refl; left′ = refl },
           (

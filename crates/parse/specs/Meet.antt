@@ -5,13 +5,13 @@ use Prim.Native.Nat.{ℕ, zero, suc, _+_, _-_, _*_, _%_, _≤_, _<_, _^_}
 use mathlib.Core.Path.{_≡_}
 use mathlib.Core.List.{List, [], _∷_}
 use mathlib.Core.Option.{Option, none, some}
-use mathlib.Core.Bool.{Bool, true, false}
+use mathlib.Core.Bool.{Bool, true, false, cond}
 use lib.ListN.{length, drop, getD, getElem?}
 use lib.Dec.{eqb, ltb}
 use Rattle.tokens.specs.declared.token.Token.the-variants as token
 use Rattle.tokens.specs.Kinds.{numberOf}
 use Rattle.tree.specs.Tree.{Head, Prefix, Node, node, Nodes, end, _▸_, _⧺_, count, one}
-use Rattle.tree.specs.Words.{encode, encodes, encodeItem, encodeItems, scriptNumber, pick}
+use Rattle.tree.specs.Words.{encode, encodes, encodeItem, encodeItems, scriptNumber}
 use Rattle.reading.specs.Stop.{Stop}
 use Rattle.reading.specs.Entries.{Entry, is, hasSep}
 use Rattle.reading.specs.Reading.{State, M, return, _>>=_, if_then_else_, Readers, Scripted, level, closeOf, argument, nextScript, nextIntermediate, intermediates, nextOpenGroup, nextOpenCloseGroup, nextBracket, tryMatrix, begun, attempt, openMark, barBody, orMissing, orMissingPart, orGlyph, endsOperand, prefixes}
@@ -187,10 +187,10 @@ bracketAt false d stop i I o = nextOpenCloseGroup (I .text) (I .es) true (reader
 
 -- the kinds of token that open a group
 abbrev pub opening : ℕ → Bool
-opening k = pick (eqb k 20) true (eqb k 22)
+opening k = cond (eqb k 20) true (eqb k 22)
 
 abbrev pub prefixOf : ℕ → Prefix
-prefixOf k = pick (eqb k 9) Prefix.ssigned (pick (eqb k 10) Prefix.unary Prefix.sfunc)
+prefixOf k = cond (eqb k 9) Prefix.ssigned (cond (eqb k 10) Prefix.unary Prefix.sfunc)
 
 abbrev pub wordsOf : Option Node → List ℕ
 wordsOf none = []
@@ -319,7 +319,7 @@ abbrev pub seen : ℕ → Cursor → Cursor
 seen n c = record { pos = c .pos; depth = c .depth; takes = looked n (c .pos) (c .takes) }
 
 unfoldable pub passing : ℕ → Cursor → Cursor
-passing n c = pick (ltb (c .pos) n) (onward c) c
+passing n c = cond (ltb (c .pos) n) (onward c) c
 
 abbrev pub inner : Cursor → Cursor
 inner c = record { pos = c .pos; depth = c .depth + 1; takes = c .takes }

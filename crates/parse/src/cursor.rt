@@ -2,9 +2,8 @@
 use lookahead::takes::count_look;
 use lookahead::takes::count_take;
 ghost use mathlib.Core.Path.{_≡_};
-ghost use mathlib.Core.Bool.{true};
+ghost use mathlib.Core.Bool.{true, cond};
 ghost use Prim.Native.Nat.{_≤_, _<_};
-ghost use Rattle.tree.specs.Words.{pick};
 ghost use Rattle.parse.specs.Meet.{onward, seen, passing, inner, atDepth, rewound, stepAt};
 ghost use Rattle.parse.specs.declared.cursor.Step.the-variants.{Found};
 
@@ -54,7 +53,7 @@ impl Cursor {
     // Past the next token, if it is taken; else a look at it.
     pub(crate) fn past(self, n: usize, taken: bool) -> Cursor
         requires { ⌜ (taken ≡ true → self .pos < 4096) ⌝ }
-        ensures { λ r. ⌜ r ≡ pick taken (onward self) (seen n self) ⌝ }
+        ensures { λ r. ⌜ r ≡ cond taken (onward self) (seen n self) ⌝ }
     {
         if taken { self.next() } else { self.look(n) }
     }

@@ -13,8 +13,7 @@ use crate::kinds::OPEN_CLOSE_BRACKET;
 use crate::kinds::SIGN;
 use crate::kinds::UNARY;
 ghost use mathlib.Core.Path.{_≡_};
-ghost use mathlib.Core.Bool.{false};
-ghost use Rattle.tree.specs.Words.{pick};
+ghost use mathlib.Core.Bool.{false, cond};
 ghost use Rattle.parse.specs.Meet.{opening};
 ghost use Rattle.parse.specs.Choices.{prefixNumber, prefixStop};
 
@@ -31,21 +30,21 @@ pub(crate) fn opens(k: u32) -> bool
 
 // One of two entries.
 pub(crate) fn choose(first: bool, i: usize, j: usize) -> usize
-    ensures { λ r. ⌜ r ≡ pick first i j ⌝ }
+    ensures { λ r. ⌜ r ≡ cond first i j ⌝ }
 {
     if first { i } else { j }
 }
 
 // The kind of node that a function heads, or else a sign.
 pub(crate) fn head_kind(func: bool) -> u32
-    ensures { λ r. ⌜ r ≡ pick func 14 8 ⌝ }
+    ensures { λ r. ⌜ r ≡ cond func 14 8 ⌝ }
 {
     if func { NODE_FUNC } else { NODE_SIGNED }
 }
 
 // Whether its argument ends at a separator: a sign's does where the sign's own reader does.
 pub(crate) fn head_stop(func: bool, stop: bool) -> bool
-    ensures { λ r. ⌜ r ≡ pick func false stop ⌝ }
+    ensures { λ r. ⌜ r ≡ cond func false stop ⌝ }
 {
     if func { false } else { stop }
 }

@@ -1,13 +1,12 @@
 -- The lines of a row of nodes and of all below them, from any words: what no tree has put there is walked as the words say.
 use Prim.Native.Nat.{ℕ, zero, suc, _+_, min}
 use mathlib.Core.Path.{_≡_}
-use mathlib.Core.Bool.{Bool, true, false}
+use mathlib.Core.Bool.{Bool, true, false, cond}
 use mathlib.Core.List.{List, [], _++_}
 use lib.ListN.{length}
 use lib.Dec.{eqb}
 use Rattle.tree.specs.declared.walk.Opened.{Opened}
 use Rattle.tree.specs.declared.walk.Step.the-variants.{Node, End}
-use Rattle.tree.specs.Words.{pick}
 use Rattle.tree.specs.Walk.{stepAt}
 use Rattle.printer.specs.declared.row.Reached.{Reached}
 use Rattle.line.specs.Lines.{lineOf}
@@ -20,7 +19,7 @@ pub record Row : Type 0 where
 
 -- a node that is the last of its row, with no words behind the nodes below it
 abbrev pub lastOf : (left tail : ℕ) → Bool
-lastOf left tail = pick (eqb left 1) (eqb tail 0) false
+lastOf left tail = cond (eqb left 1) (eqb tail 0) false
 
 -- `tail` words on from `at`, but not past the end
 abbrev pub pastOf : (size at tail : ℕ) → ℕ

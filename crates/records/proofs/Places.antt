@@ -1,16 +1,15 @@
 -- When an entry is placed, and the Space before a place.
 use Prim.Native.Nat.{ℕ, _+_, _*_, _-_, _≤_, _<_}
 use mathlib.Core.Path.{_≡_, refl}
-use mathlib.Core.Bool.{Bool, true, false}
+use mathlib.Core.Bool.{Bool, true, false, cond}
 use mathlib.Core.List.{List}
 use native.Mathlib.Nat.{add-zero}
 use lib.ListN.{length, getD}
 use lib.Dec.{ltb}
 use borrow.Author.Tests.{lt-ltb, le-ltb, eq-eqb, ne-eqb}
-use Rattle.tree.specs.Words.{pick}
 use Rattle.records.specs.Record.{placeOf, isPlaced, startOf, spaceWord}
 
-never : (b : Bool) → pick b false false ≡ false
+never : (b : Bool) → cond b false false ≡ false
 never true = refl
 never false = refl
 
@@ -28,7 +27,7 @@ module _ (t K : List ℕ) (i : ℕ) where
   is-outside h = rw (le-ltb _ _ h) (never (ltb (4 * i + 3) (length K)))
 
   -- the first word of its token
-  pub start-word : pick (isPlaced t K i) (getD t (3 * placeOf K i + 0) 0) 0 ≡ startOf t K i
+  pub start-word : cond (isPlaced t K i) (getD t (3 * placeOf K i + 0) 0) 0 ≡ startOf t K i
   unfolding startOf
   start-word = simp add-zero
 

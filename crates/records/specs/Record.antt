@@ -2,11 +2,10 @@
 -- table, K the work words.
 use Prim.Native.Nat.{ℕ, _+_, _*_, _-_}
 use mathlib.Core.List.{List, [], _∷_}
-use mathlib.Core.Bool.{Bool, false}
+use mathlib.Core.Bool.{Bool, false, cond}
 use lib.ListN.{length, getD, set}
 use lib.Seq.{sets}
 use lib.Dec.{eqb, ltb}
-use Rattle.tree.specs.Words.{pick}
 
 -- the token's place in the table
 unfoldable pub placeOf : List ℕ → ℕ → ℕ
@@ -30,11 +29,11 @@ isWhole K i = ltb (4 * i + 3) (length K)
 
 -- a new record: this place, no bracket matched and no mark set. Where a record is not whole, a store changes nothing.
 unfoldable pub withRecord : List ℕ → ℕ → ℕ → List ℕ
-withRecord K i place = pick (isWhole K i) (sets K (4 * i) (place ∷ 0 ∷ 0 ∷ 0 ∷ [])) K
+withRecord K i place = cond (isWhole K i) (sets K (4 * i) (place ∷ 0 ∷ 0 ∷ 0 ∷ [])) K
 
 -- another word k of the record
 unfoldable pub withField : List ℕ → ℕ → ℕ → ℕ → List ℕ
-withField K i k w = pick (isWhole K i) (set K (4 * i + k) w) K
+withField K i k w = cond (isWhole K i) (set K (4 * i + k) w) K
 
 -- another entry behind the closing bracket
 abbrev pub withClose : List ℕ → ℕ → ℕ → List ℕ
@@ -50,24 +49,24 @@ withMarks K i w = set K (4 * i + 3) w
 
 -- the entry has its four words, and its token stands in the table
 unfoldable pub isPlaced : List ℕ → List ℕ → ℕ → Bool
-isPlaced t K i = pick (isWhole K i) (ltb (3 * placeOf K i + 2) (length t)) false
+isPlaced t K i = cond (isWhole K i) (ltb (3 * placeOf K i + 2) (length t)) false
 
 -- the kind, start and length of its token; if it is not placed, the kind of a Space, which is no entry's, and 0
 unfoldable pub kindOf : List ℕ → List ℕ → ℕ → ℕ
-kindOf t K i = pick (isPlaced t K i) (getD t (3 * placeOf K i + 2) 0) 23
+kindOf t K i = cond (isPlaced t K i) (getD t (3 * placeOf K i + 2) 0) 23
 
 unfoldable pub startOf : List ℕ → List ℕ → ℕ → ℕ
-startOf t K i = pick (isPlaced t K i) (getD t (3 * placeOf K i) 0) 0
+startOf t K i = cond (isPlaced t K i) (getD t (3 * placeOf K i) 0) 0
 
 unfoldable pub lenOf : List ℕ → List ℕ → ℕ → ℕ
-lenOf t K i = pick (isPlaced t K i) (getD t (3 * placeOf K i + 1) 0) 0
+lenOf t K i = cond (isPlaced t K i) (getD t (3 * placeOf K i + 1) 0) 0
 
 -- a word of the Space directly before the token j, or 0
 unfoldable pub spaceWord : List ℕ → ℕ → ℕ → ℕ
-spaceWord t j k = pick (eqb j 0) 0 (pick (eqb (getD t (3 * (j - 1) + 2) 0) 23) (getD t (3 * (j - 1) + k) 0) 0)
+spaceWord t j k = cond (eqb j 0) 0 (cond (eqb (getD t (3 * (j - 1) + 2) 0) 23) (getD t (3 * (j - 1) + k) 0) 0)
 
 unfoldable pub spaceStart : List ℕ → List ℕ → ℕ → ℕ
-spaceStart t K i = pick (isPlaced t K i) (spaceWord t (placeOf K i) 0) 0
+spaceStart t K i = cond (isPlaced t K i) (spaceWord t (placeOf K i) 0) 0
 
 unfoldable pub spaceLen : List ℕ → List ℕ → ℕ → ℕ
-spaceLen t K i = pick (isPlaced t K i) (spaceWord t (placeOf K i) 1) 0
+spaceLen t K i = cond (isPlaced t K i) (spaceWord t (placeOf K i) 1) 0

@@ -1,8 +1,8 @@
 // The token of an entry, by its place in the first word of the record.
+ghost use mathlib.Core.Bool.{cond};
 ghost use mathlib.Core.Path.{_≡_};
 ghost use Prim.Native.Nat.{_+_, _*_, _^_, _<_};
 ghost use lib.ListN.{length, getD};
-ghost use Rattle.tree.specs.Words.{pick};
 ghost use Rattle.records.specs.Record.{placeOf, isPlaced, kindOf, startOf, lenOf};
 
 // The place of the token in the table, of an entry that has its words.
@@ -17,7 +17,7 @@ fn place_at(work: &[u32], i: usize) -> usize
 // The word k of the entry's token, or `none` if the entry is not placed.
 fn token_word(tok: &[u32], work: &[u32], i: usize, k: usize, none: u32) -> u32
     requires { ⌜ k < 3 ⌝ }
-    ensures { λ r. ⌜ r ≡ pick (isPlaced (now (tok .entry)) (now (work .entry)) i) (getD (now (tok .entry)) (3 * placeOf (now (work .entry)) i + k) 0) none ⌝ }
+    ensures { λ r. ⌜ r ≡ cond (isPlaced (now (tok .entry)) (now (work .entry)) i) (getD (now (tok .entry)) (3 * placeOf (now (work .entry)) i + k) 0) none ⌝ }
 {
     if i < work.len() / 4 {
         let j = place_at(work, i);

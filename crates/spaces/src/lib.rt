@@ -1,8 +1,8 @@
 // The Space directly before an entry.
+ghost use mathlib.Core.Bool.{cond};
 ghost use mathlib.Core.Path.{_≡_};
 ghost use Prim.Native.Nat.{_+_, _*_, _<_};
 ghost use lib.ListN.{length};
-ghost use Rattle.tree.specs.Words.{pick};
 ghost use Rattle.records.specs.Record.{placeOf, isPlaced, spaceWord, spaceStart, spaceLen};
 
 // A word of the Space directly before the token j, or 0.
@@ -23,7 +23,7 @@ fn space_word(tok: &[u32], j: usize, k: usize) -> u32
 // A word of the Space directly before the entry, or 0.
 fn space_before(tok: &[u32], work: &[u32], i: usize, k: usize) -> u32
     requires { ⌜ k < 2 ⌝ }
-    ensures { λ r. ⌜ r ≡ pick (isPlaced (now (tok .entry)) (now (work .entry)) i) (spaceWord (now (tok .entry)) (placeOf (now (work .entry)) i) k) 0 ⌝ }
+    ensures { λ r. ⌜ r ≡ cond (isPlaced (now (tok .entry)) (now (work .entry)) i) (spaceWord (now (tok .entry)) (placeOf (now (work .entry)) i) k) 0 ⌝ }
 {
     if i < work.len() / 4 {
         let j = work[4 * i] as usize;

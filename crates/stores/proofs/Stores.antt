@@ -1,14 +1,13 @@
 -- What a store into a record leaves.
 use Prim.Native.Nat.{ℕ, _+_, _*_, _≤_, _<_}
 use mathlib.Core.Path.{_≡_, refl}
-use mathlib.Core.Bool.{Bool, true, false}
+use mathlib.Core.Bool.{Bool, true, false, cond}
 use mathlib.Core.List.{List, [], _∷_}
 use native.Mathlib.Omega.{arith}
 use lib.Dec.{ltb}
 use lib.ListN.{length, getD, set, length-set}
 use lib.Seq.{sets, getD-set-same, getD-set-other}
 use borrow.Author.Tests.{lt-ltb, le-ltb}
-use Rattle.tree.specs.Words.{pick}
 use Rattle.records.specs.Record.{placeOf, afterClose, sepWord, marksOf, isWhole, withRecord, withField, withClose, withSep}
 
 -- a new record
@@ -35,7 +34,7 @@ module _ (K : List ℕ) (i k w : ℕ) where
   unfolding withField
   field-length = go (isWhole K i)
     where
-      go : (b : Bool) → length (pick b (set K (4 * i + k) w) K) ≡ length K
+      go : (b : Bool) → length (cond b (set K (4 * i + k) w) K) ≡ length K
       go true = length-set K (4 * i + k) w
       go false = refl
 
@@ -43,7 +42,7 @@ module _ (K : List ℕ) (i k w : ℕ) where
   unfolding withField
   field-other x h = go (isWhole K i)
     where
-      go : (b : Bool) → getD (pick b (set K (4 * i + k) w) K) x 0 ≡ getD K x 0
+      go : (b : Bool) → getD (cond b (set K (4 * i + k) w) K) x 0 ≡ getD K x 0
       go true = getD-set-other K (4 * i + k) x w 0 h
       go false = refl
 

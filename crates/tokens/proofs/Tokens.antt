@@ -1,6 +1,6 @@
 -- One token of a list: what it is refused for, and what an accepted one leaves to the tokens after it.
 use mathlib.Core.Path.{_≡_, refl, _∙_}
-use mathlib.Core.Bool.{Bool, true, false, _&&_}
+use mathlib.Core.Bool.{Bool, true, false, _&&_, and-false}
 use mathlib.Core.List.{List}
 use mathlib.Core.Option.{Option, none, some}
 use Prim.Native.Nat.{ℕ, suc, _+_, _*_, _-_, _≤_, _<_}
@@ -10,10 +10,6 @@ use lib.ListN.{getD, drop}
 use borrow.Author.Tests.{lt-ltb, le-ltb, ne-eqb}
 use Rattle.tokens.specs.Refusals.{longSpace, tokensRefusal}
 use Rattle.tokens.proofs.TokenList.{word-at, first-word, words-behind}
-
-and-false : (b : Bool) → b && false ≡ false
-and-false true = refl
-and-false false = refl
 
 -- the refusal that the tokens from number i on meet
 abbrev pub refusalFrom : ℕ → ℕ → List ℕ → Bool → ℕ → Option ℕ

@@ -2,14 +2,14 @@
 use Prim.Native.Nat.{ℕ, zero, suc, _≤_}
 use mathlib.Core.Path.{_≡_, refl, ap, _∙_}
 use mathlib.Core.List.{List, [], _++_, append-assoc}
-use mathlib.Core.Bool.{Bool, true, false}
+use mathlib.Core.Bool.{Bool, true, false, cond}
 use native.Mathlib.Omega.{arith}
 use lib.ListN.{length, getD, drop, length-append}
 use lib.Seq.{take-append-seam, drop-append-seam}
 use lib.Dec.{eqb}
 use Rattle.tokens.specs.declared.token.SymbolClass.the-variants as class
 use Rattle.tree.specs.Tree.{Script, Head, Atom, Prefix, Node, node, Nodes, end, _▸_, _⧺_, count}
-use Rattle.tree.specs.Words.{headWords, tailWords, ofItems, pick, withHead, encode, encodes, encodeItem, encodeItems}
+use Rattle.tree.specs.Words.{headWords, tailWords, ofItems, withHead, encode, encodes, encodeItem, encodeItems}
 use Rattle.tree.specs.WellFormed.{WellFormed}
 use Rattle.tree.specs.Laid.{Laid, Laids}
 use Rattle.tree.proofs.Laid.{expression-laid}
@@ -20,8 +20,8 @@ record Own (h : Head) (k : ℕ) (words behind : List ℕ) : Type 0 where
   head : headOf words (tailWords h) ≡ h
   items : ofItems (headOf words []) ≡ ofItems h
   many : below (headOf words []) (getD words 3 0) ≡ below h k
-  skip : drop (pick (eqb (getD words 0 0) 16) 8 6) words ≡ behind
-  lines : pick (eqb (getD words 0 0) 16) (getD words 7 0) 0 ≡ length (tailWords h)
+  skip : drop (cond (eqb (getD words 0 0) 16) 8 6) words ≡ behind
+  lines : cond (eqb (getD words 0 0) 16) (getD words 7 0) 0 ≡ length (tailWords h)
 
 -- every node has words of its own
 some-words : (h : Head) (k w : ℕ) → 1 ≤ length (headWords h k w)
@@ -73,7 +73,7 @@ own (Head.matrix a b c ls) k w r = search
 -- A node is read back if the nodes below it are.
 node-step : {h : Head} {l : Nodes} {words behind rest : List ℕ} (depth : ℕ) → Own h (count l) words behind →
     count l ≡ below h (count l) →
-    times (count l) (pick (ofItems h) (decodeItem (decodeNode depth)) (decodeNode depth)) behind
+    times (count l) (cond (ofItems h) (decodeItem (decodeNode depth)) (decodeNode depth)) behind
     ≡ (l, tailWords h ++ rest) →
     decodeNode (suc depth) words ≡ (node h l, rest)
 unfolding decodeNode
@@ -94,8 +94,8 @@ record Backs (l : Nodes) : Type 0 where
 
 -- the nodes below a node, which are items or not
 either : {l : Nodes} → Backs l → (items : Bool) →
-    ReadBack (λ depth. times (count l) (pick items (decodeItem (decodeNode depth)) (decodeNode depth))) l
-    (pick items (encodeItems l) (encodes l))
+    ReadBack (λ depth. times (count l) (cond items (decodeItem (decodeNode depth)) (decodeNode depth))) l
+    (cond items (encodeItems l) (encodes l))
 either b true = b .items
 either b false = b .all
 
@@ -106,7 +106,7 @@ module _ (h : Head) (l : Nodes) (c : count l ≡ below h (count l)) (b : Backs l
       go depth (omega (arith, simp length-append at fit, some-words h (count l) (length inner)))
     where
       inner : List ℕ
-      inner = pick (ofItems h) (encodeItems l) (encodes l)
+      inner = cond (ofItems h) (encodeItems l) (encodes l)
 
       go : (d : ℕ) → suc (length inner) ≤ d → decodeNode d (withHead h (count l) inner ++ rest) ≡ (node h l, rest)
       go zero k = absurd (omega arith)

@@ -1,7 +1,7 @@
 -- What a step of the walk finds at the words of a node: its kind and its own words, the nodes below it, and what stands behind them.
 use Prim.Native.Nat.{ℕ, suc, _+_, _-_, _≤_, _<_}
 use mathlib.Core.Path.{_≡_, refl, sym, ap, _∙_}
-use mathlib.Core.Bool.{Bool, true, false}
+use mathlib.Core.Bool.{Bool, true, false, cond}
 use mathlib.Core.List.{List, _∷_, _++_, append-assoc}
 use native.Mathlib.Omega.{arith}
 use native.Mathlib.Nat.{add-zero}
@@ -11,7 +11,7 @@ use lib.Dec.{eqb}
 use Rattle.tree.specs.declared.walk.Opened.{Opened}
 use Rattle.tree.specs.declared.walk.Step.the-variants.{Node as node-at}
 use Rattle.tree.specs.Tree.{Script, Head, Atom, Prefix, node, Nodes, end, _▸_, count}
-use Rattle.tree.specs.Words.{headWords, tailWords, ofItems, isFrac, pick, withHead, encode, encodes, encodeItems}
+use Rattle.tree.specs.Words.{headWords, tailWords, ofItems, isFrac, withHead, encode, encodes, encodeItems}
 use Rattle.tree.specs.Decode.{below}
 use Rattle.tree.specs.Walk.{rowWords, nodeWords, kindOf, belowOf, headedAt, fractionAt, placedAt, stepAt, cellsEnd}
 use Rattle.tree.proofs.Steps.{step-node, placed-fraction, placed-item, placed-node, cell-more}
@@ -32,10 +32,10 @@ pub record Opens (words : List ℕ) (at : ℕ) (items : Bool) (h : Head) (l : No
 record Says (h : Head) (k : ℕ) (words behind : List ℕ) : Type 0 where
   kind : getD words 0 0 ≡ kindOf h
   many : belowOf (getD words 0 0) (getD words 3 0) ≡ below h k
-  sort : pick (eqb (getD words 0 0) 15) true (eqb (getD words 0 0) 17) ≡ ofItems h
-  tail : pick (eqb (getD words 0 0) 16) (getD words 7 0) 0 ≡ length (tailWords h)
-  skip : drop (pick (eqb (getD words 0 0) 16) 8 6) words ≡ behind
-  size : pick (eqb (getD words 0 0) 16) 8 6 + length behind ≡ length words
+  sort : cond (eqb (getD words 0 0) 15) true (eqb (getD words 0 0) 17) ≡ ofItems h
+  tail : cond (eqb (getD words 0 0) 16) (getD words 7 0) 0 ≡ length (tailWords h)
+  skip : drop (cond (eqb (getD words 0 0) 16) 8 6) words ≡ behind
+  size : cond (eqb (getD words 0 0) 16) 8 6 + length behind ≡ length words
 
 says : (h : Head) (k w : ℕ) (behind : List ℕ) → Says h k (headWords h k w ++ behind) behind
 says Head.missing k w r = search arith
@@ -86,7 +86,7 @@ unfolding headedAt
 headed words at h l rest c e =
     let all : List ℕ = ownWords h l ++ behindOf h l rest in
     let s : Says h (count l) all (behindOf h l rest) = says h (count l) (length (rowWords (ofItems h) l)) (behindOf h l rest) in
-    let size : ℕ = pick (eqb (getD all 0 0) 16) 8 6 in
+    let size : ℕ = cond (eqb (getD all 0 0) 16) 8 6 in
     let word : (i : ℕ) → getD words (at + i) 0 ≡ getD all i 0 = λ i. sym (getD-drop at words i 0) ∙ ap (λ (x : List ℕ). getD x i 0) e in
     let first : getD words at 0 ≡ getD all 0 0 = ap (λ (i : ℕ). getD words i 0) (sym (add-zero at)) ∙ word 0 in
     record {

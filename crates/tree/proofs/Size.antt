@@ -2,11 +2,11 @@
 use Prim.Native.Nat.{ℕ, suc, _+_, _≤_}
 use mathlib.Core.Path.{_≡_, refl, ap, ap₂, _∙_}
 use mathlib.Core.List.{List}
-use mathlib.Core.Bool.{Bool, true, false}
+use mathlib.Core.Bool.{Bool, true, false, cond}
 use native.Mathlib.Omega.{arith}
 use lib.ListN.{length, length-append}
 use Rattle.tree.specs.Tree.{Head, Node, node, Nodes, end, _▸_, _⧺_, count}
-use Rattle.tree.specs.Words.{headWords, tailWords, ofItems, isFrac, pick, encode, encodes, encodeItem, encodeItems}
+use Rattle.tree.specs.Words.{headWords, tailWords, ofItems, isFrac, encode, encodes, encodeItem, encodeItems}
 
 -- a node's own words, with a matrix's lines
 abbrev pub ownSize : Head → ℕ
@@ -14,14 +14,14 @@ ownSize h = length (headWords h 0 0) + length (tailWords h)
 
 unfoldable mutual
   pub size : Node → ℕ
-  size (node h l) = ownSize h + pick (ofItems h) (sizeItems l) (sizes l)
+  size (node h l) = ownSize h + cond (ofItems h) (sizeItems l) (sizes l)
 
   pub sizes : Nodes → ℕ
   sizes end = 0
   sizes (x ▸ l) = size x + sizes l
 
   pub sizeItem : Node → ℕ
-  sizeItem (node h l) = pick (isFrac h) (suc (sizes l)) (suc (ownSize h + pick (ofItems h) (sizeItems l) (sizes l)))
+  sizeItem (node h l) = cond (isFrac h) (suc (sizes l)) (suc (ownSize h + cond (ofItems h) (sizeItems l) (sizes l)))
 
   pub sizeItems : Nodes → ℕ
   sizeItems end = 0
@@ -39,7 +39,7 @@ own-size Head.cell k w = refl
 own-size (Head.group a b) k w = refl
 own-size (Head.matrix a b c ls) k w = refl
 
-length-pick : (b : Bool) (x y : List ℕ) {m n : ℕ} → length x ≡ m → length y ≡ n → length (pick b x y) ≡ pick b m n
+length-pick : (b : Bool) (x y : List ℕ) {m n : ℕ} → length x ≡ m → length y ≡ n → length (cond b x y) ≡ cond b m n
 length-pick true x y p q = p
 length-pick false x y p q = q
 
@@ -47,7 +47,7 @@ module _ (h : Head) (l : Nodes) (all : length (encodes l) ≡ sizes l) (items : 
   node-size : length (encode (node h l)) ≡ size (node h l)
   unfolding encode size
   node-size =
-      let below = pick (ofItems h) (encodeItems l) (encodes l) in
+      let below = cond (ofItems h) (encodeItems l) (encodes l) in
       simp length-append (omega (
         arith,
         own-size h (count l) (length below),

@@ -1,7 +1,7 @@
 -- The cases of a step of the walk, one law for each answer of the code.
 use Prim.Native.Nat.{ℕ, zero, suc, _+_, _-_, _≤_, _<_}
 use mathlib.Core.Path.{_≡_, refl, sym, _∙_}
-use mathlib.Core.Bool.{Bool, true, false}
+use mathlib.Core.Bool.{Bool, true, false, cond}
 use mathlib.Core.List.{List}
 use native.Mathlib.Omega.{arith}
 use lib.ListN.{length, getD, take, drop, length-drop, drop-of-length-le}
@@ -10,7 +10,6 @@ use lib.Dec.{eqb, ltb, leb}
 use borrow.Author.Tests.{leb-true, lt-ltb, le-ltb, le-leb, lt-leb, ne-eqb}
 use Rattle.tree.specs.declared.walk.Opened.{Opened}
 use Rattle.tree.specs.declared.walk.Step.the-variants.{Node, End}
-use Rattle.tree.specs.Words.{pick}
 use Rattle.tree.specs.Walk.{belowOf, headedAt, fractionAt, placedAt, stepAt, cellsEnd}
 
 module _ (words : List ℕ) (head : ℕ) {kind held count : ℕ} (k : kind ≡ getD words head 0) (h : held ≡ getD words (head + 3) 0) (n : count ≡ belowOf kind held) where
@@ -90,7 +89,7 @@ pub record Within (words : List ℕ) (at : ℕ) (o : Opened) : Type 0 where
   pub upto : o .from ≤ length words
   pub head : o .head ≤ o .from
 
-six : (b : Bool) → 6 ≤ pick b 8 6
+six : (b : Bool) → 6 ≤ cond b 8 6
 six true = omega arith
 six false = omega arith
 
@@ -99,7 +98,7 @@ unfolding placedAt headedAt
 placed-on words at false = let s = six (eqb (getD words at 0) 16) in omega arith
 placed-on words at true = go (eqb (getD words at 0) 1)
   where
-    go : (b : Bool) → let o = pick b (fractionAt at) (headedAt words (at + 1)) in (at < o .from) × (o .head ≤ o .from)
+    go : (b : Bool) → let o = cond b (fractionAt at) (headedAt words (at + 1)) in (at < o .from) × (o .head ≤ o .from)
     go true = omega arith
     go false = let s = six (eqb (getD words (at + 1) 0) 16) in omega arith
 
@@ -110,7 +109,7 @@ step-within words at items o e = go (ltb at (length words)) (leb (p .from) (leng
     p : Opened
     p = placedAt words at items
 
-    go : (a b : Bool) → leb (p .from) (length words) ≡ b → Node o ≡ pick a (pick b (Node p) End) End → Within words at o
+    go : (a b : Bool) → leb (p .from) (length words) ≡ b → Node o ≡ cond a (cond b (Node p) End) End → Within words at o
     go true true f u = let s : o ≡ p = cc in let q = placed-on words at items in rw s record { on = q .0; upto = leb-true _ _ f; head = q .1 }
     go true false f u = let z : _≡_ {A = ℕ} 0 1 = cc in absurd (omega arith)
     go false b f u = let z : _≡_ {A = ℕ} 0 1 = cc in absurd (omega arith)

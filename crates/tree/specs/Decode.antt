@@ -1,7 +1,7 @@
 -- The layout of docs/LAYOUT.md read back: the tree of a number of items and of the words that begin with theirs. What stands
 -- behind the tree is not looked at.
 use Prim.Native.Nat.{ℕ, zero, suc}
-use mathlib.Core.Bool.{true, false}
+use mathlib.Core.Bool.{true, false, cond}
 use mathlib.Core.List.{List, [], _∷_}
 use lib.ListN.{length, getD, take, drop}
 use lib.Dec.{eqb}
@@ -9,7 +9,7 @@ use Rattle.tokens.specs.declared.token.SymbolClass.{SymbolClass}
 use Rattle.tokens.specs.declared.token.SymbolClass.the-variants as class
 use Rattle.tokens.specs.Lexeme.{Span}
 use Rattle.tree.specs.Tree.{Script, Head, Atom, Prefix, Node, node, Nodes, end, _▸_, leaf}
-use Rattle.tree.specs.Words.{ofItems, pick}
+use Rattle.tree.specs.Words.{ofItems}
 
 -- the classes and the scripts in the order of their numbers
 abbrev pub classes : List SymbolClass
@@ -111,8 +111,8 @@ decodeNode (suc depth) words =
     let h = headOf words [] in
     let matrix = eqb (getD words 0 0) 16 in
     let one = decodeNode depth in
-    let l = times (below h (getD words 3 0)) (pick (ofItems h) (decodeItem one) one) (drop (pick matrix 8 6) words) in
-    let lines = pick matrix (getD words 7 0) 0 in
+    let l = times (below h (getD words 3 0)) (cond (ofItems h) (decodeItem one) one) (drop (cond matrix 8 6) words) in
+    let lines = cond matrix (getD words 7 0) 0 in
     (node (headOf words (take lines (l .1))) (l .0), drop lines (l .1))
 
 -- The tree. It is nowhere deeper than it has words.

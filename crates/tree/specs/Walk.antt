@@ -1,6 +1,6 @@
 -- What a step of a walk over tree words finds, by the layout of docs/LAYOUT.md. A word past the end counts as 0.
 use Prim.Native.Nat.{ℕ, zero, suc, _+_}
-use mathlib.Core.Bool.{Bool, true, false}
+use mathlib.Core.Bool.{Bool, true, false, cond}
 use mathlib.Core.List.{List}
 use lib.ListN.{length, getD}
 use lib.Dec.{eqb, ltb, leb}
@@ -8,28 +8,28 @@ use Rattle.tree.specs.declared.walk.Opened.{Opened}
 use Rattle.tree.specs.declared.walk.Step.{Step}
 use Rattle.tree.specs.declared.walk.Step.the-variants as step
 use Rattle.tree.specs.Tree.{Head, Node, Nodes}
-use Rattle.tree.specs.Words.{pick, headWords, encode, encodes, encodeItem, encodeItems}
+use Rattle.tree.specs.Words.{headWords, encode, encodes, encodeItem, encodeItems}
 
 -- the words of a row, which is of items or not, and of one node of it
 abbrev pub rowWords : Bool → Nodes → List ℕ
-rowWords items l = pick items (encodeItems l) (encodes l)
+rowWords items l = cond items (encodeItems l) (encodes l)
 
 abbrev pub nodeWords : Bool → Node → List ℕ
-nodeWords items x = pick items (encodeItem x) (encode x)
+nodeWords items x = cond items (encodeItem x) (encode x)
 
 abbrev pub kindOf : Head → ℕ
 kindOf h = getD (headWords h 0 0) 0 0
 
 -- how many arguments the script with this number has
 abbrev pub argumentsOf : ℕ → ℕ
-argumentsOf script = pick (eqb script 0) 0 (pick (eqb script 3) 2 1)
+argumentsOf script = cond (eqb script 0) 0 (cond (eqb script 3) 2 1)
 
 -- how many nodes stand below one of this kind whose word 3 is `held`
 abbrev pub belowOf : ℕ → ℕ → ℕ
 belowOf kind held =
-    pick (ltb kind 8) 0
-    (pick (ltb kind 12) 1
-    (pick (ltb kind 13) 2 (pick (ltb kind 15) (1 + argumentsOf held) (pick (ltb kind 18) held 2))))
+    cond (ltb kind 8) 0
+    (cond (ltb kind 12) 1
+    (cond (ltb kind 13) 2 (cond (ltb kind 15) (1 + argumentsOf held) (cond (ltb kind 18) held 2))))
 
 -- the node whose own words begin at `head`
 unfoldable pub headedAt : List ℕ → ℕ → Opened
@@ -38,10 +38,10 @@ headedAt words head =
     record {
       kind = kind;
       head = head;
-      from = head + pick (eqb kind 16) 8 6;
+      from = head + cond (eqb kind 16) 8 6;
       count = belowOf kind (getD words (head + 3) 0);
-      items = pick (eqb kind 15) true (eqb kind 17);
-      tail = pick (eqb kind 16) (getD words (head + 7) 0) 0;
+      items = cond (eqb kind 15) true (eqb kind 17);
+      tail = cond (eqb kind 16) (getD words (head + 7) 0) 0;
     }
 
 -- a fraction whose word stands at `at`
@@ -51,16 +51,16 @@ fractionAt at = record { kind = 18; head = at; from = at + 1; count = 2; items =
 -- the node at a place of a row of items, or of nodes that are none
 unfoldable pub placedAt : List ℕ → ℕ → Bool → Opened
 placedAt words at items =
-    pick items (pick (eqb (getD words at 0) 1) (fractionAt at) (headedAt words (at + 1))) (headedAt words at)
+    cond items (cond (eqb (getD words at 0) 1) (fractionAt at) (headedAt words (at + 1))) (headedAt words at)
 
 -- the same, if its own words are there
 unfoldable pub stepAt : List ℕ → ℕ → Bool → Step
 stepAt words at items =
     let o = placedAt words at items in
-    pick (ltb at (length words)) (pick (leb (o .from) (length words)) (step.Node o) step.End) step.End
+    cond (ltb at (length words)) (cond (leb (o .from) (length words)) (step.Node o) step.End) step.End
 
 -- the end of so many cells
 unfoldable pub cellsEnd : List ℕ → ℕ → ℕ → ℕ
 cellsEnd words zero at = at
 cellsEnd words (suc count) at =
-    pick (ltb at (length words)) (cellsEnd words count (at + 6 + getD words (at + 4) 0)) at
+    cond (ltb at (length words)) (cellsEnd words count (at + 6 + getD words (at + 4) 0)) at

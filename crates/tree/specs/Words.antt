@@ -2,7 +2,7 @@
 -- a matrix's column lines. Each item of the root, a group or a cell has one word in front: 1 for a fraction, whose two parts follow
 -- without a header of their own, and 0 for any other item.
 use Prim.Native.Nat.{ℕ}
-use mathlib.Core.Bool.{Bool, true, false}
+use mathlib.Core.Bool.{Bool, true, false, cond}
 use mathlib.Core.List.{List, [], _∷_, _++_}
 use lib.ListN.{length}
 use Rattle.tokens.specs.Kinds.{classNumber}
@@ -88,17 +88,13 @@ tailWords Head.cell = []
 tailWords (Head.group a b) = []
 tailWords (Head.matrix a b c ls) = ls
 
-abbrev pub pick : {A : Type 0} → Bool → A → A → A
-pick true a b = a
-pick false a b = b
-
 -- a node with the words of those below it
 abbrev pub withHead : Head → ℕ → List ℕ → List ℕ
 withHead h k below = headWords h k (length below) ++ (below ++ tailWords h)
 
 unfoldable mutual
   pub encode : Node → List ℕ
-  encode (node h l) = withHead h (count l) (pick (ofItems h) (encodeItems l) (encodes l))
+  encode (node h l) = withHead h (count l) (cond (ofItems h) (encodeItems l) (encodes l))
 
   pub encodes : Nodes → List ℕ
   encodes end = []
@@ -106,7 +102,7 @@ unfoldable mutual
 
   pub encodeItem : Node → List ℕ
   encodeItem (node h l) =
-      pick (isFrac h) (1 ∷ encodes l) (0 ∷ withHead h (count l) (pick (ofItems h) (encodeItems l) (encodes l)))
+      cond (isFrac h) (1 ∷ encodes l) (0 ∷ withHead h (count l) (cond (ofItems h) (encodeItems l) (encodes l)))
 
   -- the words of a tree: its items
   pub encodeItems : Nodes → List ℕ

@@ -14,7 +14,7 @@ pub(crate) fn first_fault(set: usize, numbers: &[u8]) -> u8 {
     0
 }
 
-pub(crate) fn pick(fault: usize, with: u32, without: u32) -> u32 {
+pub(crate) fn cond(fault: usize, with: u32, without: u32) -> u32 {
     if fault % 2 == 1 { with } else { without }
 }
 

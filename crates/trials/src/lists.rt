@@ -1,9 +1,9 @@
 // The refusals of the call on a token list.
 use crate::compare::kept;
+use crate::faults::cond;
 use crate::faults::cut;
 use crate::faults::first_bytes;
 use crate::faults::first_fault;
-use crate::faults::pick;
 use crate::faults::text_of;
 use parse::ParsedTokens;
 
@@ -36,9 +36,9 @@ fn ask(text: &[u8], table: &[u32], count: usize, set: usize) -> u8 {
 // Space, Ident, Space, Ident: the second token has 4 and 5, the last one 6. The span's start and length would be 0 if they were added
 // with wrapping.
 fn table_of(set: usize) -> [u32; 12] {
-    let len = pick(set / 16, 4294967295, 1);
-    let kind = pick(set / 8, 24, 6);
-    let last = pick(set / 32, 23, 6);
+    let len = cond(set / 16, 4294967295, 1);
+    let kind = cond(set / 8, 24, 6);
+    let last = cond(set / 32, 23, 6);
     [0, 1, 23, 1, len, kind, 0, 1, 23, 2, 1, last]
 }
 
