@@ -5,7 +5,6 @@ use mathlib.Core.List.{List, [], _∷_, _++_}
 use mathlib.Core.Option.{none, some}
 use native.Mathlib.Omega.{arith}
 use lib.ListN.{length, drop, replicate}
-use borrow.Author.Tests.{lt-ltb, le-ltb}
 use Rattle.lexing.specs.Rules.{tokens}
 use Rattle.tokens.specs.Table.{tableWords}
 use Rattle.tokens.specs.Refusals.{Answer, accepted, refused}
@@ -17,8 +16,6 @@ use Rattle.bounds.proofs.Theorems.{bounds}
 use Rattle.parse.specs.Entry.{bit}
 use Rattle.parse.specs.Call as read
 use Rattle.parse.specs.Call.{parseRefusal, parsedText, workAfter, treeAfter}
-use Rattle.printer.specs.declared.Fitted.{Fitted}
-use Rattle.printer.specs.declared.Fitted.the-variants.{Whole, Short}
 use Rattle.printer.specs.Call.{printWords, fitted}
 use Rattle.printer.proofs.Printing.{tree-printed}
 use Rattle.printer.proofs.Fits.{fits, short}
@@ -57,14 +54,14 @@ module _ (text table work tree out : List ℕ) where
   module _ (e : parseRefusal text (length table) (length work) (length tree) ≡ none) where
     pub short-so : length out < length (printOf text) → (printedText text table work tree out) .0 ≡ refused 10
     unfolding printedText
-    short-so l = rw (text-read e, printedText) (rw (lt-ltb (length out) (length (printOf text)) l))
+    short-so l = rw (text-read e, printedText) (rw (short (printOf text) out l))
 
     pub whole-so : length (printOf text) ≤ length out
         → printedText text table work tree out
         ≡ (accepted (values text), tableWords (tokens text) ++ drop (3 * length (tokens text)) table, workAfter (length work), treeAfter text (tokens text) (length tree), printOf text ++ drop (length (printOf text)) out)
     unfolding printedText
     whole-so l =
-        rw (text-read e, printedText) (rw (le-ltb (length out) (length (printOf text)) l, text-read e))
+        rw (text-read e, printedText) (rw (fits (printOf text) out l, text-read e))
 
   module _ (a : Answer) (t w y : List ℕ) (e : (a, t, w, y) ≡ parsedText text table work tree) where
     pub turned-back : (k : ℕ) → a ≡ refused k → _≡_ {A = LeftAll} (refused k, t, w, y, out) (printedText text table work tree out)
@@ -109,32 +106,26 @@ module _ (text table work tree out : List ℕ) where
       unfolding treeAfter
       words-are = ap (λ (x : Left). x .3) (sym is ∙ text-read accepts)
 
-      module _ (after : List ℕ) (r : Fitted) (put : _≡_ {A = Fitted × List ℕ} (r, after) (fitted (printWords y (length text) n takes items) out)) where
-        prints : (r, after) ≡ fitted (printOf text) out
+      module _ (after : List ℕ) (f : Answer) (put : (f, after) ≡ fitted (printWords y (length text) n takes items) out) where
+        prints : fitted (printOf text) out ≡ (f, after)
         unfolding printOf
         prints =
-            put
+            sym
+            (put
             ∙ ap (λ (print : List ℕ). fitted print out)
-            (rw (n-is, takes-are, items-are) (tree-printed y (length text) (length (tokens text)) (readText text .takes) (readText text .tree) _ (bounds text (tokens text) .well-formed) words-are))
+            (rw (n-is, takes-are, items-are) (tree-printed y (length text) (length (tokens text)) (readText text .takes) (readText text .tree) _ (bounds text (tokens text) .well-formed) words-are)))
 
-        pub too-short : r ≡ Short → _≡_ {A = LeftAll} (refused 10, t, w, y, after) (printedText text table work tree out)
+        pub too-short : (k : ℕ) → f ≡ refused k → _≡_ {A = LeftAll} (refused k, t, w, y, after) (printedText text table work tree out)
         unfolding printedText
-        too-short s =
-            by-lt (length out) (length (printOf text))
-            (λ l.
-            let d = ap (λ (x : Fitted × List ℕ). x .1) (prints ∙ short (printOf text) out l) in
-            sym (rw (is, printedText) (rw (lt-ltb (length out) (length (printOf text)) l, is, d))))
-            (λ l. let d = ap (λ (x : Fitted × List ℕ). x .0) (prints ∙ fits (printOf text) out l) in apart cc)
+        too-short k s = sym (rw (is, printedText) (rw (prints, s, is)))
 
-        pub printed-whole : (len : ℕ) → r ≡ Whole len
+        pub printed-whole : (len : ℕ) → f ≡ accepted (len ∷ [])
             → _≡_ {A = LeftAll} (accepted (len ∷ takes ∷ b ∷ []), t, w, y, after) (printedText text table work tree out)
         unfolding printedText values
         printed-whole len s =
             by-lt (length out) (length (printOf text))
-            (λ l. let d = ap (λ (x : Fitted × List ℕ). x .0) (prints ∙ short (printOf text) out l) in apart cc)
+            (λ l. let d = ap (λ (x : Answer × List ℕ). x .0) (sym prints ∙ short (printOf text) out l) in apart cc)
             (λ l.
-            let q = prints ∙ fits (printOf text) out l in
-            let d = ap (λ (x : Fitted × List ℕ). x .1) q in
-            let f = ap (λ (x : Fitted × List ℕ). x .0) q in
+            let d = ap (λ (x : Answer × List ℕ). x .0) (sym prints ∙ fits (printOf text) out l) in
             let n : len ≡ length (printOf text) = cc in
-            sym (rw (is, printedText) (rw (le-ltb (length out) (length (printOf text)) l, is, d, n, takes-are, blank-is))))
+            sym (rw (is, printedText) (rw (prints, s, is, n, takes-are, blank-is))))

@@ -1,15 +1,14 @@
 -- The call that prints a text's tree: what it answers, and what it leaves in the lent buffers.
-use mathlib.Core.Bool.{true, false}
-use mathlib.Core.List.{List, [], _∷_, _++_}
+use mathlib.Core.List.{List, [], _∷_}
 use Prim.Native.Nat.{ℕ}
-use lib.Dec.{ltb}
-use lib.ListN.{length, drop}
+use lib.ListN.{length}
 use Rattle.lexing.specs.Rules.{tokens}
 use Rattle.tokens.specs.Refusals.{Answer, accepted, refused}
 use Rattle.reading.specs.Reading.{readText, blank}
 use Rattle.parse.specs.Entry.{bit}
 use Rattle.parse.specs.Call.{parsedText}
 use Rattle.line.specs.Print.{printed}
+use Rattle.printer.specs.Call.{fitted}
 use Rattle.print.specs.declared.Printed.{Printed}
 use Rattle.print.specs.declared.Printed.the-variants.{Whole, Refused}
 
@@ -28,17 +27,14 @@ values text =
     let r = readText text in length (printOf text) ∷ r .takes ∷ bit (blank text (r .tree)) ∷ []
 
 -- "For text: 1, 2, 7, 8, 9, 10": the first five are those of the call that reads a text (crates/parse/specs/Call.antt), and its
--- buffers are left as it leaves them. "10 print buffer shorter than the whole print, first line included" is tested after them; it
--- "leaves the print buffer unchanged and the others as after acceptance". "print bytes past the print unchanged"
+-- buffers are left as it leaves them. 10 is tested after them: `fitted` (crates/printer/specs/Call.antt) says when it comes, and what
+-- the print buffer holds. It "leaves the print buffer unchanged and the others as after acceptance".
 unfoldable pub printedText : List ℕ → List ℕ → List ℕ → List ℕ → List ℕ → Answer × List ℕ × List ℕ × List ℕ × List ℕ
 printedText text table work tree out =
     let p = parsedText text table work tree in
-    let print = printOf text in
     elim (p .0) [
       | refused k ↦ (refused k, p .1, p .2, p .3, out)
       | accepted read ↦
-          elim (ltb (length out) (length print)) [
-            | true ↦ (refused 10, p .1, p .2, p .3, out)
-            | false ↦ (accepted (values text), p .1, p .2, p .3, print ++ drop (length print) out)
-          ]
+          let f = fitted (printOf text) out in
+          (elim (f .0) [ refused k ↦ refused k | accepted len ↦ accepted (values text) ], p .1, p .2, p .3, f .1)
     ]

@@ -36,8 +36,8 @@ pub fn print(
             items,
             blank,
         } => match print_tree(tree, out, text.len(), tokens, takes, items as usize) {
-            Fitted::Short => Printed::Refused(10),
             Fitted::Whole(len) => Printed::Whole { len, takes, blank },
+            Fitted::Refused(k) => Printed::Refused(k),
         },
     }
 }

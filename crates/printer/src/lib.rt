@@ -7,14 +7,14 @@ use writer::put_number;
 ghost use mathlib.Core.Path.{_≡_};
 ghost use Rattle.writer.specs.Put.{Put};
 ghost use Rattle.line.specs.Print.{first};
-ghost use Rattle.printer.specs.Call.{printWords, fitted};
+ghost use Rattle.printer.specs.Call.{answerOf, printWords, fitted};
 
-// Whether the print fits its buffer.
+// What the call answers.
 pub enum Fitted {
-    // how many bytes it has
+    // How many bytes the print has.
     Whole(usize),
-    // the buffer is too short: refusal 10
-    Short,
+    // The refusal's number.
+    Refused(u8),
 }
 
 fn put_first(out: &mut [u8], text: usize, tokens: usize, takes: u64, items: usize) -> usize
@@ -43,8 +43,8 @@ fn put_tree(
     r.end
 }
 
-// Prints the tree whose words stand first in `words`. The length is found first, with a buffer of one byte, so that a buffer that is
-// too short stays as it was.
+// Prints the tree whose words stand first in `words`: the print's bytes first in `out`, or a refusal by 10. The length is found first,
+// with a buffer of one byte, so that a buffer that is too short stays as it was.
 pub fn print_tree(
     words: &[u32],
     out: &mut [u8],
@@ -55,7 +55,7 @@ pub fn print_tree(
 ) -> Fitted
     ensures { λ r.
         ⌜
-        (r, now (out .exit)) ≡ fitted (printWords (now (words .entry)) text tokens takes items) (now (out .entry))
+        (answerOf r, now (out .exit)) ≡ fitted (printWords (now (words .entry)) text tokens takes items) (now (out .entry))
         ⌝ }
 {
     let mut probe = [0u8; 1];
@@ -64,6 +64,6 @@ pub fn print_tree(
         put_tree(words, out, text, tokens, takes, items);
         Fitted::Whole(need)
     } else {
-        Fitted::Short
+        Fitted::Refused(10)
     }
 }

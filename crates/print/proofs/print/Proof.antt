@@ -1,6 +1,7 @@
 -- The text is read, and its tree printed if the print fits.
 use mathlib.Core.Path.{ap}
 use Rattle.parse.specs.Call as read
+use Rattle.printer.specs.Call as tree
 use Rattle.print.proofs.Calls.{turned-back, too-short, printed-whole}
 use borrow.Author.Needs.{needs}
 use Rattle.print.proofs.print.Statement.{statement}
@@ -21,11 +22,11 @@ cast-print-tree c = search needs
 print-tree-requires : tie.Need-print-tree-requires
 print-tree-requires c κs = search needs
 
-enum-told : tie.Need-enum-told
-enum-told c = search needs
-
 enum-known-len : tie.Need-enum-known-len
 enum-known-len c = search needs
+
+enum-known-k-2 : tie.Need-enum-known-k-2
+enum-known-k-2 c = search needs
 
 same-length : tie.Need-same-length
 same-length c = search needs
@@ -56,9 +57,9 @@ same-length-7 c = search needs
 
 returns-2 : tie.Need-returns-2
 returns-2 c =
-    let a = c .before .before .before .before .before .before .before .before .before .before .before .before .before .before .before .before .before .before .before .before .before .before .before .before .before .args in
-    too-short (a .text .now) (a .table .now) (a .work .now) (a .tree .now) (a .out .now) _ _ _ _ (c .before .before .before .before .before .before .before .before .before .before .before .before .before .before .before .before .parse .ensures) _ _ _ _
-    (ap read.answerOf (c .before .before .before .before .before .before .before .before .tokens .given .1)) _ _ (c .before .before .before .before .print-tree .ensures) (c .enum-told .given .1)
+    let a = c .before .before .before .before .before .before .before .before .before .before .before .before .before .before .before .before .before .before .before .before .before .before .before .before .before .before .args in
+    printed-whole (a .text .now) (a .table .now) (a .work .now) (a .tree .now) (a .out .now) _ _ _ _ (c .before .before .before .before .before .before .before .before .before .before .before .before .before .before .before .before .before .parse .ensures) _ _ _ _
+    (ap read.answerOf (c .before .before .before .before .before .before .before .before .before .tokens .given .1)) _ _ (c .before .before .before .before .before .print-tree .ensures) _ (ap tree.answerOf (c .before .len .given .1))
 
 same-length-8 : tie.Need-same-length-8
 same-length-8 c = search needs
@@ -75,8 +76,8 @@ same-length-11 c = search needs
 returns-3 : tie.Need-returns-3
 returns-3 c =
     let a = c .before .before .before .before .before .before .before .before .before .before .before .before .before .before .before .before .before .before .before .before .before .before .before .before .before .before .args in
-    printed-whole (a .text .now) (a .table .now) (a .work .now) (a .tree .now) (a .out .now) _ _ _ _ (c .before .before .before .before .before .before .before .before .before .before .before .before .before .before .before .before .before .parse .ensures) _ _ _ _
-    (ap read.answerOf (c .before .before .before .before .before .before .before .before .before .tokens .given .1)) _ _ (c .before .before .before .before .before .print-tree .ensures) _ (c .before .len .given .1)
+    too-short (a .text .now) (a .table .now) (a .work .now) (a .tree .now) (a .out .now) _ _ _ _ (c .before .before .before .before .before .before .before .before .before .before .before .before .before .before .before .before .before .parse .ensures) _ _ _ _
+    (ap read.answerOf (c .before .before .before .before .before .before .before .before .before .tokens .given .1)) _ _ (c .before .before .before .before .before .print-tree .ensures) _ (ap tree.answerOf (c .before .k2 .given .1))
 
 pub print-spec : {M : Type 1} → statement M
 print-spec =
@@ -87,8 +88,8 @@ print-spec =
     enum-known-tokens
     cast-print-tree
     print-tree-requires
-    enum-told
     enum-known-len
+    enum-known-k-2
     same-length
     same-length-2
     same-length-3
