@@ -1,5 +1,5 @@
--- One read as the code's answer: none in a refused text or past its end.
-use mathlib.Core.Path.{_≡_}
+-- One read as the code's answer: a refusal, what is read, or the end.
+use mathlib.Core.Path.{_≡_, sym}
 use mathlib.Core.Bool.{true, false}
 use mathlib.Core.List.{List}
 use mathlib.Core.Option.{none, some}
@@ -7,25 +7,20 @@ use Prim.Native.Nat.{ℕ, _≤_, _<_}
 use lib.ListN.{length}
 use borrow.Author.Tests.{lt-ltb, le-ltb}
 use Rattle.tokens.specs.Refusals.{textRefusal}
-use Rattle.tokens.proofs.Cases.{by-option}
 use Rattle.lexing.specs.Rules.{byteAt, readAt}
-use Rattle.lex.specs.declared.Lexing.the-variants.{Nothing}
+use Rattle.lex.specs.declared.Lexing.the-variants.{End, Refused}
 use Rattle.lex.specs.Lex.{lexing, lexedAt}
 
 module _ (text : List ℕ) (at : ℕ) where
-  pub lex-refused : (k : ℕ) → textRefusal text ≡ some k → Nothing ≡ lexing (lexedAt text at)
+  pub lex-refused : (k : ℕ) → textRefusal text ≡ some k → Refused k ≡ lexedAt text at
   unfolding lexedAt
-  lex-refused k e = rw (e, lexedAt)
+  lex-refused k e = sym (rw (e, lexedAt))
 
-  module _ (h : textRefusal text ≡ none) where
-    pub lex-past : length text ≤ at → Nothing ≡ lexing (lexedAt text at)
+  module _ (a : textRefusal text ≡ none) where
+    pub lex-end : length text ≤ at → End ≡ lexedAt text at
     unfolding lexedAt
-    lex-past l = rw (h, lexedAt) (rw (le-ltb at (length text) l))
+    lex-end l = sym (rw (a, lexedAt) (rw (le-ltb at (length text) l)))
 
-    pub read-inside : at < length text → lexedAt text at ≡ some (readAt byteAt text at)
+    pub lex-read : at < length text → lexing (readAt byteAt text at) ≡ lexedAt text at
     unfolding lexedAt
-    read-inside l = rw (h, lexedAt) (rw (lt-ltb at (length text) l))
-
-  -- past the end, of any text
-  pub lex-end : length text ≤ at → Nothing ≡ lexing (lexedAt text at)
-  lex-end l = by-option (textRefusal text) (λ o. lex-past o l) (λ k o. lex-refused k o)
+    lex-read l = sym (rw (a, lexedAt) (rw (lt-ltb at (length text) l)))

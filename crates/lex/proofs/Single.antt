@@ -1,7 +1,7 @@
 -- A single read, listed into twelve words: they are those of its tokens, and zeros.
 use mathlib.Core.Path.{_≡_, refl, sym, ap, _∙_}
 use mathlib.Core.List.{List, [], _∷_, _++_, append-nil}
-use mathlib.Core.Option.{Option, none, some}
+use mathlib.Core.Option.{none, some}
 use Prim.Native.Nat.{ℕ, suc, _+_, _-_, _≤_, _<_, min}
 use native.Mathlib.Omega.{arith}
 use lib.ListN.{length, drop}
@@ -18,9 +18,9 @@ use Rattle.lexer.specs.Listing.{behind, readsTo, listInto, listedReads}
 use Rattle.lexer.proofs.Into.{into-whole}
 use Rattle.lexer.proofs.Stops.{stopped, step}
 use Rattle.lex.specs.declared.Lexing.{Lexing}
-use Rattle.lex.specs.declared.Lexing.the-variants.{Tokens, Nothing}
+use Rattle.lex.specs.declared.Lexing.the-variants.{Tokens, Refused}
 use Rattle.lex.specs.Lex.{spannedAt, queueAt, lexing, lexedAt}
-use Rattle.lex.proofs.Answers.{lex-refused, read-inside}
+use Rattle.lex.proofs.Answers.{lex-refused, lex-read}
 
 abbrev pub zeros : List ℕ
 zeros = 0 ∷ 0 ∷ 0 ∷ 0 ∷ 0 ∷ 0 ∷ 0 ∷ 0 ∷ 0 ∷ 0 ∷ 0 ∷ 0 ∷ []
@@ -34,12 +34,12 @@ abbrev ofRead : Read → Listing × List ℕ
 ofRead q =
     (listing.Tokens (suc (length (q .waiting))) (countOthers (q .first ∷ q .waiting)) (q .next), listInto 0 zeros (q .first ∷ q .waiting))
 
-lexing-is : (q : Read) → length (q .waiting) ≤ 3 → lexingAt (listInto 0 zeros (q .first ∷ q .waiting)) (length (q .waiting)) (q .next) ≡ lexing (some q)
+lexing-is : (q : Read) → length (q .waiting) ≤ 3 → lexingAt (listInto 0 zeros (q .first ∷ q .waiting)) (length (q .waiting)) (q .next) ≡ lexing q
 unfolding tableWords
 lexing-is q h = of (q .waiting) h
   where
     of : (ts : List Lexeme) → length ts ≤ 3
-        → lexingAt (listInto 0 zeros (q .first ∷ ts)) (length ts) (q .next) ≡ lexing (some (record { first = q .first; waiting = ts; next = q .next }))
+        → lexingAt (listInto 0 zeros (q .first ∷ ts)) (length ts) (q .next) ≡ lexing (record { first = q .first; waiting = ts; next = q .next })
     of [] l = rw (into-whole zeros (q .first ∷ []) (omega arith)) (simp token-of-number)
     of (t ∷ []) l = rw (into-whole zeros (q .first ∷ t ∷ []) (omega arith)) (simp token-of-number)
     of (t ∷ (u ∷ [])) l = rw (into-whole zeros (q .first ∷ t ∷ u ∷ []) (omega arith)) (simp token-of-number)
@@ -55,49 +55,48 @@ single text at h =
     ∙ ap (behind r) (stopped (at + 1) text (r .next) (omega arith))
     ∙ ap (λ (ts : List Lexeme). record { list = r .first ∷ ts; next = r .next }) (append-nil (r .waiting))
 
--- the answer of `list_reads` over one read: a refusal, or the read's tokens
-module _ (text : List ℕ) (at : ℕ) (h : at < length text) (r : Listing) (words : List ℕ)
-    (e : _≡_ {A = Listing × List ℕ} (r, words) (listedReads text at (at + 1) zeros)) where
-  read-listed : textRefusal text ≡ none → _≡_ {A = Listing × List ℕ} (listedReads text at (at + 1) zeros) (ofRead (readAt byteAt text at))
+-- the answer of `list_reads` over one read: the refusal, or the read's tokens
+module _ (text : List ℕ) (at stop : ℕ) (r : Listing) (words : List ℕ)
+    (e : _≡_ {A = Listing × List ℕ} (r, words) (listedReads text at stop zeros)) where
+  refused-by : (k : ℕ) → textRefusal text ≡ some k → r ≡ listing.Refused k
   unfolding listedReads
-  read-listed o =
-      let n : min (at + 1) (length text) ≡ at + 1 = omega arith in
-      rw (o, listedReads) (rw (n, single text at h))
+  refused-by k o = ap (λ (q : Listing × List ℕ). q .0) (rw (o, listedReads) at e)
 
-  pub answer-none : (k : ℕ) → r ≡ listing.Refused k → Nothing ≡ lexing (lexedAt text at)
-  answer-none k f =
+  pub answer-refused : (k : ℕ) → r ≡ listing.Refused k → Refused k ≡ lexedAt text at
+  unfolding listedReads
+  answer-refused k f =
       by-option (textRefusal text)
-      (λ o.
-      let g : r ≡ ofRead (readAt byteAt text at) .0 = ap (λ (q : Listing × List ℕ). q .0) (e ∙ read-listed o) in
-      let z : _≡_ {A = ℕ} 0 1 = cc in
-      absurd (omega arith))
-      (λ j o. lex-refused text at j o)
+      (λ o. let g = ap (λ (q : Listing × List ℕ). q .0) (rw (o, listedReads) at e) in let z : _≡_ {A = ℕ} 0 1 = cc in absurd (omega arith))
+      (λ j o. let g = refused-by j o in let n : k ≡ j = cc in rw n (lex-refused text at j o))
 
   module _ (all others next : ℕ) (f : r ≡ listing.Tokens all others next) where
-    accepted : textRefusal text ≡ none
-    unfolding listedReads
+    pub accepted : textRefusal text ≡ none
     accepted =
         by-option (textRefusal text) (λ o. o)
-        (λ j o.
-        let d : _≡_ {A = Listing × List ℕ} (listedReads text at (at + 1) zeros) (listing.Refused j, zeros) = rw (o, listedReads) in
-        let g : r ≡ listing.Refused j = ap (λ (q : Listing × List ℕ). q .0) (e ∙ d) in
-        let z : _≡_ {A = ℕ} 0 1 = cc in
-        absurd (omega arith))
+        (λ j o. let g = refused-by j o in let z : _≡_ {A = ℕ} 0 1 = cc in absurd (omega arith))
 
-    count-is : all ≡ suc (length (readAt byteAt text at .waiting))
-    count-is =
-        let g : listing.Tokens all others next ≡ ofRead (readAt byteAt text at) .0 = sym f ∙ ap (λ (q : Listing × List ℕ). q .0) (e ∙ read-listed accepted) in
-        cc
+    module _ (s : stop ≡ min (at + 1) (length text)) (h : at < length text) where
+      listed : _≡_ {A = Listing × List ℕ} (r, words) (ofRead (readAt byteAt text at))
+      unfolding listedReads
+      listed =
+          let n : min stop (length text) ≡ at + 1 = omega arith in
+          e ∙ rw (accepted, listedReads) (rw (n, single text at h))
 
-    pub some-listed : 1 ≤ all
-    some-listed = omega (arith, count-is)
+      is-token : listing.Tokens all others next ≡ ofRead (readAt byteAt text at) .0
+      is-token = sym f ∙ ap (λ (q : Listing × List ℕ). q .0) listed
 
-    pub single-is : lexingAt words (all - 1) next ≡ lexing (lexedAt text at)
-    single-is =
-        let q = readAt byteAt text at in
-        let m = read-moves byteAt-sound text at h .three in
-        let g : listing.Tokens all others next ≡ ofRead q .0 = sym f ∙ ap (λ (q : Listing × List ℕ). q .0) (e ∙ read-listed accepted) in
-        let w : words ≡ listInto 0 zeros (q .first ∷ q .waiting) = ap (λ (q : Listing × List ℕ). q .1) (e ∙ read-listed accepted) in
-        let n : all - 1 ≡ length (q .waiting) = omega (arith, count-is) in
-        let k : next ≡ q .next = cc in
-        rw (w, n, k) (lexing-is q m) ∙ ap (λ (o : Option Read). lexing o) (sym (read-inside text at accepted h))
+      count-is : all ≡ suc (length (readAt byteAt text at .waiting))
+      count-is = let g = is-token in cc
+
+      pub some-listed : 1 ≤ all
+      some-listed = omega (arith, count-is)
+
+      pub single-is : lexingAt words (all - 1) next ≡ lexedAt text at
+      single-is =
+          let q = readAt byteAt text at in
+          let m = read-moves byteAt-sound text at h .three in
+          let g = is-token in
+          let w : words ≡ listInto 0 zeros (q .first ∷ q .waiting) = ap (λ (q : Listing × List ℕ). q .1) listed in
+          let n : all - 1 ≡ length (q .waiting) = omega (arith, count-is) in
+          let k : next ≡ q .next = cc in
+          rw (w, n, k) (lexing-is q m) ∙ lex-read text at accepted h

@@ -1,14 +1,14 @@
 -- One read at a place: what `lex_at` answers.
 use mathlib.Core.Bool.{true, false}
 use mathlib.Core.List.{List}
-use mathlib.Core.Option.{Option, none, some}
+use mathlib.Core.Option.{none, some}
 use Prim.Native.Nat.{ℕ, _+_}
 use lib.Dec.{ltb}
 use lib.ListN.{length, getD}
 use Rattle.lex.specs.declared.Spanned.{Spanned}
 use Rattle.lex.specs.declared.Queue.{Queue}
 use Rattle.lex.specs.declared.Lexing.{Lexing}
-use Rattle.lex.specs.declared.Lexing.the-variants.{Tokens, Nothing}
+use Rattle.lex.specs.declared.Lexing.the-variants.{Tokens, End, Refused}
 use Rattle.tokens.specs.declared.token.Token.the-variants.{Frac}
 use Rattle.tokens.specs.Kinds.{tokenOf}
 use Rattle.tokens.specs.Lexeme.{Lexeme, lexeme}
@@ -40,15 +40,16 @@ queueOf ts =
 abbrev pub queueAt : List ℕ → ℕ → Queue
 queueAt words n = record { count = n; first = spannedAt words 3; second = spannedAt words 6; third = spannedAt words 9 }
 
-abbrev pub lexing : Option Read → Lexing
-lexing none = Nothing
-lexing (some r) = Tokens (spannedOf (r .first)) (queueOf (r .waiting)) (r .next)
+-- a read as the code's answer
+abbrev pub lexing : Read → Lexing
+lexing r = Tokens (spannedOf (r .first)) (queueOf (r .waiting)) (r .next)
 
--- what is read at a place of an accepted text where a byte stands
-unfoldable pub lexedAt : List ℕ → ℕ → Option Read
+-- "For text: 1, 2": "A refusal carries its number only". In an accepted text, the tokens that are read at the place and the next
+-- place, or End where no byte stands.
+unfoldable pub lexedAt : List ℕ → ℕ → Lexing
 lexedAt text at =
     elim (textRefusal text) [
-      | some k ↦ none
+      | some k ↦ Refused k
       | none ↦
-          elim (ltb at (length text)) [ true ↦ some (readAt byteAt text at) | false ↦ none ]
+          elim (ltb at (length text)) [ true ↦ lexing (readAt byteAt text at) | false ↦ End ]
     ]

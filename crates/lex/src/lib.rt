@@ -3,8 +3,8 @@ use lexer::Listing;
 use lexer::list_reads;
 use tokens::token::Token;
 ghost use mathlib.Core.Path.{_≡_};
-ghost use Prim.Native.Nat.{_≤_};
-ghost use Rattle.lex.specs.Lex.{spannedAt, queueAt, lexing, lexedAt};
+ghost use Prim.Native.Nat.{_+_, _≤_, min};
+ghost use Rattle.lex.specs.Lex.{spannedAt, queueAt, lexedAt};
 
 // A token with its span.
 pub struct Spanned {
@@ -27,7 +27,10 @@ pub enum Lexing {
         queued: Queue,
         next: usize,
     },
-    Nothing,
+    // No byte stands at the place.
+    End,
+    // The refusal's number.
+    Refused(u8),
 }
 
 fn wide(x: u32) -> usize
@@ -60,24 +63,36 @@ fn queue_at(words: &[u32; 12], count: usize) -> Queue
     }
 }
 
-// The token at the place, those that wait behind it, and the next place. Nothing where no byte stands, nor in a text that is refused.
-pub fn lex_at(text: &[u8], at: usize) -> Lexing
-    ensures { λ r. ⌜ r ≡ lexing (lexedAt (now (text .entry)) at) ⌝ }
+// Where a single read stops: behind the byte at the place, or at the text's end.
+fn stop_of(at: usize, size: usize) -> usize
+    ensures { λ r. ⌜ r ≡ min (at + 1) size ⌝ }
 {
-    if text.len() <= at {
-        return Lexing::Nothing;
+    if at < size {
+        return at + 1;
     }
+    size
+}
+
+// The token at the place, those that wait behind it, and the next place; End where no byte stands; or the text is refused by 1 or 2.
+pub fn lex_at(text: &[u8], at: usize) -> Lexing
+    ensures { λ r. ⌜ r ≡ lexedAt (now (text .entry)) at ⌝ }
+{
     let mut words = [0u32; 12];
-    match list_reads(text, at, at + 1, &mut words) {
+    match list_reads(text, at, stop_of(at, text.len()), &mut words) {
         Listing::Tokens {
             all,
             others: _,
             next,
-        } => Lexing::Tokens {
-            first: spanned_at(&words, 0),
-            queued: queue_at(&words, all - 1),
-            next,
-        },
-        Listing::Refused(_) => Lexing::Nothing,
+        } => {
+            if text.len() <= at {
+                return Lexing::End;
+            }
+            Lexing::Tokens {
+                first: spanned_at(&words, 0),
+                queued: queue_at(&words, all - 1),
+                next,
+            }
+        }
+        Listing::Refused(k) => Lexing::Refused(k),
     }
 }

@@ -1,5 +1,5 @@
 -- One step, case by case: what is refused, what waits, what is read, and the end.
-use mathlib.Core.Path.{_≡_, refl, sym, subst}
+use mathlib.Core.Path.{_≡_, refl, sym, ap, subst, _∙_}
 use mathlib.Core.Bool.{true, false}
 use mathlib.Core.List.{List, [], _∷_}
 use mathlib.Core.Option.{none, some}
@@ -7,19 +7,24 @@ use Prim.Native.Nat.{ℕ, _-_, _≤_, _<_}
 use native.Mathlib.Omega.{arith}
 use lib.ListN.{length, drop}
 use borrow.Author.Tests.{lt-ltb, le-ltb}
-use Rattle.lex.specs.declared.Lexing.the-variants.{Tokens, Nothing}
-use Rattle.lex.specs.declared.Spanned.{Spanned}
-use Rattle.lex.specs.declared.Queue.{Queue}
+use Rattle.lex.specs.declared.Lexing.{Lexing}
+use Rattle.lex.specs.declared.Lexing.the-variants.{Tokens, End, Refused}
 use Rattle.tokens.specs.Kinds.{numberOf}
 use Rattle.tokens.specs.Lexeme.{Lexeme}
 use Rattle.lexing.specs.Rules.{byteAt, readAt}
 use Rattle.tokens.specs.Refusals.{textRefusal}
-use Rattle.lex.specs.Lex.{spannedOf, queueOf, lexing, lexedAt}
+use Rattle.lex.specs.Lex.{lexedAt}
 use Rattle.tokens.proofs.Cases.{by-test, by-lt, by-option, clash}
-use Rattle.lex.proofs.Answers.{read-inside, lex-past}
+use Rattle.lex.proofs.Answers.{lex-refused, lex-read, lex-end}
 use Rattle.stepper.specs.declared.Tokenizer.{Tokenizer}
 use Rattle.stepper.specs.Step.{StepAnswer, token, end, refused, tokenAnswer, lexemeOf, waiting, state, fits, stepRefusal, stepped}
 use Rattle.stepper.proofs.Queues.{first-of, place-passes, too-many}
+
+-- the answer of a single read at the state's place, as that of a step
+abbrev stepOf : Tokenizer → Lexing → StepAnswer × Tokenizer
+stepOf s (Tokens t q next) = (token (t .start) (t .len) (numberOf (t .token)), record { place = next; queued = q })
+stepOf s End = (end, s)
+stepOf s (Refused k) = (refused k, s)
 
 module _ (text : List ℕ) (s : Tokenizer) where
   abbrev Steps : StepAnswer → Tokenizer → Type 0
@@ -77,35 +82,21 @@ module _ (text : List ℕ) (s : Tokenizer) where
         let w = first-of (s .queued .count) (lexemeOf (s .queued .first)) (lexemeOf (s .queued .second) ∷ lexemeOf (s .queued .third) ∷ []) l in
         rw w (step-waiting p _ _ w)
 
-    -- none waits
-    module _ (z : s .queued .count ≤ 0) where
-      none-waiting : waiting (s .queued) ≡ []
-      unfolding waiting
-      none-waiting = let e : s .queued .count ≡ 0 = omega arith in rw e
+  -- with none waiting, a step is what is read at the place
+  module _ (f : fits (length text) s ≡ true) (z : s .queued .count ≤ 0) where
+    none-waiting : waiting (s .queued) ≡ []
+    unfolding waiting
+    none-waiting = let e : s .queued .count ≡ 0 = omega arith in rw e
 
-      pub answers-read : (t : Spanned) (q : Queue) (next : ℕ) → Tokens t q next ≡ lexing (lexedAt text (s .place))
-          → Steps (token (t .start) (t .len) (numberOf (t .token))) (record { place = next; queued = q })
-      answers-read t q next e =
-          by-lt (s .place) (length text)
-          (λ l.
-          let g = rw (read-inside text (s .place) accepted-of l) at e in
-          let t-is : t ≡ spannedOf (readAt byteAt text (s .place) .first) = cc in
-          let q-is : q ≡ queueOf (readAt byteAt text (s .place) .waiting) = cc in
-          let next-is : next ≡ readAt byteAt text (s .place) .next = cc in
-          rw (t-is, q-is, next-is) (step-read p none-waiting l))
-          (λ l.
-          let g = lex-past text (s .place) accepted-of l in
-          let z : _≡_ {A = ℕ} 0 1 = cc in
-          absurd (omega arith))
-
-      pub answers-end : Nothing ≡ lexing (lexedAt text (s .place)) → Steps end s
-      answers-end e =
-          by-lt (s .place) (length text)
-          (λ l.
-          let g = rw (read-inside text (s .place) accepted-of l) at e in
-          let z : _≡_ {A = ℕ} 0 1 = cc in
-          absurd (omega arith))
-          (λ l. step-end p none-waiting l)
+    pub answers-read : (r : Lexing) → r ≡ lexedAt text (s .place) → stepOf s r ≡ stepped text s
+    answers-read r e =
+        ap (stepOf s) e
+        ∙ by-option (textRefusal text)
+        (λ a.
+        by-lt (s .place) (length text)
+        (λ l. ap (stepOf s) (sym (lex-read text (s .place) a l)) ∙ step-read (passed a f) none-waiting l)
+        (λ l. ap (stepOf s) (sym (lex-end text (s .place) a l)) ∙ step-end (passed a f) none-waiting l))
+        (λ k a. ap (stepOf s) (sym (lex-refused text (s .place) k a)) ∙ step-refused k (refused-text k a))
 
 -- what a state that fits has
 module _ (size : ℕ) (s : Tokenizer) (f : fits size s ≡ true) where

@@ -7,13 +7,15 @@ use refusals::text::Checked;
 use refusals::text::check_text;
 use tokens::token::Token;
 ghost use mathlib.Core.Path.{_≡_};
+ghost use mathlib.Core.Bool.{true};
 ghost use mathlib.Core.List.{[]};
 ghost use mathlib.Core.Option.{none};
 ghost use Prim.Native.Nat.{_+_, _≤_, _<_};
 ghost use lib.Dec.{leb};
-ghost use lib.ListN.{drop};
+ghost use lib.ListN.{length, drop};
+ghost use Rattle.tokens.specs.Refusals.{textRefusal};
 ghost use Rattle.lex.specs.Lex.{spannedOf, noLexeme, queueOf};
-ghost use Rattle.stepper.specs.Step.{waiting, fits, fresh, answerOf, stepped, stepRefusal, tokenAnswer, lexemeOf, state};
+ghost use Rattle.stepper.specs.Step.{waiting, fits, fresh, answerOf, stepped, tokenAnswer, lexemeOf, state};
 
 // The place of the next read, and the tokens that wait before it.
 pub struct Tokenizer {
@@ -138,9 +140,9 @@ fn take_first(s: Tokenizer) -> Advance
     }
 }
 
-// A step that is not refused, with no token waiting.
+// A step from a state that fits, with no token waiting: what is read at its place, End, or the refusal of the text.
 fn read_on(text: &[u8], s: Tokenizer) -> Advance
-    requires { ⌜ (stepRefusal (now text) s ≡ none) × (s .queued .count ≤ 0) ⌝ }
+    requires { ⌜ (fits (length (now text)) s ≡ true) × (s .queued .count ≤ 0) ⌝ }
     ensures { λ r. ⌜ (answerOf (r .answer), r .state) ≡ stepped (now (text .entry)) s ⌝ }
 {
     match lex_at(text, s.place) {
@@ -148,44 +150,54 @@ fn read_on(text: &[u8], s: Tokenizer) -> Advance
             first,
             queued,
             next,
-        } => {
-            return Advance {
-                answer: Stepped::Token(first),
-                state: Tokenizer {
-                    place: next,
-                    queued,
-                },
-            };
-        }
-        Lexing::Nothing => {}
-    }
-    Advance {
-        answer: Stepped::End,
-        state: s,
+        } => Advance {
+            answer: Stepped::Token(first),
+            state: Tokenizer {
+                place: next,
+                queued,
+            },
+        },
+        Lexing::End => Advance {
+            answer: Stepped::End,
+            state: s,
+        },
+        Lexing::Refused(k) => Advance {
+            answer: Stepped::Refused(k),
+            state: s,
+        },
     }
 }
 
-// One step from a state, by value.
-fn advanced(text: &[u8], s: Tokenizer) -> Advance
+// A step that reads nothing: the refusal of the text, else `a`, which is what the step does over an accepted text.
+fn unless_refused(text: &[u8], s: Tokenizer, a: Advance) -> Advance
+    requires { ⌜ (textRefusal (now text) ≡ none → (answerOf (a .answer), a .state) ≡ stepped (now text) s) ⌝ }
     ensures { λ r. ⌜ (answerOf (r .answer), r .state) ≡ stepped (now (text .entry)) s ⌝ }
 {
     match check_text(text) {
-        Checked::Refused(k) => {
-            return Advance {
-                answer: Stepped::Refused(k),
-                state: s,
-            };
-        }
-        Checked::Accepted => {}
-    }
-    if !state_fits(text.len(), s) {
-        return Advance {
-            answer: Stepped::Refused(5),
+        Checked::Refused(k) => Advance {
+            answer: Stepped::Refused(k),
             state: s,
-        };
+        },
+        Checked::Accepted => a,
+    }
+}
+
+// One step from a state, by value. Each way checks the text once, and a refused text is answered before all else.
+fn advanced(text: &[u8], s: Tokenizer) -> Advance
+    ensures { λ r. ⌜ (answerOf (r .answer), r .state) ≡ stepped (now (text .entry)) s ⌝ }
+{
+    if !state_fits(text.len(), s) {
+        return unless_refused(
+            text,
+            s,
+            Advance {
+                answer: Stepped::Refused(5),
+                state: s,
+            },
+        );
     }
     if 0 < s.queued.count {
-        return take_first(s);
+        return unless_refused(text, s, take_first(s));
     }
     read_on(text, s)
 }

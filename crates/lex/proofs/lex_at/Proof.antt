@@ -1,18 +1,15 @@
--- The test of the place, and then the words of the single read.
+-- The words of the single read; the end, where no byte stands; or the refusal.
 use mathlib.Core.Path.{_∙_}
 use native.Mathlib.Omega.{arith}
 use borrow.Author.Needs.{needs}
 use Rattle.lex.specs.declared.Lexing.the-variants.{Tokens}
 use Rattle.lex.proofs.Answers.{lex-end}
-use Rattle.lex.proofs.Single.{answer-none, some-listed, single-is}
+use Rattle.lex.proofs.Single.{answer-refused, accepted, some-listed, single-is}
 use Rattle.lex.proofs.lex_at.Statement.{statement}
 use Rattle.lex.proofs.lex_at.Tie as tie
 
-returns : tie.Need-returns
-returns c = lex-end _ _ (c .if1 .taken)
-
-add-list-reads : tie.Need-add-list-reads
-add-list-reads c = search needs
+stop-of-requires : tie.Need-stop-of-requires
+stop-of-requires c κs = search needs
 
 slice-aggregate-list-reads : tie.Need-slice-aggregate-list-reads
 slice-aggregate-list-reads c = search needs
@@ -23,46 +20,45 @@ list-reads-requires c κs = search needs
 enum-known-all : tie.Need-enum-known-all
 enum-known-all c = search needs
 
+returns : tie.Need-returns
+returns c =
+    let o = accepted _ _ _ _ _ (c .before .before .before .before .before .list-reads .ensures) _ _ _ (c .before .before .all .given .1) in
+    lex-end _ _ o (omega arith)
+
 spanned-at-requires : tie.Need-spanned-at-requires
 spanned-at-requires c κs = search needs
 
 sub-queue-at : tie.Need-sub-queue-at
 sub-queue-at c =
-    let a = c .before .before .before .before .before .before .before .before .before .before .before .args in
-    let l = c .before .before .before .before .before .before .before .list-reads in
-    some-listed (a .text .now) (a .at) (omega arith) (l .result) (l .last .1 .1 .1 .0) (l .ensures) _ _ _ (c .before .before .before .before .all .given .1)
+    some-listed _ _ _ _ _ (c .before .before .before .before .before .before .before .before .list-reads .ensures) _ _ _ (c .before .before .before .before .before .all .given .1) (c .before .before .before .before .before .before .before .before .before .before .stop-of .ensures) (omega arith)
 
 queue-at-requires : tie.Need-queue-at-requires
 queue-at-requires c κs = search needs
 
-enum-told : tie.Need-enum-told
-enum-told c = search needs
+enum-known-k : tie.Need-enum-known-k
+enum-known-k c = search needs
 
 returns-2 : tie.Need-returns-2
 returns-2 c =
-    let a = c .before .before .before .before .before .before .before .before .before .before .before .before .args in
-    let l = c .before .before .before .before .before .before .before .before .list-reads in
-    (λ i. Tokens (c .before .before .spanned-at .ensures i) (c .queue-at .ensures i) (c .before .before .before .before .before .all .given .0 .1 .1 .0))
-    ∙ single-is (a .text .now) (a .at) (omega arith) (l .result) (l .last .1 .1 .1 .0) (l .ensures) _ _ _ (c .before .before .before .before .before .all .given .1)
+    (λ i. Tokens (c .before .before .spanned-at .ensures i) (c .queue-at .ensures i) (c .before .before .before .before .before .before .all .given .0 .1 .1 .0))
+    ∙ single-is _ _ _ _ _ (c .before .before .before .before .before .before .before .before .before .list-reads .ensures) _ _ _ (c .before .before .before .before .before .before .all .given .1) (c .before .before .before .before .before .before .before .before .before .before .before .stop-of .ensures) (omega arith)
 
 returns-3 : tie.Need-returns-3
 returns-3 c =
-    let a = c .before .before .before .before .before .before .before .args in
-    let l = c .before .before .before .list-reads in
-    answer-none (a .text .now) (a .at) (omega arith) (l .result) (l .last .1 .1 .1 .0) (l .ensures) _ (c .enum-told .given .1)
+    answer-refused _ _ _ _ _ (c .before .before .before .before .list-reads .ensures) _ (c .before .k .given .1)
 
 pub lex-at-spec : {M : Type 1} → statement M
 lex-at-spec =
     tie.close
     (tie.spec
-    returns
-    add-list-reads
+    stop-of-requires
     slice-aggregate-list-reads
     list-reads-requires
     enum-known-all
+    returns
     spanned-at-requires
     sub-queue-at
     queue-at-requires
-    enum-told
+    enum-known-k
     returns-2
     returns-3)
