@@ -64,9 +64,9 @@ module _ (text table work tree out : List ℕ) where
         rw (text-read e, printedText) (rw (fits (printOf text) out l, text-read e))
 
   module _ (a : Answer) (t w y : List ℕ) (e : (a, t, w, y) ≡ parsedText text table work tree) where
-    pub turned-back : (k : ℕ) → a ≡ refused k → _≡_ {A = LeftAll} (refused k, t, w, y, out) (printedText text table work tree out)
+    pub when-refused : (k : ℕ) → a ≡ refused k → _≡_ {A = LeftAll} (refused k, t, w, y, out) (printedText text table work tree out)
     unfolding printedText
-    turned-back k q =
+    when-refused k q =
         let p : parsedText text table work tree ≡ (refused k, t, w, y) = rw q at (sym e) in
         sym (rw (p, printedText) (rw p))
 

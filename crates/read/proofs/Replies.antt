@@ -115,8 +115,8 @@ module _ (text table work tree out : List ℕ) (few : length text ≤ 500) (ta :
         ap (λ (x : LeftAll). x .0)
         (refused-so text table work tree out k (text-refused text (length table) (length work) (length tree) k h))
 
-    pub turned-back : (k : ℕ) → r ≡ Refused k → (k < 100) × (replyTo text ≡ refusal k)
-    turned-back k q =
+    pub when-refused : (k : ℕ) → r ≡ Refused k → (k < 100) × (replyTo text ≡ refusal k)
+    when-refused k q =
         by-option (textRefusal text)
         (λ h.
         by-lt (length out) (length (printOf text))

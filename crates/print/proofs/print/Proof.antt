@@ -2,7 +2,7 @@
 use mathlib.Core.Path.{ap}
 use Rattle.parse.specs.Call as read
 use Rattle.printer.specs.Call as tree
-use Rattle.print.proofs.Calls.{turned-back, too-short, printed-whole}
+use Rattle.print.proofs.Calls.{when-refused, too-short, printed-whole}
 use borrow.Author.Needs.{needs}
 use Rattle.print.proofs.print.Statement.{statement}
 use Rattle.print.proofs.print.Tie as tie
@@ -40,7 +40,7 @@ same-length-3 c = search needs
 returns : tie.Need-returns
 returns c =
     let a = c .before .before .before .before .before .before .before .before .before .before .before .before .before .before .before .before .before .before .args in
-    turned-back (a .text .now) (a .table .now) (a .work .now) (a .tree .now) (a .out .now) _ _ _ _ (c .before .before .before .before .before .before .before .before .before .parse .ensures) _
+    when-refused (a .text .now) (a .table .now) (a .work .now) (a .tree .now) (a .out .now) _ _ _ _ (c .before .before .before .before .before .before .before .before .before .parse .ensures) _
     (ap read.answerOf (c .before .k .given .1))
 
 same-length-4 : tie.Need-same-length-4

@@ -1,5 +1,5 @@
 -- The call's print, or the line of its refusal.
-use Rattle.read.proofs.Replies.{too-long, turned-back, printed-whole}
+use Rattle.read.proofs.Replies.{too-long, when-refused, printed-whole}
 use borrow.Author.Needs.{needs}
 use Rattle.read.proofs.reply.Statement.{statement}
 use Rattle.read.proofs.reply.Tie as tie
@@ -32,7 +32,7 @@ enum-known-number : tie.Need-enum-known-number
 enum-known-number c = search needs
 
 refuse-requires-2 : tie.Need-refuse-requires-2
-refuse-requires-2 c κs = (search needs, turned-back (c .before .before .before .before .before .before .before .before .before .before .before .before .before .before .before .before .before .args .text .now) _ _ _ (c .before .before .before .before .before .before .before .before .before .before .before .before .before .before .before .before .before .args .out .now) (search needs) (search needs) (search needs) (search needs) (search needs) _ _ _ _ _ (c .before .before .before .before .before .before .before .before .before .print .ensures) _ (c .before .before .number .given .1) .0)
+refuse-requires-2 c κs = (search needs, when-refused (c .before .before .before .before .before .before .before .before .before .before .before .before .before .before .before .before .before .args .text .now) _ _ _ (c .before .before .before .before .before .before .before .before .before .before .before .before .before .before .before .before .before .args .out .now) (search needs) (search needs) (search needs) (search needs) (search needs) _ _ _ _ _ (c .before .before .before .before .before .before .before .before .before .print .ensures) _ (c .before .before .number .given .1) .0)
 
 same-length-2 : tie.Need-same-length-2
 same-length-2 c = search needs
@@ -44,7 +44,7 @@ same-length-3 : tie.Need-same-length-3
 same-length-3 c = search needs
 
 returns-3 : tie.Need-returns-3
-returns-3 c = rw (turned-back (c .before .before .before .before .before .before .before .before .before .before .before .before .before .before .before .before .before .before .before .before .args .text .now) _ _ _ (c .before .before .before .before .before .before .before .before .before .before .before .before .before .before .before .before .before .before .before .before .args .out .now) (search needs) (search needs) (search needs) (search needs) (search needs) _ _ _ _ _ (c .before .before .before .before .before .before .before .before .before .before .before .before .print .ensures) _ (c .before .before .before .before .before .number .given .1) .1) (c .before .before .refuse2 .ensures)
+returns-3 c = rw (when-refused (c .before .before .before .before .before .before .before .before .before .before .before .before .before .before .before .before .before .before .before .before .args .text .now) _ _ _ (c .before .before .before .before .before .before .before .before .before .before .before .before .before .before .before .before .before .before .before .before .args .out .now) (search needs) (search needs) (search needs) (search needs) (search needs) _ _ _ _ _ (c .before .before .before .before .before .before .before .before .before .before .before .before .print .ensures) _ (c .before .before .before .before .before .number .given .1) .1) (c .before .before .refuse2 .ensures)
 
 pub reply-spec : {M : Type 1} → statement M
 reply-spec =
