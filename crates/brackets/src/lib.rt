@@ -5,6 +5,9 @@ use lookahead::tests::is_at;
 use records::record::kind_at;
 use spans::is_byte;
 use spans::same_text;
+use tokens::kinds::OPEN_BRACKET;
+use tokens::kinds::OPEN_CLOSE_BRACKET;
+use tokens::kinds::SEP;
 ghost use mathlib.Core.Path.{_≡_};
 ghost use Rattle.brackets.specs.Brackets.{barAt, closesAt, couldBeMatrixAt, setAt, makesAt};
 
@@ -13,7 +16,7 @@ pub fn bar_at(text: &[u8], tok: &[u32], work: &[u32], n: usize, i: usize, j: usi
     ensures { λ r. ⌜ r ≡ barAt (now (text .entry)) (now (tok .entry)) (now (work .entry)) n i j ⌝ }
 {
     if i < n {
-        if is_at(tok, work, n, j, 22) {
+        if is_at(tok, work, n, j, OPEN_CLOSE_BRACKET) {
             same_text(text, tok, work, i, j)
         } else {
             false
@@ -27,7 +30,7 @@ pub fn bar_at(text: &[u8], tok: &[u32], work: &[u32], n: usize, i: usize, j: usi
 fn closes(text: &[u8], tok: &[u32], work: &[u32], n: usize, i: usize, j: usize) -> bool
     ensures { λ r. ⌜ r ≡ closesAt (now (text .entry)) (now (tok .entry)) (now (work .entry)) n i j ⌝ }
 {
-    if kind_at(tok, work, i) == 20 {
+    if kind_at(tok, work, i) == OPEN_BRACKET {
         let after = after_close(work, i);
         if after == 0 { false } else { after - 1 == j }
     } else {
@@ -43,11 +46,11 @@ pub fn could_be_matrix(text: &[u8], tok: &[u32], work: &[u32], n: usize, i: usiz
         return false;
     }
     let row = i + 1;
-    if is_at(tok, work, n, row, 20) {
+    if is_at(tok, work, n, row, OPEN_BRACKET) {
         let after = after_close(work, row);
         if after == 0 {
             false
-        } else if is_at(tok, work, n, after, 3) {
+        } else if is_at(tok, work, n, after, SEP) {
             true
         } else if closes(text, tok, work, n, i, after) {
             sep_word(work, row) == 1

@@ -1,17 +1,14 @@
 // Cells by their words: their lengths, and which are column lines.
 use buffer::fits;
 use spans::is_span_byte;
+use tree::kinds::NODE_SIMPLE;
+use tree::kinds::NODE_SYMBOL;
 ghost use mathlib.Core.Bool.{cond};
 ghost use mathlib.Core.Path.{_≡_};
 ghost use Prim.Native.Nat.{_+_, _≤_, _<_};
 ghost use lib.ListN.{length, getD, take, drop};
 ghost use lib.Dec.{leb};
 ghost use Rattle.columns.specs.Columns.{cellLen, loneSymbol, isLine};
-
-// kinds of nodes: docs/LAYOUT.md
-const SYMBOL: u32 = 7;
-
-const SIMPLE: u32 = 13;
 
 // the word k of what stands at `at`
 pub(crate) fn word(tree: &[u32], at: usize, k: usize) -> u32
@@ -45,7 +42,7 @@ pub(crate) fn cell_within(tree: &[u32], at: usize, end: usize) -> usize
 fn is_lone_symbol(items: u32, frac: u32, kind: u32, script: u32, below: u32) -> bool
     ensures { λ r. ⌜ r ≡ loneSymbol items frac kind script below ⌝ }
 {
-    items == 1 && (frac == 0 && (kind == SIMPLE && (script == 0 && below == SYMBOL)))
+    items == 1 && (frac == 0 && (kind == NODE_SIMPLE && (script == 0 && below == NODE_SYMBOL)))
 }
 
 // is_column_line, of the cell at `at`. With fewer than 10 words below its header it has no text.

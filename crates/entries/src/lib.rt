@@ -3,6 +3,10 @@ use fields::after_close;
 use stores::put_record;
 use stores::set_close;
 use stores::set_sep;
+use tokens::kinds::CLOSE_BRACKET;
+use tokens::kinds::OPEN_BRACKET;
+use tokens::kinds::SEP;
+use tokens::kinds::SPACE;
 ghost use mathlib.Core.Path.{_≡_};
 ghost use mathlib.Core.List.{List};
 ghost use Prim.Native.Nat.{ℕ, _+_, _*_, _≤_};
@@ -35,7 +39,7 @@ fn count_entries(table: &[u32], count: usize) -> usize
     let mut n = 0;
     let mut i = 0;
     while i < count {
-        if table[3 * i + 2] < 23 {
+        if table[3 * i + 2] < SPACE {
             n += 1;
         }
         i += 1;
@@ -62,7 +66,7 @@ fn link(work: &mut [u32], i: usize, kind: u32, top: usize) -> usize
     requires { ⌜ top ≤ i ⌝ }
     ensures { λ r. ⌜ Link i kind top (now (work .entry)) (now (work .exit)) r ⌝ }
 {
-    if kind == 20 {
+    if kind == OPEN_BRACKET {
         set_close(work, i, top as u32);
         return i + 1;
     }
@@ -70,12 +74,12 @@ fn link(work: &mut [u32], i: usize, kind: u32, top: usize) -> usize
         return top;
     }
     let bracket = top - 1;
-    if kind == 21 {
+    if kind == CLOSE_BRACKET {
         let outer = after_close(work, bracket);
         set_close(work, bracket, (i + 1) as u32);
         return outer;
     }
-    if kind == 3 {
+    if kind == SEP {
         set_sep(work, bracket, 1);
     }
     top
@@ -94,7 +98,7 @@ fn fill(table: &[u32], count: usize, work: &mut [u32]) -> Matched
     let mut i = 0;
     while i < count {
         let kind = table[3 * i + 2];
-        if kind < 23 {
+        if kind < SPACE {
             put_record(work, n, i as u32);
             top = link(work, n, kind, top);
             n += 1;

@@ -3,6 +3,15 @@ use buffer::fits;
 use buffer::put6;
 use records::record::len_at;
 use records::record::start_at;
+use tokens::kinds::NUMBER;
+use tokens::kinds::OPEN_CLOSE_BRACKET;
+use tokens::kinds::OPERATOR;
+use tokens::kinds::SEP;
+use tokens::kinds::SIGN;
+use tokens::kinds::SYMBOL;
+use tree::kinds::NODE_SIGN;
+use tree::kinds::NODE_SIMPLE;
+use tree::kinds::NODE_SYMBOL;
 ghost use mathlib.Core.Path.{_≡_};
 ghost use Rattle.buffer.specs.Buffer.{stored};
 ghost use Rattle.leaves.specs.Leaves.{nodeWords, leafKind, leafClass, leafEnds, leafWords, plainWords};
@@ -28,32 +37,32 @@ pub fn put_node(
 fn leaf_kind(k: u32) -> u32
     ensures { λ r. ⌜ r ≡ leafKind k ⌝ }
 {
-    if k < 4 {
-        return 7;
+    if k < NUMBER {
+        return NODE_SYMBOL;
     }
-    if k < 8 {
+    if k < SYMBOL {
         return k - 3;
     }
-    if k < 16 {
-        return 7;
+    if k < SIGN {
+        return NODE_SYMBOL;
     }
-    if k == 16 {
-        return 5;
+    if k == SIGN {
+        return NODE_SIGN;
     }
-    7
+    NODE_SYMBOL
 }
 
 fn leaf_class(k: u32) -> u32
     ensures { λ r. ⌜ r ≡ leafClass k ⌝ }
 {
-    if k == 3 {
+    if k == SEP {
         return 7;
     }
-    if k < 8 {
+    if k < SYMBOL {
         return 0;
     }
-    if k < 16 {
-        return k - 8;
+    if k < SIGN {
+        return k - SYMBOL;
     }
     0
 }
@@ -61,22 +70,22 @@ fn leaf_class(k: u32) -> u32
 pub fn leaf_ends(k: u32) -> bool
     ensures { λ r. ⌜ r ≡ leafEnds k ⌝ }
 {
-    if k < 3 {
+    if k < SEP {
         return true;
     }
-    if k == 3 {
+    if k == SEP {
         return false;
     }
-    if k < 7 {
+    if k < OPERATOR {
         return true;
     }
-    if k < 8 {
+    if k < SYMBOL {
         return false;
     }
     if k < 10 {
         return true;
     }
-    if k < 22 {
+    if k < OPEN_CLOSE_BRACKET {
         return false;
     }
     true
@@ -97,7 +106,7 @@ pub fn put_plain(tok: &[u32], work: &[u32], tree: &mut [u32], e: usize, i: usize
 {
     if fits(tree.len(), e, 13) {
         tree[e] = 0;
-        put6(tree, e + 1, 13, 0, 0, 0, 0, 0);
+        put6(tree, e + 1, NODE_SIMPLE, 0, 0, 0, 0, 0);
         put_leaf(tok, work, tree, e + 7, i, k);
     }
 }

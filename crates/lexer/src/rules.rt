@@ -7,6 +7,13 @@ use crate::table::Listed;
 use crate::table::put;
 use crate::table::put_other;
 use blanks::blanks_end;
+use tokens::kinds::CLOSE_BRACKET;
+use tokens::kinds::NUMBER;
+use tokens::kinds::OPEN_BRACKET;
+use tokens::kinds::OPERATOR;
+use tokens::kinds::SPACE;
+use tokens::kinds::TEXT;
+use tokens::kinds::UNARY;
 ghost use mathlib.Core.Path.{_≡_};
 ghost use mathlib.Core.Bool.{true, false};
 ghost use Prim.Native.Nat.{_+_, _≤_, _<_};
@@ -61,10 +68,10 @@ fn strip_text(text: &[u8], table: &mut [u32], p: Listed) -> Listed
     if text[at] == 34 {
         let e = find_end(text, from, 34);
         if e < text.len() {
-            return put_other(table, p, from, e - from, 5, e + 1);
+            return put_other(table, p, from, e - from, TEXT, e + 1);
         }
     }
-    put_other(table, p, at, 1, 7, from)
+    put_other(table, p, at, 1, OPERATOR, from)
 }
 
 // Where digits with at most one point end.
@@ -100,7 +107,7 @@ fn strip_number(text: &[u8], table: &mut [u32], p: Listed) -> Listed
     let at = p.next;
     let e = number_end(text, at);
     if past_point(text, at) < e {
-        return put_other(table, p, at, e - at, 4, e);
+        return put_other(table, p, at, e - at, NUMBER, e);
     }
     strip_text(text, table, p)
 }
@@ -128,7 +135,7 @@ fn text_command(text: &[u8], table: &mut [u32], p: Listed) -> Listed
         ⌜ AddedRead (commandAt (now (text .entry)) (p .next) 4 Unary) p (now (table .entry)) r (now (table .exit)) ⌝ }
 {
     let at = p.next;
-    let command = put_other(table, p, at, 4, 18, at + 4);
+    let command = put_other(table, p, at, 4, UNARY, at + 4);
     let b = blanks_end(text, at + 4);
     if text.len() <= b {
         return command;
@@ -139,10 +146,10 @@ fn text_command(text: &[u8], table: &mut [u32], p: Listed) -> Listed
     }
     let from = b + 1;
     let e = find_end(text, from, c);
-    let open = put_other(table, command, b, 1, 20, from);
-    let literal = put_other(table, open, from, e - from, 5, e);
+    let open = put_other(table, command, b, 1, OPEN_BRACKET, from);
+    let literal = put_other(table, open, from, e - from, TEXT, e);
     if e < text.len() {
-        return put_other(table, literal, e, 1, 21, e + 1);
+        return put_other(table, literal, e, 1, CLOSE_BRACKET, e + 1);
     }
     literal
 }
@@ -187,7 +194,7 @@ fn strip_blanks(text: &[u8], table: &mut [u32], p: Listed) -> Listed
 {
     let at = p.next;
     let e = blanks_end(text, at + 1);
-    put(table, p.all, at, e - at, 23);
+    put(table, p.all, at, e - at, SPACE);
     Listed {
         all: p.all + 1,
         others: p.others,
@@ -202,7 +209,7 @@ fn strip_digits(text: &[u8], table: &mut [u32], p: Listed) -> Listed
 {
     let at = p.next;
     let e = number_end(text, at + 1);
-    put_other(table, p, at, e - at, 4, e)
+    put_other(table, p, at, e - at, NUMBER, e)
 }
 
 // Lists what is read at the place. The kind of the byte by itself says which rules can apply but for a longer spelling: Space

@@ -1,6 +1,7 @@
 // Refusals 1 to 6: whether a token list that a caller made is turned back.
 use refusals::text;
 use refusals::text::check_text;
+use tokens::kinds::SPACE;
 ghost use mathlib.Core.Path.{_≡_};
 ghost use mathlib.Core.Bool.{false};
 ghost use Prim.Native.Nat.{_+_, _*_, _≤_};
@@ -37,13 +38,13 @@ fn check_tokens(size: usize, table: &[u32], count: usize) -> Checked
         let len = table[3 * i + 1];
         let kind = table[3 * i + 2];
         let end = end_of(start, len);
-        if 23 < kind {
+        if SPACE < kind {
             return Checked::Refused(4);
         }
         if size < end {
             return Checked::Refused(5);
         }
-        if kind == 23 {
+        if kind == SPACE {
             if after {
                 return Checked::Refused(6);
             }

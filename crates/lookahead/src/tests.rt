@@ -1,6 +1,14 @@
 // Tests of an entry by its kind. n is the number of entries.
 use crate::depth::MAX_ITEM_DEPTH;
 use records::record::kind_at;
+use tokens::kinds::CLOSE_BRACKET;
+use tokens::kinds::FUNCTION;
+use tokens::kinds::NUMBER;
+use tokens::kinds::SEP;
+use tokens::kinds::SIGN;
+use tokens::kinds::SPACE;
+use tokens::kinds::SUB;
+use tokens::kinds::SUPER;
 ghost use mathlib.Core.Path.{_≡_};
 ghost use mathlib.Core.Bool.{false, not, cond};
 ghost use Prim.Native.Nat.{_+_};
@@ -21,7 +29,7 @@ fn next_kind(tok: &[u32], work: &[u32], n: usize, i: usize) -> u32
     ensures { λ r. ⌜ r ≡ nextKind (now (tok .entry)) (now (work .entry)) n i ⌝ }
 {
     if i >= n {
-        return 23;
+        return SPACE;
     }
     kind_at(tok, work, i)
 }
@@ -31,10 +39,10 @@ pub fn heads_at(tok: &[u32], work: &[u32], n: usize, i: usize, sign: bool) -> bo
     ensures { λ r. ⌜ r ≡ testAt (now (tok .entry)) (now (work .entry)) n (headsKind sign) i ⌝ }
 {
     let k = next_kind(tok, work, n, i);
-    if k == 16 {
+    if k == SIGN {
         return sign;
     }
-    k == 17
+    k == FUNCTION
 }
 
 // The entry at i marks a script.
@@ -42,19 +50,19 @@ pub fn marks_at(tok: &[u32], work: &[u32], n: usize, i: usize) -> bool
     ensures { λ r. ⌜ r ≡ testAt (now (tok .entry)) (now (work .entry)) n marksKind i ⌝ }
 {
     let k = next_kind(tok, work, n, i);
-    k == 1 || k == 2
+    k == SUPER || k == SUB
 }
 
 fn begins(k: u32, stop: bool) -> bool
     ensures { λ r. ⌜ r ≡ beginsKind stop k ⌝ }
 {
-    if k == 21 {
+    if k == CLOSE_BRACKET {
         return false;
     }
-    if k == 3 {
+    if k == SEP {
         return !stop;
     }
-    k != 23
+    k != SPACE
 }
 
 // The entry at i begins a simple expression.
@@ -67,10 +75,10 @@ pub fn begins_at(tok: &[u32], work: &[u32], n: usize, i: usize, stop: bool) -> b
 fn is_leaf(k: u32) -> bool
     ensures { λ r. ⌜ r ≡ leafOnly k ⌝ }
 {
-    if k < 4 {
+    if k < NUMBER {
         return false;
     }
-    k < 16
+    k < SIGN
 }
 
 // The entry at i is a leaf by its kind, and what follows does not join it.
@@ -78,7 +86,7 @@ fn stands_alone(tok: &[u32], work: &[u32], n: usize, i: usize) -> bool
     ensures { λ r. ⌜ r ≡ cond (testAt (now (tok .entry)) (now (work .entry)) n leafOnly i) (not (testAt (now (tok .entry)) (now (work .entry)) n joinsKind (i + 1))) false ⌝ }
 {
     if is_leaf(next_kind(tok, work, n, i)) {
-        return !(next_kind(tok, work, n, i + 1) < 3);
+        return !(next_kind(tok, work, n, i + 1) < SEP);
     }
     false
 }

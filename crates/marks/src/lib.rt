@@ -40,6 +40,9 @@ pub fn mark_failed(work: &mut [u32], i: usize, mark: u32)
     }
 }
 
+// The number of the mark of a matrix that failed.
+pub const MATRIX_MARK: u32 = 4;
+
 // The number of the open mark for a stop.
 pub fn open_mark(stop: bool) -> u32
     ensures { λ r. ⌜ r ≡ openMark stop ⌝ }

@@ -6,6 +6,9 @@ use records::record::len_at;
 use records::record::start_at;
 use spaces::space_len;
 use spaces::space_start;
+use tree::kinds::NODE_GROUP;
+use tree::kinds::NODE_MATRIX;
+use tree::kinds::NODE_SPACE;
 ghost use mathlib.Core.Path.{_≡_};
 ghost use mathlib.Core.List.{[], _∷_};
 ghost use Rattle.records.specs.Record.{startOf, lenOf};
@@ -46,9 +49,9 @@ pub fn put_group(
     ensures { λ _. ⌜ now (tree .exit) ≡ stored (now (tree .entry)) e (groupWords (now (tok .entry)) (now (work .entry)) n i j count) ⌝ }
 {
     if j < n {
-        put_between(tok, work, tree, e, 15, i, j, count);
+        put_between(tok, work, tree, e, NODE_GROUP, i, j, count);
     } else {
-        put_node(tok, work, tree, e, 15, i, count);
+        put_node(tok, work, tree, e, NODE_GROUP, i, count);
     }
 }
 
@@ -67,7 +70,7 @@ pub fn put_matrix(
     ensures { λ _. ⌜ now (tree .exit) ≡ stored (now (tree .entry)) e (matrixWords (now (tok .entry)) (now (work .entry)) i j cells cols lines) ⌝ }
 {
     if fits(tree.len(), e, 8) {
-        put_between(tok, work, tree, e, 16, i, j, cells);
+        put_between(tok, work, tree, e, NODE_MATRIX, i, j, cells);
         tree[e + 6] = cols;
         tree[e + 7] = lines;
     }
@@ -98,7 +101,16 @@ pub fn put_space(
     }
     if fits(tree.len(), e, 7) {
         tree[e] = 0;
-        put6(tree, e + 1, 6, space_start(tok, work, i), len, 0, 0, 0);
+        put6(
+            tree,
+            e + 1,
+            NODE_SPACE,
+            space_start(tok, work, i),
+            len,
+            0,
+            0,
+            0,
+        );
     }
     1
 }

@@ -1,6 +1,5 @@
 // The parser of asciimath-parser over a token list: parse.rs, and its calls on a text and on a token list.
 mod cursor;
-mod kinds;
 mod plain;
 mod readers;
 mod tests;

@@ -1,17 +1,17 @@
 // Small choices of the readers.
 use crate::cursor::Part;
 use crate::cursor::Scripted;
-use crate::kinds::FUNCTION;
-use crate::kinds::NODE_FUNC;
-use crate::kinds::NODE_MISSING;
-use crate::kinds::NODE_SFUNC;
-use crate::kinds::NODE_SIGNED;
-use crate::kinds::NODE_SSIGNED;
-use crate::kinds::NODE_UNARY;
-use crate::kinds::OPEN_BRACKET;
-use crate::kinds::OPEN_CLOSE_BRACKET;
-use crate::kinds::SIGN;
-use crate::kinds::UNARY;
+use tokens::kinds::FUNCTION;
+use tokens::kinds::OPEN_BRACKET;
+use tokens::kinds::OPEN_CLOSE_BRACKET;
+use tokens::kinds::SIGN;
+use tokens::kinds::UNARY;
+use tree::kinds::NODE_FUNC;
+use tree::kinds::NODE_MISSING;
+use tree::kinds::NODE_SFUNC;
+use tree::kinds::NODE_SIGNED;
+use tree::kinds::NODE_SSIGNED;
+use tree::kinds::NODE_UNARY;
 ghost use mathlib.Core.Path.{_≡_};
 ghost use mathlib.Core.Bool.{false, cond};
 ghost use Rattle.parse.specs.Meet.{opening};

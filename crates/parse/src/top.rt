@@ -12,6 +12,9 @@ use records::record::len_at;
 use records::record::start_at;
 use stores::set_close;
 use stores::set_sep;
+use tokens::kinds::CLOSE_BRACKET;
+use tree::kinds::NODE_GROUP;
+use tree::kinds::NODE_SIMPLE;
 ghost use mathlib.Core.Path.{_≡_};
 ghost use mathlib.Core.List.{_++_};
 ghost use Prim.Native.Nat.{_+_, _*_, _≤_};
@@ -70,7 +73,7 @@ fn read_items(text: &[u8], tok: &[u32], n: usize, work: &mut [u32], tree: &mut [
         count += run.count;
         first = false;
         sign = run.sign;
-        if is_at(tok, work, n, at, 21) {
+        if is_at(tok, work, n, at, CLOSE_BRACKET) {
             cur = rc.next();
             if wraps < 256 {
                 note_wrap(work, at, last, count);
@@ -100,11 +103,11 @@ fn put_wrap(tok: &[u32], work: &[u32], tree: &mut [u32], at: usize, i: usize)
     ensures { λ _. ⌜ now (tree .exit) ≡ sets (now (tree .entry)) at (wrapWords (sepWord (now (work .entry)) i) (startOf (now (tok .entry)) (now (work .entry)) i) (lenOf (now (tok .entry)) (now (work .entry)) i)) ⌝ }
 {
     put1(tree, at, 0);
-    put6(tree, at + 1, 13, 0, 0, 0, 0, 0);
+    put6(tree, at + 1, NODE_SIMPLE, 0, 0, 0, 0, 0);
     put6(
         tree,
         at + 7,
-        15,
+        NODE_GROUP,
         0,
         0,
         sep_word(work, i),

@@ -1,4 +1,5 @@
 // The token of an entry, by its place in the first word of the record.
+use tokens::kinds::SPACE;
 ghost use mathlib.Core.Bool.{cond};
 ghost use mathlib.Core.Path.{_≡_};
 ghost use Prim.Native.Nat.{_+_, _*_, _^_, _<_};
@@ -34,7 +35,7 @@ fn token_word(tok: &[u32], work: &[u32], i: usize, k: usize, none: u32) -> u32
 pub fn kind_at(tok: &[u32], work: &[u32], i: usize) -> u32
     ensures { λ r. ⌜ r ≡ kindOf (now (tok .entry)) (now (work .entry)) i ⌝ }
 {
-    token_word(tok, work, i, 2, 23)
+    token_word(tok, work, i, 2, SPACE)
 }
 
 pub fn start_at(tok: &[u32], work: &[u32], i: usize) -> u32

@@ -1,4 +1,5 @@
 // The Space directly before an entry.
+use tokens::kinds::SPACE;
 ghost use mathlib.Core.Bool.{cond};
 ghost use mathlib.Core.Path.{_≡_};
 ghost use Prim.Native.Nat.{_+_, _*_, _<_};
@@ -13,7 +14,7 @@ fn space_word(tok: &[u32], j: usize, k: usize) -> u32
 {
     if j == 0 {
         0
-    } else if tok[3 * (j - 1) + 2] == 23 {
+    } else if tok[3 * (j - 1) + 2] == SPACE {
         tok[3 * (j - 1) + k]
     } else {
         0

@@ -1,5 +1,12 @@
 // One step of a walk over tree words, in preorder: what stands at a place, and where the nodes below it begin. Past the last of them,
 // and past the words behind them, the next node of the same row begins.
+use crate::kinds::NODE_BINARY;
+use crate::kinds::NODE_CELL;
+use crate::kinds::NODE_FRAC;
+use crate::kinds::NODE_GROUP;
+use crate::kinds::NODE_MATRIX;
+use crate::kinds::NODE_SIGNED;
+use crate::kinds::NODE_SIMPLE;
 ghost use mathlib.Core.Path.{_≡_};
 ghost use Prim.Native.Nat.{_≤_, _<_};
 ghost use lib.ListN.{length, getD, take, drop};
@@ -48,15 +55,15 @@ fn arguments(script: u32) -> u32
 fn below(kind: u32, held: u32) -> u32
     ensures { λ r. ⌜ r ≡ belowOf kind held ⌝ }
 {
-    if kind < 8 {
+    if kind < NODE_SIGNED {
         0
-    } else if kind < 12 {
+    } else if kind < NODE_BINARY {
         1
-    } else if kind < 13 {
+    } else if kind < NODE_SIMPLE {
         2
-    } else if kind < 15 {
+    } else if kind < NODE_GROUP {
         1 + arguments(held)
-    } else if kind < 18 {
+    } else if kind < NODE_FRAC {
         held
     } else {
         2
@@ -70,7 +77,7 @@ fn headed(words: &[u32], head: usize) -> Opened
 {
     let kind = word(words, head);
     let count = below(kind, word(words, head + 3)) as usize;
-    if kind == 16 {
+    if kind == NODE_MATRIX {
         Opened {
             kind: kind,
             head: head,
@@ -85,7 +92,11 @@ fn headed(words: &[u32], head: usize) -> Opened
             head: head,
             from: head + 6,
             count: count,
-            items: if kind == 15 { true } else { kind == 17 },
+            items: if kind == NODE_GROUP {
+                true
+            } else {
+                kind == NODE_CELL
+            },
             tail: 0,
         }
     }
@@ -98,7 +109,7 @@ fn placed(words: &[u32], at: usize, items: bool) -> Opened
     if items {
         if word(words, at) == 1 {
             Opened {
-                kind: 18,
+                kind: NODE_FRAC,
                 head: at,
                 from: at + 1,
                 count: 2,
