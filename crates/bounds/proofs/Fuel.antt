@@ -1,6 +1,6 @@
 -- The loops of the definition have fuel enough: each turn moves over a token, so from as many turns as there are entries left, and
 -- one, more turns change nothing.
-use Prim.Native.Nat.{ℕ, zero, suc, _+_, _≤_, _<_}
+use Prim.Native.Nat.{ℕ, zero, suc, _+_, _≤_}
 use mathlib.Core.Path.{_≡_, refl, ap, _∙_}
 use mathlib.Core.List.{List, [], _∷_}
 use mathlib.Core.Option.{Option, none, some}
@@ -13,7 +13,7 @@ use Rattle.reading.specs.Stop.{Stop}
 use Rattle.reading.specs.Entries.{Entry, is}
 use Rattle.reading.specs.Reading.{State, M, return, _>>=_, here, if_then_else_, Readers, Row, any, advance, atOpenClose, isAt, alike, nextIntermediate, intermediates, nextExpression, rowCells, nextMatrixRow, moreRows, prefixes, spaced, level, parse, lastOf, unscripted}
 use Rattle.bounds.specs.Peak.{CountedReaders, level-counted}
-use Rattle.bounds.proofs.Room.{Fits, Room, opt, level-room, advance-fits, nextIntermediate-fits, intermediates-fits, nextMatrixRow-fits}
+use Rattle.bounds.proofs.Room.{Room, opt, level-room, advance-fits, nextIntermediate-fits, intermediates-fits, nextMatrixRow-fits}
 
 same-bind : {A B : Type 0} (m n : M A) (f : A → M B) (s : State) → m s ≡ n s → (m >>= f) s ≡ (n >>= f) s
 unfolding _>>=_

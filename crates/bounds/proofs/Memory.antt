@@ -1,23 +1,20 @@
-use Prim.Native.Nat.{ℕ, zero, suc, _+_, _*_, _-_, _≤_, _<_}
+use Prim.Native.Nat.{ℕ, zero, suc, _+_, _*_, _-_, _≤_}
 use mathlib.Core.Path.{_≡_, refl, sym, ap, _∙_}
-use mathlib.Core.List.{List, [], _∷_, _++_, map}
+use mathlib.Core.List.{List, [], _∷_}
 use mathlib.Core.Option.{Option, none, some}
-use mathlib.Core.Bool.{Bool, true, false, not, _&&_, _||_, cond, true≢false}
+use mathlib.Core.Bool.{Bool, true, false, true≢false}
 use native.Mathlib.Omega.{arith}
 use native.Mathlib.Decide.{ℕ-discrete, decLe}
-use lib.ListN.{length, getD, take, drop, set, replicate, getElem?, length-set, length-replicate, getD-replicate}
-use lib.Seq.{getD-set-same, getD-set-other}
-use lib.Dec.{T, eqb, ltb, leb, lit≤, leb→le}
-use Rattle.tokens.specs.declared.token.SymbolClass.{SymbolClass}
+use lib.ListN.{length, getD, set, replicate, getElem?}
+use lib.Seq.{getD-set-other}
 use Rattle.tokens.specs.declared.token.SymbolClass.the-variants as class
 use Rattle.tokens.specs.declared.token.Token.{Token}
 use Rattle.tokens.specs.declared.token.Token.the-variants as token
-use Rattle.tokens.specs.Kinds.{numberOf, classNumber}
-use Rattle.tokens.specs.Lexeme.{Span, Lexeme}
-use Rattle.tree.specs.Tree.{nowhere, Script, Head, Atom, Prefix, Node, node, Nodes, end, _▸_, _⧺_, count, leaf, one}
+use Rattle.tokens.specs.Lexeme.{Lexeme}
+use Rattle.tree.specs.Tree.{nowhere, Head, Prefix, Node, node, Nodes, end, _▸_, _⧺_, one}
 use Rattle.reading.specs.Stop.{Stop}
 use Rattle.reading.specs.Entries.{Entry, is, entries}
-use Rattle.reading.specs.Reading.{State, M, return, _>>=_, here, Mark, openMark, matrixMark, slot, Try, made, lost, nought, Readers, stops, isAt, isBar, advance, failed, giveUp, attempt, argument, nextScript, nextScriptFunc, nextIntermediate, intermediates, atOpenClose, Row, Rows, nextMatrixRow, rowCells, moreRows, nextMatrixRows, matrixBody, tryMatrix, nextOpenGroup, barBody, nextOpenCloseGroup, nextBracket, begun, nextSimple, step, level, parse, parseEntries, lastOf, orGlyph, couldBeMatrix, alike, rowBrackets, closes, splitColumnLines, isByte, prefixes, spaced, orMissing, orMissingPart, any, marksScript, heads, begins, if_then_else_, makesMatrix, Scripted, readingBy, unscripted}
+use Rattle.reading.specs.Reading.{State, M, return, _>>=_, here, Mark, openMark, matrixMark, slot, Try, made, lost, nought, Readers, isAt, isBar, advance, failed, giveUp, attempt, argument, nextScript, nextScriptFunc, nextIntermediate, intermediates, atOpenClose, Row, nextMatrixRow, rowCells, moreRows, nextMatrixRows, matrixBody, tryMatrix, nextOpenGroup, barBody, nextOpenCloseGroup, nextBracket, begun, nextSimple, step, level, parse, parseEntries, orGlyph, couldBeMatrix, prefixes, spaced, orMissingPart, any, marksScript, heads, begins, if_then_else_, readingBy, unscripted}
 
 -- For at most 127 entries the reading with its memory and the one without give the same tree. Nothing is assumed.
 

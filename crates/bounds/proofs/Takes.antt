@@ -1,23 +1,20 @@
 use Prim.Native.Nat.{ℕ, zero, suc, _+_, _*_, _-_, _≤_, _<_}
-use mathlib.Core.Path.{_≡_, refl, sym, ap, _∙_}
-use mathlib.Core.List.{List, [], _∷_, _++_, map}
+use mathlib.Core.Path.{_≡_, refl, ap, _∙_}
+use mathlib.Core.List.{List, [], _∷_}
 use mathlib.Core.Option.{Option, none, some}
-use mathlib.Core.Bool.{Bool, true, false, not, _&&_, _||_, cond, true≢false, false≢true}
+use mathlib.Core.Bool.{Bool, true, false, true≢false, false≢true}
 use native.Mathlib.Omega.{arith}
 use native.Mathlib.Nat.{suc-mul, mul-assoc, zero-mul}
-use lib.ListN.{length, getD, take, drop, set, replicate, getElem?, length-set, length-replicate}
-use lib.Seq.{getD-set-same, getD-set-other}
-use lib.Dec.{T, eqb, ltb, leb, lit≤, leb→le}
-use Rattle.tokens.specs.declared.token.SymbolClass.{SymbolClass}
+use lib.ListN.{length, getD, set, replicate, getElem?, length-set, length-replicate}
+use lib.Seq.{getD-set-other}
+use lib.Dec.{T, leb, leb→le}
 use Rattle.tokens.specs.declared.token.SymbolClass.the-variants as class
 use Rattle.tokens.specs.declared.token.Token.{Token}
 use Rattle.tokens.specs.declared.token.Token.the-variants as token
-use Rattle.tokens.specs.Kinds.{numberOf, classNumber}
-use Rattle.tokens.specs.Lexeme.{Span, Lexeme}
-use Rattle.tree.specs.Tree.{nowhere, Script, Head, Atom, Prefix, Node, node, Nodes, end, _▸_, _⧺_, count, leaf, one}
+use Rattle.tree.specs.Tree.{Node, Nodes, end}
 use Rattle.reading.specs.Stop.{Stop}
-use Rattle.reading.specs.Entries.{Entry, is, entries}
-use Rattle.reading.specs.Reading.{State, M, return, _>>=_, here, Mark, openMark, matrixMark, slot, Try, made, lost, nought, Readers, stops, isAt, isBar, advance, failed, giveUp, attempt, argument, nextScript, nextScriptFunc, nextIntermediate, intermediates, atOpenClose, Row, Rows, nextMatrixRow, rowCells, moreRows, nextMatrixRows, matrixBody, tryMatrix, nextOpenGroup, barBody, nextOpenCloseGroup, nextBracket, begun, nextSimple, step, level, parse, parseEntries, lastOf, orGlyph, couldBeMatrix, alike, rowBrackets, closes, splitColumnLines, isByte, prefixes, spaced, orMissing, orMissingPart, any, marksScript, heads, begins, if_then_else_, makesMatrix, Scripted, readingBy}
+use Rattle.reading.specs.Entries.{Entry, is}
+use Rattle.reading.specs.Reading.{State, M, return, _>>=_, here, Mark, openMark, matrixMark, slot, Try, made, lost, nought, Readers, isAt, advance, failed, giveUp, attempt, argument, nextScript, nextScriptFunc, nextIntermediate, intermediates, Row, nextMatrixRow, rowCells, moreRows, nextMatrixRows, matrixBody, tryMatrix, nextOpenGroup, barBody, nextOpenCloseGroup, nextBracket, begun, nextSimple, step, level, parse, parseEntries, couldBeMatrix, prefixes, any, marksScript, heads, begins, if_then_else_}
 
 -- The takes are bounded: every reader pays for what it takes. Nothing is assumed.
 

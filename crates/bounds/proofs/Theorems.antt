@@ -2,7 +2,7 @@
 -- each accepted text. (Settled lists: crates/grammar/proofs/Settled.antt. The starred
 -- strings: crates/reading/proofs/Starred.antt.)
 use Prim.Native.Nat.{ℕ, suc, _+_, _*_, _≤_}
-use mathlib.Core.Path.{_≡_, refl, sym, ap, subst}
+use mathlib.Core.Path.{_≡_, refl, ap, subst}
 use mathlib.Core.Bool.{Bool, true, false}
 use mathlib.Core.List.{List, [], _∷_}
 use native.Mathlib.Omega.{arith}

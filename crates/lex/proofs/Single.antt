@@ -1,10 +1,10 @@
 -- A single read, listed into twelve words: they are those of its tokens, and zeros.
-use mathlib.Core.Path.{_≡_, refl, sym, ap, _∙_}
-use mathlib.Core.List.{List, [], _∷_, _++_, append-nil}
+use mathlib.Core.Path.{_≡_, sym, ap, _∙_}
+use mathlib.Core.List.{List, [], _∷_, append-nil}
 use mathlib.Core.Option.{none, some}
 use Prim.Native.Nat.{ℕ, suc, _+_, _-_, _≤_, _<_, min}
 use native.Mathlib.Omega.{arith}
-use lib.ListN.{length, drop}
+use lib.ListN.{length}
 use Rattle.tokens.specs.Lexeme.{Lexeme}
 use Rattle.tokens.specs.Table.{tableWords, countOthers}
 use Rattle.tokens.specs.Refusals.{textRefusal}

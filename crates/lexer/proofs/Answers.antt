@@ -2,7 +2,7 @@
 use mathlib.Core.Path.{_≡_, sym}
 use mathlib.Core.List.{List}
 use mathlib.Core.Option.{none, some}
-use Prim.Native.Nat.{ℕ, _+_, min}
+use Prim.Native.Nat.{ℕ, min}
 use native.Mathlib.Omega.{arith}
 use lib.ListN.{length}
 use Rattle.tokens.specs.Table.{countOthers}
@@ -10,7 +10,7 @@ use Rattle.tokens.specs.Refusals.{textRefusal}
 use Rattle.lexer.specs.declared.Listing.{Listing}
 use Rattle.lexer.specs.declared.Listing.the-variants.{Tokens, Refused}
 use Rattle.lexer.specs.declared.table.Listed.{Listed}
-use Rattle.lexer.specs.Listing.{listInto, readsTo, listedReads}
+use Rattle.lexer.specs.Listing.{readsTo, listedReads}
 use Rattle.lexer.specs.Coded.{listed, Added}
 
 module _ (text : List ℕ) (from stop : ℕ) (table : List ℕ) where

@@ -4,7 +4,6 @@ use mathlib.Core.Path.{_≡_, refl, sym, ap, _∙_}
 use mathlib.Core.List.{List, [], _∷_, _++_, append-assoc, append-nil}
 use native.Mathlib.Omega.{arith}
 use lib.ListN.{length, getD, take, drop, length-drop, drop-of-length-le, List·getD-eq-default}
-use native.Mathlib.Numerals.{add-one}
 use lib.Seq.{take-suc, take-all, take-nil, drop-length, getD-drop}
 use borrow.Author.Tests.{ne-eqb}
 use borrow.Author.Count.{below-more}

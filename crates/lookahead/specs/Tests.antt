@@ -1,7 +1,7 @@
 -- What the readers ask of an entry by its kind. t are the words of the token table, K the work words, n the number of entries.
 use Prim.Native.Nat.{ℕ, _+_}
 use mathlib.Core.List.{List}
-use mathlib.Core.Bool.{Bool, true, false, not, _&&_, _||_, cond}
+use mathlib.Core.Bool.{Bool, false, not, _&&_, _||_, cond}
 use lib.Dec.{eqb, ltb}
 use Rattle.records.specs.Record.{kindOf}
 

@@ -19,7 +19,7 @@ use Rattle.room.proofs.Lengths.{work-short, tree-short, one-short, room-enough}
 use Rattle.tokenizer.specs.Call as call
 use Rattle.tokens.proofs.Cases.{by-lt, by-option}
 use Rattle.tokens.proofs.TokenList.{others-few}
-use Rattle.lexing.proofs.Theorems.{never-outnumber, list-of-words, accepted-list}
+use Rattle.lexing.proofs.Theorems.{list-of-words, accepted-list}
 use Rattle.tree.specs.Tree.{Nodes, end, _▸_, count}
 use Rattle.reading.specs.Reading.{readingBy, blank}
 use Rattle.lists.specs.declared.Checked.{Checked}

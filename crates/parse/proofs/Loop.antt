@@ -12,7 +12,7 @@ use Rattle.tokens.specs.declared.token.Token.the-variants as token
 use Rattle.tree.specs.Tree.{Head, Atom, Node, node, Nodes, end, _▸_, _⧺_, count, leaf}
 use Rattle.tree.specs.Words.{encodeItem, encodeItems}
 use Rattle.reading.specs.Entries.{Entry}
-use Rattle.reading.specs.Reading.{State, Readers, isAt, isBar, atOpenClose, sameText, textOf, nextIntermediate, intermediates, prefixes, spaced}
+use Rattle.reading.specs.Reading.{State, isAt, isBar, atOpenClose, sameText, textOf, nextIntermediate, intermediates, prefixes, spaced}
 use Rattle.parse.specs.declared.cursor.Cursor.{Cursor}
 use Rattle.parse.specs.declared.cursor.Step.the-variants.{Found, Nothing}
 use Rattle.parse.specs.declared.cursor.Gap.{Gap}

@@ -5,15 +5,12 @@ use leaves::leaf_ends;
 use leaves::put_plain;
 use records::record::kind_at;
 ghost use mathlib.Core.Path.{_≡_};
-ghost use mathlib.Core.Bool.{true};
 ghost use mathlib.Core.List.{[], _∷_};
-ghost use Prim.Native.Nat.{ℕ, _+_, _≤_, _<_};
+ghost use Prim.Native.Nat.{_+_, _≤_, _<_};
 ghost use lib.ListN.{length};
 ghost use lib.Seq.{sets};
 ghost use Rattle.records.specs.Record.{kindOf};
-ghost use Rattle.lookahead.specs.Tests.{testAt, leafOnly, joinsKind, plainAt};
 ghost use Rattle.leaves.specs.Leaves.{leafWords, leafEnds};
-ghost use Rattle.parse.specs.Entry.{Placed};
 ghost use Rattle.parse.specs.Meet.{onward, seen};
 
 // Its readers look for a head, take the leaf, and look for a script and for a fraction.

@@ -3,7 +3,6 @@
 use Prim.Native.Nat.{ℕ}
 use mathlib.Core.Path.{_≡_, sym, ap, _∙_}
 use mathlib.Core.List.{List, [], _∷_, _++_}
-use mathlib.Core.Option.{none}
 use lib.ListN.{length, drop}
 use Rattle.lexing.specs.Rules.{tokens}
 use Rattle.tokens.specs.Refusals.{accepted, refused}
@@ -12,7 +11,7 @@ use Rattle.tree.specs.Tree.{count}
 use Rattle.reading.specs.Reading.{readText, blank}
 use Rattle.parse.specs.Entry.{bit}
 use Rattle.parse.specs.Call as read
-use Rattle.parse.specs.Call.{parseRefusal, parsedText, treeAfter}
+use Rattle.parse.specs.Call.{parseRefusal, treeAfter}
 use Rattle.parse.specs.Answers.{Answered}
 use Rattle.parse.proofs.Theorems.{text-answered}
 use Rattle.print.specs.Call.{printOf, values, printedText}

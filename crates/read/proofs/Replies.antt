@@ -1,7 +1,7 @@
 -- What the call's answer says of the program's reply, where the buffers are long enough for any text of 500 bytes.
-use Prim.Native.Nat.{ℕ, suc, _+_, _*_, _/_, _%_, _≤_, _<_}
+use Prim.Native.Nat.{ℕ, _+_, _*_, _/_, _%_, _≤_, _<_}
 use mathlib.Core.Path.{_≡_, refl, sym, ap, _∙_}
-use mathlib.Core.Bool.{Bool, true, false}
+use mathlib.Core.Bool.{Bool}
 use mathlib.Core.List.{List, [], _∷_, _++_}
 use mathlib.Core.Option.{none, some}
 use native.Mathlib.Omega.{arith}
@@ -10,7 +10,7 @@ use lib.ListN.{length, take, drop, set, length-append, length-drop, length-set}
 use lib.Seq.{take-at, take-suc-set}
 use borrow.Author.Tests.{lt-ltb, le-ltb}
 use Rattle.tokens.specs.Bytes.{bytes}
-use Rattle.tokens.specs.Refusals.{Answer, accepted, refused, ascii, textRefusal}
+use Rattle.tokens.specs.Refusals.{accepted, refused, ascii, textRefusal}
 use Rattle.tokens.specs.Table.{countOthers}
 use Rattle.room.proofs.Lengths.{room-enough}
 use Rattle.lexing.specs.Rules.{tokens}

@@ -4,7 +4,6 @@ use Prim.Native.Nat.{ℕ}
 use Prim.Native.String.{String}
 use mathlib.Core.Path.{_≡_, refl}
 use mathlib.Core.List.{List, [], _∷_, map}
-use Rattle.tokens.specs.declared.token.SymbolClass.{SymbolClass}
 use Rattle.tokens.specs.declared.token.SymbolClass.the-variants as class
 use Rattle.tokens.specs.declared.token.Token.the-variants.{Super, Sep, Sign, Number, Text, Ident, Operator, Symbol, Unary, OpenBracket, CloseBracket, OpenCloseBracket}
 use Rattle.tokens.specs.Bytes.{bytes, same}

@@ -1,7 +1,7 @@
 -- The token table, document 01, 'Buffers and counts': "Token table: three u32 words a token: start, length, kind."
-use mathlib.Core.Bool.{Bool, true, false}
-use mathlib.Core.List.{List, [], _∷_, _++_}
-use Prim.Native.Nat.{ℕ, zero, suc, _+_, _*_}
+use mathlib.Core.Bool.{true, false}
+use mathlib.Core.List.{List, [], _∷_}
+use Prim.Native.Nat.{ℕ, zero, suc}
 use lib.Dec.{eqb}
 use lib.ListN.{getD, drop}
 use Rattle.tokens.specs.declared.token.Token.the-variants.{Space}

@@ -1,6 +1,6 @@
 -- Decoding a tree's words gives the tree back, whatever words follow them.
 use Prim.Native.Nat.{ℕ, zero, suc, _≤_}
-use mathlib.Core.Path.{_≡_, refl, ap, _∙_}
+use mathlib.Core.Path.{_≡_, refl, ap}
 use mathlib.Core.List.{List, [], _++_, append-assoc}
 use mathlib.Core.Bool.{Bool, true, false, cond}
 use native.Mathlib.Omega.{arith}
@@ -8,7 +8,7 @@ use lib.ListN.{length, getD, drop, length-append}
 use lib.Seq.{take-append-seam, drop-append-seam}
 use lib.Dec.{eqb}
 use Rattle.tokens.specs.declared.token.SymbolClass.the-variants as class
-use Rattle.tree.specs.Tree.{Script, Head, Atom, Prefix, Node, node, Nodes, end, _▸_, _⧺_, count}
+use Rattle.tree.specs.Tree.{Script, Head, Atom, Prefix, Node, node, Nodes, end, _▸_, count}
 use Rattle.tree.specs.Words.{headWords, tailWords, ofItems, withHead, encode, encodes, encodeItem, encodeItems}
 use Rattle.tree.specs.WellFormed.{WellFormed}
 use Rattle.tree.specs.Laid.{Laid, Laids}

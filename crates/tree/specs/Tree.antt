@@ -1,7 +1,7 @@
 -- The tree of tree.rs as one type. A node is a head, which is the node's line in the printed tree of document 01, and the
 -- nodes below it. docs/LAYOUT.md says kind by kind which type of tree.rs each is.
 use Prim.Native.Nat.{ℕ, zero, suc}
-use mathlib.Core.List.{List, [], _∷_}
+use mathlib.Core.List.{List}
 use Rattle.tokens.specs.declared.token.SymbolClass.{SymbolClass}
 use Rattle.tokens.specs.Lexeme.{Span}
 

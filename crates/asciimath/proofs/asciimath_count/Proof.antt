@@ -1,8 +1,5 @@
 use mathlib.Core.Path.{sym, ap, _∙_}
-use mathlib.Core.List.{List}
-use Prim.Native.Nat.{ℕ}
 use borrow.Author.Needs.{needs}
-use Rattle.tokens.specs.Refusals.{Answer}
 use Rattle.tokenizer.specs.Call.{countOf}
 use Rattle.asciimath.proofs.Passing.{refused-code, refused-values, accepted-code, accepted-values, two}
 use Rattle.asciimath.proofs.asciimath_count.Statement.{statement}

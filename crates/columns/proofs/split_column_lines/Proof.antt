@@ -1,8 +1,6 @@
 -- The split, then the words past the new end.
 use native.Mathlib.Omega.{arith}
-use lib.ListN.{length}
 use mathlib.Core.Path.{sym, _∙_}
-use Rattle.columns.proofs.Shape.{room-parts}
 use Rattle.columns.proofs.Cleared.{no-room, end-within, cleared}
 use borrow.Author.Needs.{needs}
 use Rattle.columns.proofs.split_column_lines.Statement.{statement}

@@ -4,7 +4,6 @@ use Prim.Native.Nat.{_+_}
 use native.Mathlib.Omega.{arith}
 use borrow.Author.Tests.{lt-leb}
 use Rattle.stepper.proofs.Queues.{by-difference}
-use borrow.Author.Needs.{needs}
 use Rattle.stepper.proofs.is_inside.Statement.{statement}
 use Rattle.stepper.proofs.is_inside.Tie as tie
 

@@ -4,7 +4,6 @@ use mathlib.Core.List.{List}
 use Prim.Native.Nat.{ℕ}
 use native.Mathlib.Omega.{arith}
 use borrow.Author.Needs.{needs}
-use Rattle.tokenizer.specs.declared.TokenizedUnder.{TokenizedUnder}
 use Rattle.tokenizer.specs.declared.TokenizedUnder.the-variants.{Tokens}
 use Rattle.tokenizer.proofs.Calls.{few, waiting-short, waiting-many, waiting-copied, waiting-again}
 use Rattle.tokenizer.proofs.take_list.Statement.{statement}

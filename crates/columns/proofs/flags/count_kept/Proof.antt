@@ -3,7 +3,6 @@ use native.Mathlib.Omega.{arith}
 use lib.ListN.{length}
 use Rattle.columns.proofs.Shape.{room-parts}
 use Rattle.columns.proofs.Whole.{count-not, count-some}
-use borrow.Author.Needs.{needs}
 use Rattle.columns.proofs.flags.count_kept.Statement.{statement}
 use Rattle.columns.proofs.flags.count_kept.Tie as tie
 

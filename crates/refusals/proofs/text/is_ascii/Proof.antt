@@ -3,7 +3,7 @@ use Prim.Native.Nat.{_-_, _≤_}
 use mathlib.Core.Path.{_≡_, refl, sym, _∙_}
 use mathlib.Core.Logic.{⊎-elim}
 use native.Mathlib.Omega.{arith}
-use lib.ListN.{length, drop}
+use lib.ListN.{length}
 use Rattle.tokens.specs.Refusals.{ascii}
 use Rattle.refusals.proofs.Ascii.{asciiFrom, ascii-next, not-ascii, ascii-end}
 use Rattle.refusals.proofs.text.is_ascii.Statement.{statement}

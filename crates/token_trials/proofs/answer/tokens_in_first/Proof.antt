@@ -1,6 +1,5 @@
 -- `tokens_in_first` is safe.
 use mathlib.Core.Path.{sym}
-use lib.ListN.{length}
 use lib.Seq.{length-take-le}
 use borrow.Author.Needs.{needs}
 use Rattle.token_trials.proofs.answer.tokens_in_first.Statement.{statement}

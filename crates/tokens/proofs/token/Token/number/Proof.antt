@@ -1,8 +1,7 @@
 -- `Token::number` is the definition's: each case tells its token.
-use mathlib.Core.Path.{_≡_, ap, sym, _∙_}
+use mathlib.Core.Path.{ap, sym, _∙_}
 use Prim.Native.Nat.{ℕ, _+_, _≤_}
 use native.Mathlib.Omega.{arith}
-use lib.Dec.{lit≤}
 use borrow.Author.Needs.{needs}
 use Rattle.tokens.specs.declared.token.SymbolClass.{SymbolClass}
 use Rattle.tokens.specs.declared.token.SymbolClass.the-variants as class
