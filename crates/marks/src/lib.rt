@@ -1,5 +1,6 @@
 // The marks of an entry: what was tried there and failed.
 use fields::marks_word;
+use stores::set_marks;
 ghost use mathlib.Core.Path.{_≡_};
 ghost use Rattle.records.specs.Record.{marksOf, withMarks};
 ghost use Rattle.marks.specs.Marks.{isMarked, withMark, openMark};
@@ -34,10 +35,8 @@ pub fn failed_at(work: &[u32], i: usize, mark: u32) -> bool
 pub fn mark_failed(work: &mut [u32], i: usize, mark: u32)
     ensures { λ _. ⌜ now (work .exit) ≡ withMarks (now (work .entry)) i (withMark (marksOf (now (work .entry)) i) mark) ⌝ }
 {
-    if i < work.len() / 4 {
-        let word = with_mark(work[4 * i + 3], mark);
-        work[4 * i + 3] = word;
-    }
+    let word = with_mark(marks_word(work, i), mark);
+    set_marks(work, i, word);
 }
 
 // The number of the mark of a matrix that failed.

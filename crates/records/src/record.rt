@@ -7,7 +7,7 @@ ghost use lib.ListN.{length, getD};
 ghost use Rattle.records.specs.Record.{placeOf, isPlaced, kindOf, startOf, lenOf};
 
 // The place of the token in the table, of an entry that has its words.
-fn place_at(work: &[u32], i: usize) -> usize
+pub(crate) fn place_at(work: &[u32], i: usize) -> usize
     requires { ⌜ 4 * i + 3 < length (now work) ⌝ }
     ensures { λ r. ⌜ r ≡ placeOf (now (work .entry)) i ⌝ }
     ensures { λ r. ⌜ r < 2 ^ 32 ⌝ }

@@ -1,13 +1,13 @@
 -- What a store into a record leaves.
 use Prim.Native.Nat.{ℕ, _+_, _*_, _≤_, _<_}
-use mathlib.Core.Path.{_≡_, refl}
+use mathlib.Core.Path.{_≡_, refl, sym}
 use mathlib.Core.Bool.{Bool, true, false, cond}
 use mathlib.Core.List.{List, [], _∷_}
 use native.Mathlib.Omega.{arith}
 use lib.ListN.{length, getD, set, length-set}
-use lib.Seq.{sets, getD-set-same, getD-set-other}
-use borrow.Author.Tests.{lt-ltb, le-ltb}
-use Rattle.records.specs.Record.{placeOf, afterClose, sepWord, marksOf, isWhole, withRecord, withField, withClose, withSep}
+use lib.Seq.{sets, set-out, getD-set-same, getD-set-other}
+use borrow.Author.Tests.{lt-ltb, le-ltb, ltb-false}
+use Rattle.records.specs.Record.{placeOf, afterClose, sepWord, marksOf, isWhole, withRecord, withField, withClose, withSep, withMarks}
 
 -- a new record
 module _ (K : List ℕ) (i place : ℕ) where
@@ -57,6 +57,15 @@ module _ (K : List ℕ) (i k w : ℕ) where
     pub field-marks : marksOf (withField K i k w) j ≡ marksOf K j
     unfolding marksOf
     field-marks = field-other (4 * j + 3) (λ z. omega arith)
+
+-- a record is whole exactly if its last word is there
+pub marks-stored : (K : List ℕ) (i w : ℕ) → withField K i 3 w ≡ withMarks K i w
+unfolding withField
+marks-stored K i w = go (isWhole K i) refl
+  where
+    go : (b : Bool) → isWhole K i ≡ b → cond b (set K (4 * i + 3) w) K ≡ withMarks K i w
+    go true p = refl
+    go false p = sym (set-out K (4 * i + 3) w (ltb-false (4 * i + 3) (length K) p))
 
 module _ (K : List ℕ) (i w : ℕ) where
   pub close-same : 4 * i + 3 < length K → afterClose (withClose K i w) i ≡ w

@@ -1,7 +1,7 @@
 // Stores into a record: where it is not whole, nothing is stored.
 ghost use mathlib.Core.Path.{_≡_};
 ghost use Prim.Native.Nat.{_<_};
-ghost use Rattle.records.specs.Record.{withRecord, withField, withClose, withSep};
+ghost use Rattle.records.specs.Record.{withRecord, withField, withClose, withSep, withMarks};
 
 // The record of the entry i at this place of the table, with no bracket matched and no mark set.
 pub fn put_record(work: &mut [u32], i: usize, place: u32)
@@ -37,4 +37,11 @@ pub fn set_sep(work: &mut [u32], i: usize, word: u32)
     ensures { λ _. ⌜ now (work .exit) ≡ withSep (now (work .entry)) i word ⌝ }
 {
     put_field(work, i, 2, word);
+}
+
+// The marks, see the crate `marks`.
+pub fn set_marks(work: &mut [u32], i: usize, word: u32)
+    ensures { λ _. ⌜ now (work .exit) ≡ withMarks (now (work .entry)) i word ⌝ }
+{
+    put_field(work, i, 3, word);
 }

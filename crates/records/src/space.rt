@@ -1,10 +1,11 @@
 // The Space directly before an entry.
+use crate::record::place_at;
 use tokens::kinds::SPACE;
 ghost use mathlib.Core.Bool.{cond};
 ghost use mathlib.Core.Path.{_≡_};
 ghost use Prim.Native.Nat.{_+_, _*_, _<_};
 ghost use lib.ListN.{length};
 ghost use Rattle.records.specs.Record.{placeOf, isPlaced, spaceWord, spaceStart, spaceLen};
 
 // A word of the Space directly before the token j, or 0.
 fn space_word(tok: &[u32], j: usize, k: usize) -> u32
@@ -27,7 +28,7 @@ fn space_before(tok: &[u32], work: &[u32], i: usize, k: usize) -> u32
     ensures { λ r. ⌜ r ≡ cond (isPlaced (now (tok .entry)) (now (work .entry)) i) (spaceWord (now (tok .entry)) (placeOf (now (work .entry)) i) k) 0 ⌝ }
 {
     if i < work.len() / 4 {
-        let j = work[4 * i] as usize;
+        let j = place_at(work, i);
         if 3 * j + 2 < tok.len() {
             space_word(tok, j, k)
         } else {

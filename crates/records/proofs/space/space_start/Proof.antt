@@ -1,8 +1,8 @@
--- `space_start`: a word of the Space before the entry.
+-- `space::space_start`: a word of the Space before the entry.
 use Rattle.records.specs.Record.{spaceStart}
 use borrow.Author.Needs.{needs}
-use Rattle.spaces.proofs.space_start.Statement.{statement}
-use Rattle.spaces.proofs.space_start.Tie as tie
+use Rattle.records.proofs.space.space_start.Statement.{statement}
+use Rattle.records.proofs.space.space_start.Tie as tie
 
 space-before-requires : tie.Need-space-before-requires
 space-before-requires c κs = search needs

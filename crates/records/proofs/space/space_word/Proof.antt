@@ -1,9 +1,9 @@
--- `space_word`: the token before the place, if it is a Space.
+-- `space::space_word`: the token before the place, if it is a Space.
 use Rattle.records.proofs.Places.{space-first, space-there, space-absent}
 use mathlib.Core.Path.{sym}
 use borrow.Author.Needs.{needs}
-use Rattle.spaces.proofs.space_word.Statement.{statement}
-use Rattle.spaces.proofs.space_word.Tie as tie
+use Rattle.records.proofs.space.space_word.Statement.{statement}
+use Rattle.records.proofs.space.space_word.Tie as tie
 
 sub-if2 : tie.Need-sub-if2
 sub-if2 c = search needs

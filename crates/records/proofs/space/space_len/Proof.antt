@@ -1,8 +1,8 @@
--- `space_len`: a word of the Space before the entry.
+-- `space::space_len`: a word of the Space before the entry.
 use Rattle.records.specs.Record.{spaceLen}
 use borrow.Author.Needs.{needs}
-use Rattle.spaces.proofs.space_len.Statement.{statement}
-use Rattle.spaces.proofs.space_len.Tie as tie
+use Rattle.records.proofs.space.space_len.Statement.{statement}
+use Rattle.records.proofs.space.space_len.Tie as tie
 
 space-before-requires : tie.Need-space-before-requires
 space-before-requires c κs = search needs
