@@ -67,6 +67,7 @@ fn leaf_class(k: u32) -> u32
     0
 }
 
+// Of the symbols, Glyph and Name do; a stray mark and a bar alone are glyphs.
 pub fn leaf_ends(k: u32) -> bool
     ensures { λ r. ⌜ r ≡ leafEnds k ⌝ }
 {

@@ -1,14 +1,22 @@
 // One line of the printed tree, from the words of its node.
-ghost use mathlib.Core.Path.{_≡_};
-ghost use lib.ListN.{getD, drop};
-ghost use Rattle.writer.specs.Put.{Put};
-ghost use Rattle.line.specs.Print.{nameOf, field, number, commas};
-ghost use Rattle.line.specs.Lines.{scriptOf, leftOf, rightOf, groupOf, matrixOf, linesOf, addedBy, startOf, lineOf};
+use tree::kinds::NODE_CELL;
+use tree::kinds::NODE_FRAC;
+use tree::kinds::NODE_FUNC;
+use tree::kinds::NODE_GROUP;
+use tree::kinds::NODE_MATRIX;
+use tree::kinds::NODE_MISSING;
+use tree::kinds::NODE_SIMPLE;
+use tree::kinds::NODE_SYMBOL;
 use tree::walk::Opened;
 use tree::walk::column_lines;
 use tree::walk::word;
 use writer::put_bytes;
 use writer::put_number;
+ghost use mathlib.Core.Path.{_≡_};
+ghost use lib.ListN.{getD, drop};
+ghost use Rattle.writer.specs.Put.{Put};
+ghost use Rattle.line.specs.Print.{nameOf, field, number, commas};
+ghost use Rattle.line.specs.Lines.{scriptOf, leftOf, rightOf, groupOf, matrixOf, linesOf, addedBy, startOf, lineOf};
 
 // The words from `head` on.
 fn own_words(words: &[u32], head: usize) -> &[u32]
@@ -56,10 +64,10 @@ fn put_left(own: &[u32], out: &mut [u8], at: usize, kind: u32) -> usize
     ensures { λ r. ⌜ Put (now (out .entry)) at (now (out .exit)) r (leftOf kind (getD (now (own .entry)) 1 0) (getD (now (own .entry)) 2 0)) ⌝ }
 {
     match kind {
-        0 => at,
-        13 => at,
-        17 => at,
-        18 => at,
+        NODE_MISSING => at,
+        NODE_SIMPLE => at,
+        NODE_CELL => at,
+        NODE_FRAC => at,
         _ => {
             let start = word(own, 1) as u64;
             let len = word(own, 2) as u64;
@@ -128,11 +136,11 @@ fn put_added(words: &[u32], own: &[u32], out: &mut [u8], at: usize, o: Opened) -
     let kind = o.kind;
     let x = word(own, 3);
     match kind {
-        7 => put_number(out, at, b" class=", x as u64),
-        13 | 14 => put_script(out, at, x),
-        15 => put_group(own, out, at, o.count),
-        16 => put_matrix(words, own, out, at, o),
-        17 => put_items(out, at, o.count),
+        NODE_SYMBOL => put_number(out, at, b" class=", x as u64),
+        NODE_SIMPLE | NODE_FUNC => put_script(out, at, x),
+        NODE_GROUP => put_group(own, out, at, o.count),
+        NODE_MATRIX => put_matrix(words, own, out, at, o),
+        NODE_CELL => put_items(out, at, o.count),
         _ => at,
     }
 }

@@ -15,10 +15,12 @@ roomFor work tree = min (work / 4) (tree / 32)
 unfoldable pub lackingFor : ℕ → ℕ → ℕ
 lackingFor n work = elim (ltb work (4 * (n + 1))) [ true ↦ 8 | false ↦ 9 ]
 
--- the number of the refusal, or none
+-- the answer of this refusal, or of none
 unfoldable pub roomOf : Option ℕ → Room
 roomOf (some k) = Refused k
 roomOf none = Enough
 
+-- the refusal by 8 or 9, if one meets them; it meets them exactly if n is roomFor or more, and is then lackingFor
+-- (proofs/Lengths.antt: one-short, room-enough)
 unfoldable pub roomAnswer : ℕ → ℕ → ℕ → Room
 roomAnswer n work tree = roomOf (roomRefusal n work tree)

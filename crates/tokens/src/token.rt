@@ -1,4 +1,21 @@
 // The kinds of tokens, as in the Rust's tokenizer.rs, and their numbers in the token table.
+use crate::kinds::BINARY;
+use crate::kinds::CLOSE_BRACKET;
+use crate::kinds::FRAC;
+use crate::kinds::FUNCTION;
+use crate::kinds::IDENT;
+use crate::kinds::NUMBER;
+use crate::kinds::OPEN_BRACKET;
+use crate::kinds::OPEN_CLOSE_BRACKET;
+use crate::kinds::OPERATOR;
+use crate::kinds::SEP;
+use crate::kinds::SIGN;
+use crate::kinds::SPACE;
+use crate::kinds::SUB;
+use crate::kinds::SUPER;
+use crate::kinds::SYMBOL;
+use crate::kinds::TEXT;
+use crate::kinds::UNARY;
 ghost use mathlib.Core.Path.{_≡_};
 ghost use Rattle.tokens.specs.Kinds.{classNumber, numberOf, tokenOf};
 
@@ -58,23 +75,23 @@ impl Token {
         ensures { λ r. ⌜ r ≡ numberOf self ⌝ }
     {
         match self {
-            Token::Frac => 0,
-            Token::Super => 1,
-            Token::Sub => 2,
-            Token::Sep => 3,
-            Token::Number => 4,
-            Token::Text => 5,
-            Token::Ident => 6,
-            Token::Operator => 7,
-            Token::Symbol(class) => 8 + class.number(),
-            Token::Sign => 16,
-            Token::Function => 17,
-            Token::Unary => 18,
-            Token::Binary => 19,
-            Token::OpenBracket => 20,
-            Token::CloseBracket => 21,
-            Token::OpenCloseBracket => 22,
-            Token::Space => 23,
+            Token::Frac => FRAC,
+            Token::Super => SUPER,
+            Token::Sub => SUB,
+            Token::Sep => SEP,
+            Token::Number => NUMBER,
+            Token::Text => TEXT,
+            Token::Ident => IDENT,
+            Token::Operator => OPERATOR,
+            Token::Symbol(class) => SYMBOL + class.number(),
+            Token::Sign => SIGN,
+            Token::Function => FUNCTION,
+            Token::Unary => UNARY,
+            Token::Binary => BINARY,
+            Token::OpenBracket => OPEN_BRACKET,
+            Token::CloseBracket => CLOSE_BRACKET,
+            Token::OpenCloseBracket => OPEN_CLOSE_BRACKET,
+            Token::Space => SPACE,
         }
     }
 
@@ -83,14 +100,14 @@ impl Token {
         ensures { λ r. ⌜ r ≡ tokenOf n ⌝ }
     {
         match n {
-            0 => Token::Frac,
-            1 => Token::Super,
-            2 => Token::Sub,
-            3 => Token::Sep,
-            4 => Token::Number,
-            5 => Token::Text,
-            6 => Token::Ident,
-            7 => Token::Operator,
+            FRAC => Token::Frac,
+            SUPER => Token::Super,
+            SUB => Token::Sub,
+            SEP => Token::Sep,
+            NUMBER => Token::Number,
+            TEXT => Token::Text,
+            IDENT => Token::Ident,
+            OPERATOR => Token::Operator,
             8 => Token::Symbol(SymbolClass::Glyph),
             9 => Token::Symbol(SymbolClass::Name),
             10 => Token::Symbol(SymbolClass::Joining),
@@ -99,14 +116,14 @@ impl Token {
             13 => Token::Symbol(SymbolClass::LeadingName),
             14 => Token::Symbol(SymbolClass::Space),
             15 => Token::Symbol(SymbolClass::Separator),
-            16 => Token::Sign,
-            17 => Token::Function,
-            18 => Token::Unary,
-            19 => Token::Binary,
-            20 => Token::OpenBracket,
-            21 => Token::CloseBracket,
-            22 => Token::OpenCloseBracket,
-            23 => Token::Space,
+            SIGN => Token::Sign,
+            FUNCTION => Token::Function,
+            UNARY => Token::Unary,
+            BINARY => Token::Binary,
+            OPEN_BRACKET => Token::OpenBracket,
+            CLOSE_BRACKET => Token::CloseBracket,
+            OPEN_CLOSE_BRACKET => Token::OpenCloseBracket,
+            SPACE => Token::Space,
             _ => Token::Space,
         }
     }
