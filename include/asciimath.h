@@ -23,8 +23,8 @@
  * ## Threads and stack
  *
  * The library has no state: any number of threads may call it, each with its own buffers. Depth of
- * recursion is limited whatever the text, and 256 KiB of stack are enough: 232,296 bytes at most were
- * measured, by any call, and 238,592 counted for a reading from the frames of the object code
+ * recursion is limited whatever the text, and 256 KiB of stack are enough: 226,152 bytes at most were
+ * measured, by any call, and 232,400 counted for a reading from the frames of the object code
  * (tools/robust). Neither is proved.
  *
  * ## Example
@@ -67,7 +67,7 @@ extern "C" {
 /* Words of a token table for so many tokens, those that are Space included. */
 #define ASCIIMATH_TABLE_WORDS(tokens) (3 * (size_t)(tokens))
 /* Words of work and of tree for n tokens other than Space. */
-#define ASCIIMATH_WORK_WORDS(n) (4 * ((size_t)(n) + 1))
+#define ASCIIMATH_WORK_WORDS(n) (2 * ((size_t)(n) + 1))
 #define ASCIIMATH_TREE_WORDS(n) (32 * ((size_t)(n) + 1))
 /* Bytes that any print of n tokens other than Space fits in: a print has at most 12 bytes for each
  * word of its tree, and a first line of at most 64. (Counted, not proved: a shorter or a longer

@@ -5,7 +5,7 @@
 
 SPELLINGS is tokenizer.rs of the original or the project's list of rows. Each family gives its
 fixed texts and then `count` random ones; the same arguments give the same texts. The families
-`lists`, `kinds`, `wild`, `bars` and `string_lists` are different: their lines are `HEX
+`lists`, `kinds`, `wild`, `bars`, `full` and `string_lists` are different: their lines are `HEX
 start,len,kind start,len,kind ..`, token lists over a text. They, `strings` and `examples` are not
 among the default families.
 """
@@ -401,14 +401,28 @@ def bar_list(make):
     return " ".join(part for part in [text.encode().hex(), start, *bars, end] if part)
 
 
+# what a list as long as can be repeats
+FULL = ["(", ")", "|", "()", "[(", "|(", "(,", "(|", "a)", "a ", "),", "x^", "(a,"]
+
+
+def full_lists():
+    """Lists of 4,096 tokens and one less, one unit again and again, with and without a closer at the end."""
+    for unit, count, end in itertools.product(FULL, (4095, 4096), ("", ")")):
+        tokens = [f"{at},1,{KINDS.get(piece, 6)}" for at, piece in enumerate(unit)]
+        closer = [f"{len(unit)},1,21"] * len(end)
+        many = itertools.islice(itertools.cycle(tokens), count - len(end))
+        yield " ".join([(unit + ")").encode().hex(), *many, *closer])
+
+
 FAMILIES = "spellings blanks numbers quotes commands bytes soup matrices expressions short deep nested all limits answers takes".split()
 LISTS = {"lists": token_list, "wild": wild_list, "bars": bar_list}
+FIXED_LISTS = {"kinds": kind_lists, "full": full_lists}
 
 
 def main():
     parser = argparse.ArgumentParser(description=__doc__.splitlines()[0])
     parser.add_argument("spellings")
-    parser.add_argument("--families", default=",".join(FAMILIES), help=f"default: %(default)s; also {', '.join(NAMED)}, string_lists, kinds, {', '.join(LISTS)}")
+    parser.add_argument("--families", default=",".join(FAMILIES), help=f"default: %(default)s; also {', '.join(NAMED)}, string_lists, {', '.join([*FIXED_LISTS, *LISTS])}")
     parser.add_argument("--seed", default="1")
     parser.add_argument("--count", type=int, default=1000, help="random texts of each family (%(default)s)")
     parser.add_argument("--max-length", type=int, default=200, help="bytes of a text at most (%(default)s)")
@@ -425,8 +439,8 @@ def main():
         if family == "string_lists":
             print(*(" ".encode().hex() + tokens for tokens in STRING_LISTS), sep="\n")
             continue
-        if family == "kinds":
-            print(*kind_lists(), sep="\n")
+        if family in FIXED_LISTS:
+            print(*FIXED_LISTS[family](), sep="\n")
             continue
         if family in LISTS:
             for _ in range(args.count):

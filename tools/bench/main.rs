@@ -127,7 +127,7 @@ const CALLS: [Call; 8] = [
                 input.bytes(),
                 &input.table,
                 input.tokens.len(),
-                &mut room.work[..4 * (input.others + 1)],
+                &mut room.work[..2 * (input.others + 1)],
                 &mut room.tree[..32 * (input.others + 1)],
                 &mut room.answer,
             ));
@@ -211,7 +211,7 @@ fn our_parse(input: &Input, room: &mut Room, table: usize, others: usize) {
     accepted(calls::parse(
         input.bytes(),
         &mut room.table[..table],
-        &mut room.work[..4 * (others + 1)],
+        &mut room.work[..2 * (others + 1)],
         &mut room.tree[..32 * (others + 1)],
         &mut room.answer,
     ));
@@ -371,7 +371,7 @@ fn main() {
         tokens: Vec::with_capacity(LONGEST),
         our_tokens: Vec::with_capacity(LONGEST),
         table: vec![0; 3 * LONGEST],
-        work: vec![0; 4 * (LONGEST + 1)],
+        work: vec![0; 2 * (LONGEST + 1)],
         tree: vec![0; 32 * (LONGEST + 1)],
         answer: [0; 4],
     };

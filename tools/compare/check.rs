@@ -192,7 +192,7 @@ impl<'a> Check<'a> {
         let others = self.answer.map_or(40, |answer| answer.others);
         Lent {
             table: Some(self.answer.map_or(120, |answer| answer.table.len())),
-            work: Some(4 * (others + 1)),
+            work: Some(2 * (others + 1)),
             tree: Some(32 * (others + 1)),
             print: Some(self.answer.map_or(500, |answer| answer.printed.len())),
         }

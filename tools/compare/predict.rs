@@ -23,9 +23,9 @@ fn of_text(text: &[u8]) -> Option<u32> {
     }
 }
 
-/// Work needs 4 × (n + 1) words, tree 32 × (n + 1).
+/// Work needs 2 × (n + 1) words, tree 32 × (n + 1).
 fn of_work_and_tree(others: usize, lent: &Lent) -> Option<u32> {
-    if short(lent.work, 4 * (others + 1)) {
+    if short(lent.work, 2 * (others + 1)) {
         Some(8)
     } else if short(lent.tree, 32 * (others + 1)) {
         Some(9)

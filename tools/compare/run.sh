@@ -37,7 +37,7 @@ many_texts() {
     corpus --families limits,soup,matrices,expressions,deep,nested,takes --count $((texts / 105)) --max-length 4100
 }
 many_lists() {
-    corpus --families kinds,lists,wild,bars --count $((lists / 4)) --max-length 120
+    corpus --families kinds,full,lists,wild,bars --count $((lists / 4)) --max-length 120
     corpus --families wild,bars --count $((lists / 8)) --max-length 4096
 }
 "$out/compare" "$seed" <(many_texts) <(many_lists)

@@ -51,7 +51,7 @@ fn any_text(length: usize, answer: &Answer, seed: u64) -> Situation {
     let more = |words: usize, tokens: usize| words as isize * (length as isize - tokens as isize);
     Situation {
         table: more(3, answer.table.len() / 3),
-        work: more(4, answer.others),
+        work: more(2, answer.others),
         tree: more(32, answer.others),
         ..plain(seed)
     }

@@ -9,7 +9,7 @@
  *     stack   how much stack each call needs, measured on a painted one
  */
 #define _GNU_SOURCE
-#include "../../include/asciimath.h"
+#include "cases.h"
 #include <inttypes.h>
 #include <pthread.h>
 #include <signal.h>
@@ -21,13 +21,7 @@
 
 enum { COUNT, TOKENS, PARSE, PARSE_TOKENS, PRINT, CALLS };
 static const char *const NAMES[CALLS] = {"count", "tokens", "parse", "parse_tokens", "print"};
-enum { PAGE = 4096, MOST = ASCIIMATH_MAX + 200 };
-
-/* A case: a text, and a table of words with a claimed count. */
-static uint8_t text[MOST];
-static uint32_t table[3 * MOST];
-static size_t text_len, table_len, count, others;
-static char *line;
+enum { PAGE = 4096 };
 
 static uint64_t made[11], seed = 1;
 
@@ -196,30 +190,6 @@ static void stack_calls(void) {
 }
 
 /* Cases. */
-static void tokens_of_text(void) {
-    uint64_t counts[2] = {0, 0};
-    if (asciimath_count(text, text_len, counts, 2) == 0)
-        asciimath_tokens(text, text_len, table, 3 * MOST, counts, 0);
-    count = counts[0];
-    others = counts[1];
-    table_len = 3 * count;
-}
-
-static int digit(char c) { return c <= '9' ? c - '0' : c - 'a' + 10; }
-
-static void case_of_line(void) {
-    char *at = line;
-    for (text_len = 0; *at && *at != ' ' && text_len < MOST; at += 2)
-        text[text_len++] = (uint8_t)(16 * digit(at[0]) + digit(at[1]));
-    tokens_of_text();
-    if (*at != ' ') return;
-    for (table_len = others = 0; *at == ' ' && table_len + 3 <= 3 * MOST; table_len += 3) {
-        for (size_t word = 0; word < 3; word++) table[table_len + word] = (uint32_t)strtoul(at + 1, &at, 10);
-        others += table[table_len + 2] != ASCIIMATH_TOKEN_SPACE;
-    }
-    count = table_len / 3;
-}
-
 static void random_case(void) {
     text_len = some(some(2) ? 40 : MOST);
     for (size_t i = 0; i < text_len; i++) text[i] = (uint8_t)some(256);

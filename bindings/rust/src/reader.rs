@@ -221,7 +221,7 @@ fn first<T: Clone + Default>(buffer: &mut Vec<T>, words: usize) -> &mut [T] {
 
 /// The words of work for so many tokens other than Space.
 const fn work_words(others: usize) -> usize {
-    4 * (others + 1)
+    2 * (others + 1)
 }
 
 /// The words of tree for so many tokens other than Space.

@@ -342,7 +342,7 @@ fn next(seed: &mut u64) -> usize {
 #[test]
 fn words_that_are_no_tree() {
     let text = "sin^2 x_1/2-[(a,|,b),(c,|,d)] (x) root 3 ? |y|";
-    let mut buffers = (vec![0; 150], vec![0; 400], vec![0; 3200], [0; 4]);
+    let mut buffers = (vec![0; 150], vec![0; 200], vec![0; 3200], [0; 4]);
     let (table, work, tree, answer) = &mut buffers;
     let code = asciimath::calls::parse(text.as_bytes(), table, work, tree, answer);
     assert_eq!(code, 0);

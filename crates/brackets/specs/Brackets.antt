@@ -4,7 +4,7 @@ use Prim.Native.Nat.{ℕ, _+_}
 use mathlib.Core.List.{List}
 use mathlib.Core.Bool.{Bool, true, false, cond}
 use lib.Dec.{eqb, ltb}
-use Rattle.records.specs.Record.{afterClose, sepWord, kindOf}
+use Rattle.records.specs.Record.{afterClose, sepOf, kindOf}
 use Rattle.lookahead.specs.Tests.{testAt, isKind}
 use Rattle.spans.specs.Spans.{sameAt, byteAt}
 
@@ -22,7 +22,7 @@ couldBeMatrixAt X t K n i =
     cond (testAt t K n (isKind 20) (i + 1))
     (cond (eqb (afterClose K (i + 1)) 0) false
     (cond (testAt t K n (isKind 3) (afterClose K (i + 1))) true
-    (cond (closesAt X t K n i (afterClose K (i + 1))) (eqb (sepWord K (i + 1)) 1) false)))
+    (cond (closesAt X t K n i (afterClose K (i + 1))) (eqb (sepOf K (i + 1)) 1) false)))
     false
 
 -- "Rows of `(` before text `}` make no matrix": rows that open at l, with the entry p behind them

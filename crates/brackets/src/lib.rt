@@ -1,6 +1,6 @@
 // Tests of brackets and bars, by their words and their texts.
 use fields::after_close;
-use fields::sep_word;
+use fields::sep_of;
 use lookahead::tests::is_at;
 use records::record::kind_at;
 use spans::is_byte;
@@ -53,7 +53,7 @@ pub fn could_be_matrix(text: &[u8], tok: &[u32], work: &[u32], n: usize, i: usiz
         } else if is_at(tok, work, n, after, SEP) {
             true
         } else if closes(text, tok, work, n, i, after) {
-            sep_word(work, row) == 1
+            sep_of(work, row) == 1
         } else {
             false
         }

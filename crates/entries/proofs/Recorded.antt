@@ -7,7 +7,7 @@ use mathlib.Core.Option.{Option, none, some}
 use native.Mathlib.Omega.{arith}
 use native.Mathlib.Nat.{add-zero, zero-add}
 use native.Mathlib.Numerals.{add-one}
-use lib.ListN.{length, getD, drop, getElem?, length-append, length-map, List·getD-append}
+use lib.ListN.{length, getD, drop, getElem?, length-append, length-map}
 use Rattle.tokens.specs.declared.token.Token.the-variants as token
 use Rattle.tokens.specs.Kinds.{numberOf}
 use Rattle.tokens.specs.Lexeme.{Span, Lexeme}
@@ -18,10 +18,11 @@ use Rattle.tokens.proofs.TokenList.{kind-space, kind-other, count-space, count-
 use Rattle.tree.specs.Tree.{nowhere}
 use Rattle.reading.specs.Entries.{Entry, is, entries, closeAfter, hasSep}
 use Rattle.reading.specs.Reading.{closeOf}
-use Rattle.records.specs.Record.{placeOf, afterClose, sepWord, marksOf, isPlaced, kindOf, startOf, lenOf, spaceWord, spaceStart, spaceLen}
+use Rattle.records.specs.Record.{InHalf, placeOf, afterClose, sepOf, marksOf, isPlaced, kindOf, startOf, lenOf, spaceWord, spaceStart, spaceLen}
 use Rattle.entries.specs.Prepared.{places, closeFrom, ofBracket, records, workWords}
+use Rattle.records.proofs.Halves.{Same, same-append, next-record, first-place, first-close, first-sep, first-marks}
 use Rattle.records.proofs.Places.{is-placed, space-first, space-there, space-absent}
-use Rattle.entries.proofs.Filling.{places-space, entries-space, places-other, entries-other, length-work}
+use Rattle.entries.proofs.Filling.{places-space, entries-space, places-other, entries-other, sep-small, length-work}
 
 -- the words of the record i
 record Fields (L : List ℕ) (i j : ℕ) (ps : List ℕ) (es : List Entry) : Type 0 where
@@ -29,23 +30,27 @@ record Fields (L : List ℕ) (i j : ℕ) (ps : List ℕ) (es : List Entry) : Typ
   there : getElem? es i ≡ some entry
   place : placeOf L i ≡ getD ps i 0
   close : afterClose L i ≡ ofBracket entry (closeFrom zero (suc (j + i)) (drop (suc i) es))
-  sep : sepWord L i ≡ ofBracket entry (cond (hasSep zero (drop (suc i) es)) 1 0)
+  sep : sepOf L i ≡ ofBracket entry (cond (hasSep zero (drop (suc i) es)) 1 0)
   marks : marksOf L i ≡ 0
 
-fields : (j i : ℕ) (ps : List ℕ) (es : List Entry) → i < length ps → i < length es → Fields (records j ps es) i j ps es
-unfolding records placeOf afterClose sepWord marksOf
-fields j i [] es h l = absurd (omega arith)
-fields j i (p ∷ ps) [] h l = absurd (omega arith)
-fields j zero (p ∷ ps) (e ∷ es) h l =
-    record { entry = e; there = refl; place = refl; close = rw (add-zero j); sep = refl; marks = refl }
-fields j (suc i) (p ∷ ps) (e ∷ es) h l =
-    let f = fields (suc j) i ps es (omega arith) (omega arith) in
-    let a : 4 * suc i ≡ suc (suc (suc (suc (4 * i)))) = omega arith in
-    let b : 4 * suc i + 1 ≡ suc (suc (suc (suc (4 * i + 1)))) = omega arith in
-    let c : 4 * suc i + 2 ≡ suc (suc (suc (suc (4 * i + 2)))) = omega arith in
-    let d : 4 * suc i + 3 ≡ suc (suc (suc (suc (4 * i + 3)))) = omega arith in
+fields : (j i : ℕ) (ps : List ℕ) (es : List Entry) → ((k : ℕ) → k < length ps → InHalf (getD ps k 0)) → i < length ps → i < length es → Fields (records j ps es) i j ps es
+unfolding records
+fields j i [] es s h l = absurd (omega arith)
+fields j i (p ∷ ps) [] s h l = absurd (omega arith)
+fields j zero (p ∷ ps) (e ∷ es) s h l =
+    record {
+      entry = e;
+      there = refl;
+      place = first-place p _ _ _ _ (s 0 h);
+      close = first-close p _ _ _ _ (s 0 h) ∙ rw (add-zero j);
+      sep = first-sep p _ _ _ _ (sep-small e (hasSep zero es));
+      marks = first-marks p _ _ _ _ (sep-small e (hasSep zero es));
+    }
+fields j (suc i) (p ∷ ps) (e ∷ es) s h l =
+    let f = fields (suc j) i ps es (λ k b. s (suc k) (omega arith)) (omega arith) (omega arith) in
+    let r = next-record p (ofBracket e (closeFrom zero (suc j) es)) (ofBracket e (cond (hasSep zero es) 1 0)) 0 (records (suc j) ps es) i in
     let k : suc (j + suc i) ≡ suc (suc j + i) = omega arith in
-    record { entry = f .entry; there = f .there; place = rw a (f .place); close = rw (b, k) (f .close); sep = rw c (f .sep); marks = rw d (f .marks) }
+    record { entry = f .entry; there = f .there; place = r .place ∙ f .place; close = r .close ∙ rw k (f .close); sep = r .sep ∙ f .sep; marks = r .marks ∙ f .marks }
 
 length-places : (j : ℕ) (ts : List Lexeme) → length (places j ts) ≡ countOthers ts
 unfolding places countOthers
@@ -101,8 +106,8 @@ pub record Recorded (count : ℕ) (table K : List ℕ) (es : List Entry) (i : �
   pub space : spaceStart table K i ≡ entry .space .start
   pub spaceSize : spaceLen table K i ≡ entry .space .len
   pub close : (text : List ℕ) → is token.OpenBracket entry ≡ true → afterClose K i ≡ behind (closeOf text es i)
-  pub sep : is token.OpenBracket entry ≡ true → sepWord K i ≡ cond (hasSep zero (drop (suc i) es)) 1 0
-  pub other : is token.OpenBracket entry ≡ false → (afterClose K i ≡ 0) × (sepWord K i ≡ 0)
+  pub sep : is token.OpenBracket entry ≡ true → sepOf K i ≡ cond (hasSep zero (drop (suc i) es)) 1 0
+  pub other : is token.OpenBracket entry ≡ false → (afterClose K i ≡ 0) × (sepOf K i ≡ 0)
   pub marks : marksOf K i ≡ 0
 
 -- the entries are those of the tokens at these places, which are in the table
@@ -148,20 +153,19 @@ module _ (count : ℕ) (table : List ℕ) (kinds : (j : ℕ) → j < count → g
       let q = placed count 0 (omega arith) in
       rw (tokens-all count table) (rw (w 0, w 1) at q)
 
-  module _ (words : 3 * count ≤ length table) (K rest : List ℕ) (work : K ≡ workWords (tokenList count table) ++ rest) (i : ℕ) (h : i < countOthers (tokenList count table)) where
-    word : (k : ℕ) → k < 4 → getD K (4 * i + k) 0 ≡ getD (workWords (tokenList count table)) (4 * i + k) 0
-    word k l = rw work (List·getD-append (workWords (tokenList count table)) rest 0 (4 * i + k) (omega (arith, length-work (tokenList count table))))
+  module _ (few : count ≤ 4096) (words : 3 * count ≤ length table) (K rest : List ℕ) (work : K ≡ workWords (tokenList count table) ++ rest) (i : ℕ) (h : i < countOthers (tokenList count table)) where
+    same : Same K i (workWords (tokenList count table)) i
+    same = rw work (same-append (workWords (tokenList count table)) rest i (omega (arith, length-work (tokenList count table))))
 
     row : Fields (workWords (tokenList count table)) i 0 (places 0 (tokenList count table)) (entries nowhere (tokenList count table))
     unfolding workWords
     row =
         let a = length-places 0 (tokenList count table) in
         let b = ap length (all-placed .made) ∙ length-map (places 0 (tokenList count table)) (entryAt table) in
-        fields 0 i (places 0 (tokenList count table)) (entries nowhere (tokenList count table)) (omega arith) (omega arith)
+        fields 0 i (places 0 (tokenList count table)) (entries nowhere (tokenList count table)) (λ k l. omega (arith, all-placed .inside k l)) (omega arith) (omega arith)
 
     place-is : placeOf K i ≡ getD (places 0 (tokenList count table)) i 0
-    unfolding placeOf
-    place-is = let e : 4 * i + 0 ≡ 4 * i = omega arith in rw e at (word 0 (omega arith)) ∙ row .place
+    place-is = same .place ∙ row .place
 
     listed : i < length (places 0 (tokenList count table))
     listed = omega (arith, length-places 0 (tokenList count table))
@@ -173,15 +177,13 @@ module _ (count : ℕ) (table : List ℕ) (kinds : (j : ℕ) → j < count → g
     entry-is = let p = row .there in let q = there-is in cc
 
     close-is : afterClose K i ≡ ofBracket (entryAt table (placeOf K i)) (closeFrom zero (suc i) (drop (suc i) (entries nowhere (tokenList count table))))
-    unfolding afterClose
-    close-is = word 1 (omega arith) ∙ row .close ∙ rw (entry-is, zero-add i)
+    close-is = same .close ∙ row .close ∙ rw (entry-is, zero-add i)
 
-    sep-is : sepWord K i ≡ ofBracket (entryAt table (placeOf K i)) (cond (hasSep zero (drop (suc i) (entries nowhere (tokenList count table)))) 1 0)
-    unfolding sepWord
-    sep-is = word 2 (omega arith) ∙ row .sep ∙ rw entry-is
+    sep-is : sepOf K i ≡ ofBracket (entryAt table (placeOf K i)) (cond (hasSep zero (drop (suc i) (entries nowhere (tokenList count table)))) 1 0)
+    sep-is = same .sep ∙ row .sep ∙ rw entry-is
 
     pub recorded : Recorded count table K (entries nowhere (tokenList count table)) i
-    unfolding kindOf startOf lenOf spaceStart spaceLen marksOf ofBracket
+    unfolding kindOf startOf lenOf spaceStart spaceLen ofBracket
     recorded =
         let l : placeOf K i < count = rw place-is (all-placed .inside i listed) in
         let p : isPlaced table K i ≡ true = is-placed table K i (omega (arith, ap length work, length-append (workWords (tokenList count table)) rest, length-work (tokenList count table))) (omega arith) in
@@ -197,5 +199,5 @@ module _ (count : ℕ) (table : List ℕ) (kinds : (j : ℕ) → j < count → g
           close = λ text o. close-is ∙ rw o (close-of text (entries nowhere (tokenList count table)) i);
           sep = λ o. sep-is ∙ rw o;
           other = λ o. (close-is ∙ rw o, sep-is ∙ rw o);
-          marks = word 3 (omega arith) ∙ row .marks;
+          marks = same .marks ∙ row .marks;
         }

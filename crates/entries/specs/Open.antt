@@ -1,19 +1,19 @@
--- The open brackets while they are matched: the close word of each holds the number behind the open bracket around it, or 0.
-use Prim.Native.Nat.{ℕ, zero, suc, _+_, _*_, _<_}
+-- The open brackets while they are matched: the close field of each holds the number behind the open bracket around it, or 0.
+use Prim.Native.Nat.{ℕ, zero, suc, _+_, _<_}
 use mathlib.Core.Path.{_≡_}
 use mathlib.Core.List.{List, [], _∷_, _++_}
 use lib.ListN.{drop}
 use Rattle.tokens.specs.Lexeme.{Lexeme}
 use Rattle.tokens.specs.Table.{countOthers}
-use Rattle.records.specs.Record.{afterClose, withClose, withSep}
+use Rattle.records.specs.Record.{recordWords, afterClose, withClose, withSep}
 use Rattle.entries.specs.Prepared.{workWords}
 
--- the open brackets below number b, last first, by the close words c; and the number behind the last, or 0
+-- the open brackets below number b, last first, by the close fields c; and the number behind the last, or 0
 pub data Chain (c : ℕ → ℕ) : ℕ → List ℕ → ℕ → Type 0 where
   none : {b : ℕ} → Chain c b [] zero
   more : {b s : ℕ} {st : List ℕ} → s < b → Chain c s st (c s) → Chain c b (s ∷ st) (suc s)
 
--- the close words of the open brackets cleared
+-- the close fields of the open brackets cleared
 abbrev pub clearAll : List ℕ → List ℕ → List ℕ
 clearAll [] K = K
 clearAll (s ∷ st) K = clearAll st (withClose K s 0)
@@ -35,4 +35,4 @@ pub record Opened (K : List ℕ) (top : ℕ) : Type 0 where
 pub record Filled (ts : List Lexeme) (J K : List ℕ) (top : ℕ) : Type 0 where
   pub stack : List ℕ
   pub chain : Chain (afterClose K) (countOthers ts) stack top
-  pub words : clearAll stack K ≡ workWords ts ++ drop (4 * countOthers ts) J
+  pub words : clearAll stack K ≡ workWords ts ++ drop (recordWords (countOthers ts)) J

@@ -11,6 +11,7 @@ use Rattle.tokens.specs.Lexeme.{Lexeme}
 use Rattle.tokens.specs.Table.{tokenList, countOthers}
 use Rattle.tree.specs.Tree.{nowhere}
 use Rattle.reading.specs.Entries.{Entry, is, entries, closeAfter, hasSep}
+use Rattle.records.specs.Record.{recordWords, recordOf}
 use Rattle.entries.specs.declared.Prepared.{Prepared}
 use Rattle.entries.specs.declared.Prepared.the-variants.{Entries, Refused}
 
@@ -34,13 +35,13 @@ unfoldable pub records : ℕ → List ℕ → List Entry → List ℕ
 records i [] es = []
 records i (p ∷ ps) [] = []
 records i (p ∷ ps) (e ∷ es) =
-    p ∷ ofBracket e (closeFrom zero (suc i) es) ∷ ofBracket e (cond (hasSep zero es) 1 0) ∷ 0 ∷ records (suc i) ps es
+    recordOf p (ofBracket e (closeFrom zero (suc i) es)) (ofBracket e (cond (hasSep zero es) 1 0)) 0 (records (suc i) ps es)
 
 unfoldable pub workWords : List Lexeme → List ℕ
 workWords ts = records zero (places zero ts) (entries nowhere ts)
 
--- "3 more than 4,096 tokens claimed, or a table with fewer than three words for each"; "8 work too short": "Work needs
--- 4 × (n + 1) words". A refusal changes nothing; words past the records are unchanged.
+-- "3 more than 4,096 tokens claimed, or a table with fewer than three words for each"; "8 work too short": "Two words a
+-- token, 2 × (n + 1) in all". A refusal changes nothing; words past the records are unchanged.
 unfoldable pub prepared : List ℕ → ℕ → List ℕ → Prepared × List ℕ
 prepared table count work =
     elim (ltb 4096 count) [
@@ -50,9 +51,9 @@ prepared table count work =
             | true ↦ (Refused 3, work)
             | false ↦
                 let ts = tokenList count table in
-                elim (ltb (length work) (4 * (countOthers ts + 1))) [
+                elim (ltb (length work) (recordWords (countOthers ts + 1))) [
                   | true ↦ (Refused 8, work)
-                  | false ↦ (Entries (countOthers ts), workWords ts ++ drop (4 * countOthers ts) work)
+                  | false ↦ (Entries (countOthers ts), workWords ts ++ drop (recordWords (countOthers ts)) work)
                 ]
           ]
     ]

@@ -1,5 +1,6 @@
 // Parser::new of parse.rs over lent words: a record for each token other than Space.
 use fields::after_close;
+use records::RECORD_WORDS;
 use stores::put_record;
 use stores::set_close;
 use stores::set_sep;
@@ -13,7 +14,7 @@ ghost use Prim.Native.Nat.{ℕ, _+_, _*_, _≤_};
 ghost use lib.Dec.{ltb};
 ghost use lib.ListN.{length};
 ghost use Rattle.tokens.specs.Table.{tokenList, countOthers};
-ghost use Rattle.records.specs.Record.{afterClose};
+ghost use Rattle.records.specs.Record.{recordWords, afterClose};
 ghost use Rattle.entries.specs.Prepared.{prepared};
 ghost use Rattle.entries.specs.Open.{Chain, Opened, clearAll, Link, Filled};
 
@@ -51,16 +52,16 @@ fn count_entries(table: &[u32], count: usize) -> usize
 fn is_short(table: &[u32], count: usize, words: usize) -> bool
     requires { ⌜ count ≤ 4096 ⌝ }
     requires { ⌜ 3 * count ≤ length (now table) ⌝ }
-    ensures { λ r. ⌜ r ≡ ltb words (4 * (countOthers (tokenList count (now (table .entry))) + 1)) ⌝ }
+    ensures { λ r. ⌜ r ≡ ltb words (recordWords (countOthers (tokenList count (now (table .entry))) + 1)) ⌝ }
 {
-    if count < words / 4 {
+    if count < words / RECORD_WORDS {
         return false;
     }
     let n = count_entries(table, count);
-    words < 4 * (n + 1)
+    words < RECORD_WORDS * (n + 1)
 }
 
-// Matches the entry i with the open brackets before it. Each open one's close word leads to the one around it.
+// Matches the entry i with the open brackets before it. Each open one's close field leads to the one around it.
 fn link(work: &mut [u32], i: usize, kind: u32, top: usize) -> usize
     requires { ⌜ i ≤ 4096 ⌝ }
     requires { ⌜ top ≤ i ⌝ }
@@ -89,7 +90,7 @@ fn link(work: &mut [u32], i: usize, kind: u32, top: usize) -> usize
 fn fill(table: &[u32], count: usize, work: &mut [u32]) -> Matched
     requires { ⌜ count ≤ 4096 ⌝ }
     requires { ⌜ 3 * count ≤ length (now table) ⌝ }
-    requires { ⌜ 4 * countOthers (tokenList count (now table)) ≤ length (now work) ⌝ }
+    requires { ⌜ recordWords (countOthers (tokenList count (now table))) ≤ length (now work) ⌝ }
     ensures { λ r. ⌜ Filled (tokenList count (now (table .entry))) (now (work .entry)) (now (work .exit)) (r .last) ⌝ }
     ensures { λ r. ⌜ r .entries ≡ countOthers (tokenList count (now (table .entry))) ⌝ }
 {
@@ -111,7 +112,7 @@ fn fill(table: &[u32], count: usize, work: &mut [u32]) -> Matched
     }
 }
 
-// Clears the close words of the brackets that nothing closes.
+// Clears the close fields of the brackets that nothing closes.
 fn clear_open(work: &mut [u32], last: usize)
     requires { ⌜ Opened (now work) last ⌝ }
     ensures { λ _. ⌜ ((st : List ℕ) → Chain (afterClose (now (work .entry))) last st last → now (work .exit) ≡ clearAll st (now (work .entry))) ⌝ }

@@ -1,16 +1,18 @@
-// The words of a record beside its token: the closing bracket, the Sep and the marks.
+// The fields of a record beside its token's place: the closing bracket, the Sep and the marks.
+use records::HALF;
+use records::RECORD_WORDS;
 ghost use mathlib.Core.Path.{_≡_};
 ghost use Prim.Native.Nat.{_+_, _*_, _<_};
 ghost use lib.ListN.{getD};
-ghost use Rattle.records.specs.Record.{afterClose, sepWord, marksOf};
+ghost use Rattle.records.specs.Record.{afterClose, sepOf, marksOf};
 
 // The word k of the record i, or 0 past the end.
-fn field(work: &[u32], i: usize, k: usize) -> u32
-    requires { ⌜ k < 4 ⌝ }
-    ensures { λ r. ⌜ r ≡ getD (now (work .entry)) (4 * i + k) 0 ⌝ }
+fn word(work: &[u32], i: usize, k: usize) -> u32
+    requires { ⌜ k < 2 ⌝ }
+    ensures { λ r. ⌜ r ≡ getD (now (work .entry)) (2 * i + k) 0 ⌝ }
 {
-    if i < (work.len() + (3 - k)) / 4 {
-        work[4 * i + k]
+    if i < (work.len() + (1 - k)) / RECORD_WORDS {
+        work[RECORD_WORDS * i + k]
     } else {
         0
     }
@@ -20,19 +22,19 @@ fn field(work: &[u32], i: usize, k: usize) -> u32
 pub fn after_close(work: &[u32], i: usize) -> usize
     ensures { λ r. ⌜ r ≡ afterClose (now (work .entry)) i ⌝ }
 {
-    field(work, i, 1) as usize
+    (word(work, i, 0) / HALF) as usize
 }
 
-// The word behind it: 1 if a Sep stands directly in the bracket.
-pub fn sep_word(work: &[u32], i: usize) -> u32
-    ensures { λ r. ⌜ r ≡ sepWord (now (work .entry)) i ⌝ }
+// 1 if a Sep stands directly in the bracket at i, or 0.
+pub fn sep_of(work: &[u32], i: usize) -> u32
+    ensures { λ r. ⌜ r ≡ sepOf (now (work .entry)) i ⌝ }
 {
-    field(work, i, 2)
+    word(work, i, 1) % HALF
 }
 
 // The marks of the entry i, see the crate `marks`.
-pub fn marks_word(work: &[u32], i: usize) -> u32
+pub fn marks_of(work: &[u32], i: usize) -> u32
     ensures { λ r. ⌜ r ≡ marksOf (now (work .entry)) i ⌝ }
 {
-    field(work, i, 3)
+    word(work, i, 1) / HALF
 }

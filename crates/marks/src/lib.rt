@@ -1,11 +1,11 @@
 // The marks of an entry: what was tried there and failed.
-use fields::marks_word;
+use fields::marks_of;
 use stores::set_marks;
 ghost use mathlib.Core.Path.{_≡_};
 ghost use Rattle.records.specs.Record.{marksOf, withMarks};
 ghost use Rattle.marks.specs.Marks.{isMarked, withMark, openMark};
 
-// The mark of this number (1, 2 or 4) in a mark word.
+// The mark of this number (1, 2 or 4) among an entry's marks, which are one number.
 fn is_marked(word: u32, mark: u32) -> bool
     ensures { λ r. ⌜ r ≡ isMarked word mark ⌝ }
 {
@@ -29,13 +29,13 @@ fn with_mark(word: u32, mark: u32) -> u32
 pub fn failed_at(work: &[u32], i: usize, mark: u32) -> bool
     ensures { λ r. ⌜ r ≡ isMarked (marksOf (now (work .entry)) i) mark ⌝ }
 {
-    is_marked(marks_word(work, i), mark)
+    is_marked(marks_of(work, i), mark)
 }
 
 pub fn mark_failed(work: &mut [u32], i: usize, mark: u32)
     ensures { λ _. ⌜ now (work .exit) ≡ withMarks (now (work .entry)) i (withMark (marksOf (now (work .entry)) i) mark) ⌝ }
 {
-    let word = with_mark(marks_word(work, i), mark);
+    let word = with_mark(marks_of(work, i), mark);
     set_marks(work, i, word);
 }
 

@@ -12,14 +12,15 @@ use Rattle.tree.specs.Tree.{Node}
 use Rattle.reading.specs.Stop.{Stop}
 use Rattle.reading.specs.Entries.{Entry}
 use Rattle.reading.specs.Reading.{State, M, Mark, openMark, matrixMark, slot, Try, made, lost, nought, failed, giveUp, attempt}
-use Rattle.records.specs.Record.{placeOf, afterClose, sepWord, marksOf}
+use Rattle.records.specs.Record.{InHalf, marksOf, Whole, withMarks}
+use Rattle.stores.proofs.Stores.{marks-length, marks-same, marks-other, place-of-marks, close-of-marks, sep-of-marks}
 use Rattle.marks.specs.Marks.{isMarked, withMark}
 use Rattle.parse.specs.Entry.{Kept, marksWord}
 use Rattle.parse.specs.Meet.{Input, Marks, At, Known}
 use Rattle.parse.proofs.Kit.{bind, ret, at-here, if-true, if-false, given-kept}
 use lib.Seq.{getD-set-same, getD-set-other}
 
--- the number of a mark in the mark word
+-- the number of a mark among the marks
 abbrev pub markNumber : Mark → ℕ
 markNumber (openMark Stop.none) = 1
 markNumber (openMark Stop.sep) = 2
@@ -68,7 +69,7 @@ marks-third false true false = (refl, refl)
 marks-third false false true = (refl, refl)
 marks-third false false false = (refl, refl)
 
--- the mark word of the entry i says whether it has failed
+-- the marks of the entry i say whether it has failed
 pub mark-is : {n : ℕ} {K : List ℕ} {l : List Bool} (m : Mark) (i : ℕ) → Marks n K l → i < n → isMarked (marksOf K i) (markNumber m) ≡ getD l (slot m i) false
 unfolding slot
 mark-is {l = l} (openMark Stop.none) i q h = ap (λ (w : ℕ). isMarked w 1) (q .words i h) ∙ (marks-first (getD l (3 * i) false) (getD l (3 * i + 1) false) (getD l (3 * i + 2) false)) .0
@@ -79,23 +80,8 @@ pub mark-below : {n : ℕ} {K : List ℕ} {l : List Bool} (i : ℕ) → Marks n 
 mark-below {l = l} i q h = omega (arith, q .words i h, marks-small (getD l (3 * i) false) (getD l (3 * i + 1) false) (getD l (3 * i + 2) false))
 
 -- a failed attempt sets it, and nothing else
-module _ (K : List ℕ) (i w : ℕ) (fit : 4 * i + 3 < length K) where
-  pub set-kept : Kept K (set K (4 * i + 3) w)
-  unfolding placeOf afterClose sepWord
-  set-kept = record {
-    long = length-set K (4 * i + 3) w;
-    place = λ j. getD-set-other K (4 * i + 3) (4 * j) w 0 (λ z. omega arith);
-    close = λ j. getD-set-other K (4 * i + 3) (4 * j + 1) w 0 (λ z. omega arith);
-    sep = λ j. getD-set-other K (4 * i + 3) (4 * j + 2) w 0 (λ z. omega arith);
-  }
-
-  set-own : marksOf (set K (4 * i + 3) w) i ≡ w
-  unfolding marksOf
-  set-own = getD-set-same K (4 * i + 3) w 0 fit
-
-  set-other : (j : ℕ) → (j ≡ i → ⊥) → marksOf (set K (4 * i + 3) w) j ≡ marksOf K j
-  unfolding marksOf
-  set-other j h = getD-set-other K (4 * i + 3) (4 * j + 3) w 0 (λ z. h (omega arith))
+pub marks-kept : (K : List ℕ) (i w : ℕ) → Kept K (withMarks K i w)
+marks-kept K i w = record { long = marks-length K i w; place = place-of-marks K i w; close = close-of-marks K i w; sep = sep-of-marks K i w }
 
 module _ (l : List Bool) (p : ℕ) where
   here-true : p < length l → getD (set l p true) p false ≡ true
@@ -104,13 +90,15 @@ module _ (l : List Bool) (p : ℕ) where
   there-same : (j : ℕ) → (j ≡ p → ⊥) → getD (set l p true) j false ≡ getD l j false
   there-same j h = getD-set-other l p j true false h
 
-own-word : (m : Mark) (i : ℕ) (l : List Bool) → 3 * i + 2 < length l
-    → withMark (marksWord (getD l (3 * i) false) (getD l (3 * i + 1) false) (getD l (3 * i + 2) false)) (markNumber m)
-    ≡ marksWord (getD (set l (slot m i) true) (3 * i) false) (getD (set l (slot m i) true) (3 * i + 1) false) (getD (set l (slot m i) true) (3 * i + 2) false)
+-- the three marks of the entry j as one number
+abbrev marksAt : List Bool → ℕ → ℕ
+marksAt l j = marksWord (getD l (3 * j) false) (getD l (3 * j + 1) false) (getD l (3 * j + 2) false)
+
+own-marks : (m : Mark) (i : ℕ) (l : List Bool) → 3 * i + 2 < length l → withMark (marksAt l i) (markNumber m) ≡ marksAt (set l (slot m i) true) i
 unfolding slot
-own-word (openMark Stop.none) i l h = (marks-first (getD l (3 * i) false) (getD l (3 * i + 1) false) (getD l (3 * i + 2) false)) .1 ∙ sym (rw (here-true l (3 * i) (omega arith), there-same l (3 * i) (3 * i + 1) (λ z. omega arith), there-same l (3 * i) (3 * i + 2) (λ z. omega arith)))
-own-word (openMark Stop.sep) i l h = (marks-second (getD l (3 * i) false) (getD l (3 * i + 1) false) (getD l (3 * i + 2) false)) .1 ∙ sym (rw (here-true l (3 * i + 1) (omega arith), there-same l (3 * i + 1) (3 * i) (λ z. omega arith), there-same l (3 * i + 1) (3 * i + 2) (λ z. omega arith)))
-own-word matrixMark i l h = (marks-third (getD l (3 * i) false) (getD l (3 * i + 1) false) (getD l (3 * i + 2) false)) .1 ∙ sym (rw (here-true l (3 * i + 2) (omega arith), there-same l (3 * i + 2) (3 * i) (λ z. omega arith), there-same l (3 * i + 2) (3 * i + 1) (λ z. omega arith)))
+own-marks (openMark Stop.none) i l h = (marks-first (getD l (3 * i) false) (getD l (3 * i + 1) false) (getD l (3 * i + 2) false)) .1 ∙ sym (rw (here-true l (3 * i) (omega arith), there-same l (3 * i) (3 * i + 1) (λ z. omega arith), there-same l (3 * i) (3 * i + 2) (λ z. omega arith)))
+own-marks (openMark Stop.sep) i l h = (marks-second (getD l (3 * i) false) (getD l (3 * i + 1) false) (getD l (3 * i + 2) false)) .1 ∙ sym (rw (here-true l (3 * i + 1) (omega arith), there-same l (3 * i + 1) (3 * i) (λ z. omega arith), there-same l (3 * i + 1) (3 * i + 2) (λ z. omega arith)))
+own-marks matrixMark i l h = (marks-third (getD l (3 * i) false) (getD l (3 * i + 1) false) (getD l (3 * i + 2) false)) .1 ∙ sym (rw (here-true l (3 * i + 2) (omega arith), there-same l (3 * i + 2) (3 * i) (λ z. omega arith), there-same l (3 * i + 2) (3 * i + 1) (λ z. omega arith)))
 
 slot-in : (m : Mark) (i j k : ℕ) → k < 3 → (j ≡ i → ⊥) → 3 * j + k ≡ slot m i → ⊥
 unfolding slot
@@ -118,36 +106,44 @@ slot-in (openMark Stop.none) i j k h d z = d (omega arith)
 slot-in (openMark Stop.sep) i j k h d z = d (omega arith)
 slot-in matrixMark i j k h d z = d (omega arith)
 
-other-word : (m : Mark) (i j : ℕ) (l : List Bool) → (j ≡ i → ⊥)
-    → marksWord (getD l (3 * j) false) (getD l (3 * j + 1) false) (getD l (3 * j + 2) false)
-    ≡ marksWord (getD (set l (slot m i) true) (3 * j) false) (getD (set l (slot m i) true) (3 * j + 1) false) (getD (set l (slot m i) true) (3 * j + 2) false)
-other-word m i j l d =
+other-marks : (m : Mark) (i j : ℕ) (l : List Bool) → (j ≡ i → ⊥) → marksAt l j ≡ marksAt (set l (slot m i) true) j
+other-marks m i j l d =
     sym (rw (there-same l (slot m i) (3 * j) (λ z. let y : 3 * j + 0 ≡ 3 * j = omega arith in slot-in m i j 0 (omega arith) d (y ∙ z)), there-same l (slot m i) (3 * j + 1) (slot-in m i j 1 (omega arith) d), there-same l (slot m i) (3 * j + 2) (slot-in m i j 2 (omega arith) d)))
 
-pub mark-set : {n : ℕ} {K : List ℕ} {l : List Bool} (m : Mark) (i : ℕ) → Marks n K l → i < n → 4 * i + 3 < length K
-    → Marks n (set K (4 * i + 3) (withMark (marksOf K i) (markNumber m))) (set l (slot m i) true)
+-- the words after a failed attempt m at i
+abbrev pub marked : List ℕ → Mark → ℕ → List ℕ
+marked K m i = withMarks K i (withMark (marksOf K i) (markNumber m))
+
+pub mark-set : {n : ℕ} {K : List ℕ} {l : List Bool} (m : Mark) (i : ℕ) → Marks n K l → i < n → Whole K i → Marks n (marked K m i) (set l (slot m i) true)
 mark-set {n} {K} {l} m i q h fit = record {
   held = length-set l (slot m i) true ∙ q .held;
   words = λ j k. go j k (eqb j i) refl;
 }
   where
-    go : (j : ℕ) → j < n → (b : Bool) → eqb j i ≡ b → marksOf (set K (4 * i + 3) (withMark (marksOf K i) (markNumber m))) j ≡ marksWord (getD (set l (slot m i) true) (3 * j) false) (getD (set l (slot m i) true) (3 * j + 1) false) (getD (set l (slot m i) true) (3 * j + 2) false)
+    own : withMark (marksOf K i) (markNumber m) ≡ marksAt (set l (slot m i) true) i
+    own = ap (λ (w : ℕ). withMark w (markNumber m)) (q .words i h) ∙ own-marks m i l (omega (arith, q .held))
+
+    small : InHalf (withMark (marksOf K i) (markNumber m))
+    small =
+        let r = set l (slot m i) true in
+        omega (arith, own, marks-small (getD r (3 * i) false) (getD r (3 * i + 1) false) (getD r (3 * i + 2) false))
+
+    go : (j : ℕ) → j < n → (b : Bool) → eqb j i ≡ b → marksOf (marked K m i) j ≡ marksAt (set l (slot m i) true) j
     go j k true e =
-        let z : j ≡ i = eqb-true j i e in
-        subst (λ (r : ℕ). marksOf (set K (4 * i + 3) (withMark (marksOf K i) (markNumber m))) r ≡ marksWord (getD (set l (slot m i) true) (3 * r) false) (getD (set l (slot m i) true) (3 * r + 1) false) (getD (set l (slot m i) true) (3 * r + 2) false)) (sym z)
-        (set-own K i (withMark (marksOf K i) (markNumber m)) fit ∙ ap (λ (w : ℕ). withMark w (markNumber m)) (q .words i h) ∙ own-word m i l (omega (arith, q .held)))
+        subst (λ (r : ℕ). marksOf (marked K m i) r ≡ marksAt (set l (slot m i) true) r) (sym (eqb-true j i e))
+        (marks-same K i (withMark (marksOf K i) (markNumber m)) fit small ∙ own)
     go j k false e =
         let d : (j ≡ i → ⊥) = eqb-false j i e in
-        set-other K i (withMark (marksOf K i) (markNumber m)) fit j d ∙ q .words j k ∙ other-word m i j l d
+        marks-other K i (withMark (marksOf K i) (markNumber m)) j d ∙ q .words j k ∙ other-marks m i j l d
 
 -- what the code's words are after it
-pub at-lost : {X t : List ℕ} {n : ℕ} {K L K₀ : List ℕ} {I : Input} {s v : State} {p u p₀ u₀ : ℕ} (m : Mark) (i : ℕ) → At X t n K p u I v → At X t n K₀ p₀ u₀ I s → i < n → 4 * i + 3 < length K
-    → L ≡ set K (4 * i + 3) (withMark (marksOf K i) (markNumber m)) → At X t n L p₀ u I (record { pos = s .pos; takes = v .takes; marks = set (v .marks) (slot m i) true })
-at-lost m i a a₀ h fit hl = rw hl (record { given = given-kept (set-kept _ i _ fit) (a .given); marks = mark-set m i (a .marks) h fit; pos = a₀ .pos; takes = a .takes })
+pub at-lost : {X t : List ℕ} {n : ℕ} {K L K₀ : List ℕ} {I : Input} {s v : State} {p u p₀ u₀ : ℕ} (m : Mark) (i : ℕ) → At X t n K p u I v → At X t n K₀ p₀ u₀ I s → i < n → Whole K i
+    → L ≡ marked K m i → At X t n L p₀ u I (record { pos = s .pos; takes = v .takes; marks = set (v .marks) (slot m i) true })
+at-lost m i a a₀ h fit hl = rw hl (record { given = given-kept (marks-kept _ i _) (a .given); marks = mark-set m i (a .marks) h fit; pos = a₀ .pos; takes = a .takes })
 
-pub known-lost : {X t : List ℕ} {n : ℕ} {K L : List ℕ} (m : Mark) (i : ℕ) → Known X t n K → i < n → 4 * i + 3 < length K
-    → L ≡ set K (4 * i + 3) (withMark (marksOf K i) (markNumber m)) → Known X t n L
-known-lost {K = K} m i k h fit hl = rw hl (record { input = k .input; marked = set (k .marked) (slot m i) true; given = given-kept (set-kept K i _ fit) (k .given); marks = mark-set m i (k .marks) h fit })
+pub known-lost : {X t : List ℕ} {n : ℕ} {K L : List ℕ} (m : Mark) (i : ℕ) → Known X t n K → i < n → Whole K i
+    → L ≡ marked K m i → Known X t n L
+known-lost {K = K} m i k h fit hl = rw hl (record { input = k .input; marked = set (k .marked) (slot m i) true; given = given-kept (marks-kept K i _) (k .given); marks = mark-set m i (k .marks) h fit })
 
 -- The definition's attempts.
 module _ (text : List ℕ) (es : List Entry) (m : Mark) (i : ℕ) (body : M Try) (s : State) where

@@ -18,7 +18,7 @@ use Rattle.parse.specs.declared.cursor.Step.the-variants.{Found, Nothing
 use Rattle.parse.specs.declared.cursor.Part.{Part}
 use Rattle.parse.specs.declared.cursor.Items.{Items}
 use Rattle.parse.specs.Buffer.{Wrote}
-use Rattle.records.specs.Record.{marksOf}
+use Rattle.records.specs.Record.{marksOf, Whole, withMarks}
 use Rattle.lookahead.specs.Tests.{testAt, isKind}
 use Rattle.spans.specs.Spans.{sameAt}
 use Rattle.brackets.specs.Brackets.{barAt}
@@ -31,7 +31,7 @@ use Rattle.parse.specs.Meet.{Input, Row, At, Known, readers, Intermediat
 use Rattle.parse.proofs.Buffer.{push, fill, seq, back}
 use Rattle.lookahead.proofs.Testing.{test-below}
 use Rattle.parse.proofs.Kit.{bind, ret, at-here, if-true, if-false, tick, at-tick, row-of, kept-refl, kept-trans, advance-took}
-use Rattle.parse.proofs.Attempts.{markNumber, mark-is, set-kept, at-lost, known-lost, attempt-known, attempt-made, attempt-lost, attempt-nought}
+use Rattle.parse.proofs.Attempts.{markNumber, mark-is, marks-kept, marked, at-lost, known-lost, attempt-known, attempt-made, attempt-lost, attempt-nought}
 use Rattle.parse.proofs.Loop.{bar-is}
 use Rattle.parse.proofs.Scripting.{closed-words, group-size}
 
@@ -165,12 +165,12 @@ module _ {X t : List ℕ} {n : ℕ} {K : List ℕ} (i : ℕ) (stop : Bool) {c : 
                 };
           }
 
-      pub bars-lost : {N w : List ℕ} {j : Part} → barAt X t J n i (g .cur .pos) ≡ false → 4 * i + 3 < length J → N ≡ set J (4 * i + 3) (withMark (marksOf J i) (entry.openMark stop)) → w ≡ sets z e (leafWords t N i 22)
+      pub bars-lost : {N w : List ℕ} {j : Part} → barAt X t J n i (g .cur .pos) ≡ false → Whole J i → N ≡ withMarks J i (withMark (marksOf J i) (entry.openMark stop)) → w ≡ sets z e (leafWords t N i 22)
           → j ≡ record { cur = rewound (c .pos) (g .cur); end = e + 6; ends = leafEnds 22 } → Bars X t n K N i stop c e x w j
       unfolding prefixes
       bars-lost {N} {w} {j} hm fit hn hw hj =
-          let hn2 : N ≡ set J (4 * i + 3) (withMark (marksOf J i) (markNumber (openMark (stopOf stop)))) = hn ∙ ap (λ (k : ℕ). set J (4 * i + 3) (withMark (marksOf J i) k)) (sym (number-open stop)) in
-          let kp : Kept J N = rw hn2 (set-kept J i _ fit) in
+          let hn2 : N ≡ marked J (openMark (stopOf stop)) i = hn ∙ ap (λ (k : ℕ). withMarks J i (withMark (marksOf J i) k)) (sym (number-open stop)) in
+          let kp : Kept J N = rw hn2 (marks-kept J i _) in
           rw (hj, hw) (record {
             moves = record { within = here-n; on = omega arith; depth = p .moves .depth; room = omega arith; long = length-sets z e (leafWords t N i 22) ∙ p .moves .long; kept = kept-trans (p .moves .kept) kp; known = known-lost (openMark (stopOf stop)) i (p .moves .known) inside fit hn2 };
             means = λ I s at en there.

@@ -13,9 +13,9 @@ use Rattle.tokenizer.specs.declared.TokenizedUnder.the-variants as under
 use Rattle.tokens.specs.Lexeme.{Lexeme}
 use Rattle.lexing.specs.Rules.{tokens}
 use Rattle.tokens.specs.Table.{tableWords, tokenList, countOthers}
-use Rattle.tokens.specs.Refusals.{Answer, accepted, refused, textRefusal, listRefusal, roomRefusal}
+use Rattle.tokens.specs.Refusals.{Answer, accepted, refused, textRefusal, listRefusal, entryWords, roomRefusal, roomRefusalBy}
 use Rattle.room.specs.Room.{roomFor, lackingFor}
-use Rattle.room.proofs.Lengths.{work-short, tree-short, one-short, room-enough}
+use Rattle.room.proofs.Lengths.{has-room, one-short, room-enough}
 use Rattle.tokenizer.specs.Call as call
 use Rattle.tokens.proofs.Cases.{by-lt, by-option}
 use Rattle.tokens.proofs.TokenList.{others-few}
@@ -27,6 +27,7 @@ use Rattle.lists.specs.declared.Checked.the-variants as list
 use Rattle.lists.specs.Checks.{answer, checked}
 use Rattle.tokens.proofs.Accepted as lists
 use Rattle.tokens.proofs.Accepted.{met}
+use Rattle.records.specs.Record.{recordWords}
 use Rattle.entries.specs.declared.Prepared.{Prepared}
 use Rattle.entries.specs.declared.Prepared.the-variants as records
 use Rattle.entries.specs.Prepared.{workWords, prepared}
@@ -36,15 +37,8 @@ use Rattle.parse.specs.declared.top.Reading.{Reading}
 use Rattle.parse.specs.Entry.{bit}
 use Rattle.parse.specs.Meet.{Given}
 use Rattle.parse.specs.Top.{TopReady, Reads}
-use Rattle.parse.specs.Call.{listAnswerOf, parseRefusal, parseTokensRefusal, values, workAfter, treeAfter, parsedText, parsedTokens}
+use Rattle.parse.specs.Call.{listAnswerOf, parseRefusal, parseRefusalBy, parseTokensRefusal, parseTokensRefusalBy, values, workAfter, treeAfter, parsedText, parsedTextBy, parsedTokens, parsedTokensBy}
 use Rattle.parse.proofs.Records.{inputOf, given, top-ready}
-
--- 8 and 9: the buffers' words, where neither is met
-has-room : (n work tree : ℕ) → roomRefusal n work tree ≡ none → (4 * (n + 1) ≤ work) × (32 * (n + 1) ≤ tree)
-has-room n work tree p =
-    by-lt work (4 * (n + 1))
-    (λ l. met p (work-short n work tree l))
-    (λ w. by-lt tree (32 * (n + 1)) (λ l. met p (tree-short n work tree w l)) (λ t. (w, t)))
 
 -- two answers that are not one
 pub apart : {A : Type 0} → _≡_ {A = ℕ} 0 1 → A
@@ -76,20 +70,20 @@ module _ (text table : List ℕ) (count : ℕ) (r : Checked) (c : r ≡ checked 
 -- the records of an accepted list
 module _ (text table : List ℕ) (count : ℕ) (work tree : List ℕ) (ok : listRefusal text count table ≡ none)
     (fit : roomRefusal (countOthers (tokenList count table)) (length work) (length tree) ≡ none) where
-  prepared-is : prepared table count work ≡ (records.Entries (countOthers (tokenList count table)), workWords (tokenList count table) ++ drop (4 * countOthers (tokenList count table)) work)
+  prepared-is : prepared table count work ≡ (records.Entries (countOthers (tokenList count table)), workWords (tokenList count table) ++ drop (recordWords (countOthers (tokenList count table))) work)
   unfolding prepared
   prepared-is =
       let a = lists.accepted text count table ok in
-      let h = has-room (countOthers (tokenList count table)) (length work) (length tree) fit in
+      let h = has-room entryWords (countOthers (tokenList count table)) (length work) (length tree) fit in
       rw (le-ltb 4096 count (a .few), prepared)
       (rw (le-ltb (length table) (3 * count) (a .words))
-      (rw (le-ltb (length work) (4 * (countOthers (tokenList count table) + 1)) (h .0))))
+      (rw (le-ltb (length work) (recordWords (countOthers (tokenList count table) + 1)) (h .0))))
 
   module _ (r : Prepared) (K : List ℕ) (c : (r, K) ≡ prepared table count work) where
     is : r ≡ records.Entries (countOthers (tokenList count table))
     is = ap (λ (p : Prepared × List ℕ). p .0) (c ∙ prepared-is)
 
-    words : K ≡ workWords (tokenList count table) ++ drop (4 * countOthers (tokenList count table)) work
+    words : K ≡ workWords (tokenList count table) ++ drop (recordWords (countOthers (tokenList count table))) work
     words = ap (λ (p : Prepared × List ℕ). p .1) (c ∙ prepared-is)
 
     pub not-refused : {A : Type 0} (k : ℕ) → r ≡ records.Refused k → A
@@ -101,7 +95,7 @@ module _ (text table : List ℕ) (count : ℕ) (work tree : List ℕ) (ok : list
 
       pub ready : length K ≡ length work → TopReady n text table K tree
       ready l =
-          let h = has-room (countOthers (tokenList count table)) (length work) (length tree) fit in
+          let h = has-room entryWords (countOthers (tokenList count table)) (length work) (length tree) fit in
           subst (λ (m : ℕ). TopReady m text table K tree) (sym n-is)
           (top-ready text table count ok K _ words (omega (arith, l)) tree (h .1))
 
@@ -114,37 +108,47 @@ unfolding blank
 blank-count text end = refl
 blank-count text (x ▸ l) = ne-eqb (suc (count l)) 0 (λ e. omega arith)
 
--- the call on a list
+-- the call on a list, by the words an entry has
+module _ (words : ℕ) (text table : List ℕ) (count : ℕ) where
+  module _ (work tree : ℕ) where
+    pub list-met : (k : ℕ) → listRefusal text count table ≡ some k → parseTokensRefusalBy words text table count work tree ≡ some k
+    unfolding parseTokensRefusalBy
+    list-met k e = rw (e, parseTokensRefusalBy)
+
+    pub list-room : listRefusal text count table ≡ none
+        → parseTokensRefusalBy words text table count work tree ≡ roomRefusalBy words (countOthers (tokenList count table)) work tree
+    unfolding parseTokensRefusalBy
+    list-room e = rw (e, parseTokensRefusalBy)
+
+  module _ (work tree : List ℕ) where
+    pub list-when-refused : (k : ℕ) → parseTokensRefusalBy words text table count (length work) (length tree) ≡ some k
+        → _≡_ {A = Answer × List ℕ × List ℕ} (refused k, work, tree) (parsedTokensBy words text table count work tree)
+    unfolding parsedTokensBy
+    list-when-refused k e = sym (rw (e, parsedTokensBy))
+
+    pub list-taken : parseTokensRefusalBy words text table count (length work) (length tree) ≡ none
+        → parsedTokensBy words text table count work tree
+        ≡ (accepted (values text (tokenList count table)), workAfter (length work), treeAfter text (tokenList count table) (length tree))
+    unfolding parsedTokensBy
+    list-taken e = rw (e, parsedTokensBy)
+
 module _ (text table : List ℕ) (count : ℕ) (work tree : List ℕ) where
-  pub list-when-refused : (k : ℕ) → parseTokensRefusal text table count (length work) (length tree) ≡ some k
-      → _≡_ {A = Answer × List ℕ × List ℕ} (refused k, work, tree) (parsedTokens text table count work tree)
-  unfolding parsedTokens
-  list-when-refused k e = sym (rw (e, parsedTokens))
-
-  pub list-taken : parseTokensRefusal text table count (length work) (length tree) ≡ none
-      → parsedTokens text table count work tree
-      ≡ (accepted (values text (tokenList count table)), workAfter (length work), treeAfter text (tokenList count table) (length tree))
-  unfolding parsedTokens
-  list-taken e = rw (e, parsedTokens)
-
   pub list-refused : (k : ℕ) → listRefusal text count table ≡ some k
       → _≡_ {A = Answer × List ℕ × List ℕ} (refused k, work, tree) (parsedTokens text table count work tree)
-  unfolding parseTokensRefusal
-  list-refused k e = list-when-refused k (rw (e, parseTokensRefusal))
+  list-refused k e = list-when-refused entryWords text table count work tree k (list-met entryWords text table count (length work) (length tree) k e)
 
   module _ (ok : listRefusal text count table ≡ none) where
     room-decides : parseTokensRefusal text table count (length work) (length tree) ≡ roomRefusal (countOthers (tokenList count table)) (length work) (length tree)
-    unfolding parseTokensRefusal
-    room-decides = rw (ok, parseTokensRefusal)
+    room-decides = list-room entryWords text table count (length work) (length tree) ok
 
     pub room-refused : (k : ℕ) → roomRefusal (countOthers (tokenList count table)) (length work) (length tree) ≡ some k
         → _≡_ {A = Answer × List ℕ × List ℕ} (refused k, work, tree) (parsedTokens text table count work tree)
-    room-refused k e = list-when-refused k (room-decides ∙ e)
+    room-refused k e = list-when-refused entryWords text table count work tree k (room-decides ∙ e)
 
     pub list-read : roomRefusal (countOthers (tokenList count table)) (length work) (length tree) ≡ none
         → parsedTokens text table count work tree
         ≡ (accepted (values text (tokenList count table)), workAfter (length work), treeAfter text (tokenList count table) (length tree))
-    list-read e = list-taken (room-decides ∙ e)
+    list-read e = list-taken entryWords text table count work tree (room-decides ∙ e)
 
     pub reads-list : roomRefusal (countOthers (tokenList count table)) (length work) (length tree) ≡ none
         → (r : Reading) (L y : List ℕ) → Reads (inputOf text (tokenList count table)) (length tree) y r → L ≡ replicate (length work) 0
@@ -161,40 +165,41 @@ others-within ts = subst (λ (us : List Lexeme). countOthers us ≤ length ts) (
 pub text-length : (text : List ℕ) → textRefusal text ≡ none → length text ≤ 4096
 text-length text ok = lists.accepted text _ _ (accepted-list text [] ok) .short
 
--- the refusals of a text
-module _ (text : List ℕ) (table work tree : ℕ) where
-  pub text-refused : (k : ℕ) → textRefusal text ≡ some k → parseRefusal text table work tree ≡ some k
-  unfolding parseRefusal
-  text-refused k e = rw (e, parseRefusal)
+-- the refusals of a text, by the words an entry has
+module _ (words : ℕ) (text : List ℕ) (table work tree : ℕ) where
+  pub text-refused : (k : ℕ) → textRefusal text ≡ some k → parseRefusalBy words text table work tree ≡ some k
+  unfolding parseRefusalBy
+  text-refused k e = rw (e, parseRefusalBy)
 
   module _ (ok : textRefusal text ≡ none) where
-    pub table-short : table < 3 * length (tokens text) → parseRefusal text table work tree ≡ some 7
-    unfolding parseRefusal
-    table-short h = rw (ok, parseRefusal) (rw (lt-ltb table (3 * length (tokens text)) h))
+    pub table-short : table < 3 * length (tokens text) → parseRefusalBy words text table work tree ≡ some 7
+    unfolding parseRefusalBy
+    table-short h = rw (ok, parseRefusalBy) (rw (lt-ltb table (3 * length (tokens text)) h))
 
-    pub table-long : 3 * length (tokens text) ≤ table → parseRefusal text table work tree ≡ roomRefusal (countOthers (tokens text)) work tree
-    unfolding parseRefusal
-    table-long h = rw (ok, parseRefusal) (rw (le-ltb table (3 * length (tokens text)) h))
+    pub table-long : 3 * length (tokens text) ≤ table → parseRefusalBy words text table work tree ≡ roomRefusalBy words (countOthers (tokens text)) work tree
+    unfolding parseRefusalBy
+    table-long h = rw (ok, parseRefusalBy) (rw (le-ltb table (3 * length (tokens text)) h))
 
-    pub none-short : parseRefusal text table work tree ≡ none → (3 * length (tokens text) ≤ table) × (roomRefusal (countOthers (tokens text)) work tree ≡ none)
+    pub none-short : parseRefusalBy words text table work tree ≡ none → (3 * length (tokens text) ≤ table) × (roomRefusalBy words (countOthers (tokens text)) work tree ≡ none)
     none-short p =
         by-lt table (3 * length (tokens text))
         (λ l. met p (table-short l))
         (λ l. (l, sym (table-long l) ∙ p))
 
--- the call on a text
-module _ (text table work tree : List ℕ) where
-  pub text-when-refused : (k : ℕ) → parseRefusal text (length table) (length work) (length tree) ≡ some k
-      → _≡_ {A = Answer × List ℕ × List ℕ × List ℕ} (refused k, table, work, tree) (parsedText text table work tree)
-  unfolding parsedText
-  text-when-refused k e = sym (rw (e, parsedText))
+-- the call on a text, by the words an entry has
+module _ (words : ℕ) (text table work tree : List ℕ) where
+  pub text-when-refused : (k : ℕ) → parseRefusalBy words text (length table) (length work) (length tree) ≡ some k
+      → _≡_ {A = Answer × List ℕ × List ℕ × List ℕ} (refused k, table, work, tree) (parsedTextBy words text table work tree)
+  unfolding parsedTextBy
+  text-when-refused k e = sym (rw (e, parsedTextBy))
 
-  pub text-read : parseRefusal text (length table) (length work) (length tree) ≡ none
-      → parsedText text table work tree
+  pub text-read : parseRefusalBy words text (length table) (length work) (length tree) ≡ none
+      → parsedTextBy words text table work tree
       ≡ (accepted (length (tokens text) ∷ values text (tokens text)), tableWords (tokens text) ++ drop (3 * length (tokens text)) table, workAfter (length work), treeAfter text (tokens text) (length tree))
-  unfolding parsedText
-  text-read e = rw (e, parsedText)
+  unfolding parsedTextBy
+  text-read e = rw (e, parsedTextBy)
 
+module _ (text table work tree : List ℕ) where
   -- what the tokenizer answers, case by case; the buffers have room for fewer than `room` tokens other than Space
   module _ (room : ℕ) where
     under-refused : (k : ℕ) → textRefusal text ≡ some k → call.tokenizedUnder text table room ≡ (under.Refused k, table)
@@ -253,8 +258,8 @@ module _ (text table work tree : List ℕ) where
     tokens-refused k q = go case
       where
         go : Case → _≡_ {A = Answer × List ℕ × List ℕ × List ℕ} (refused k, next, work, tree) (parsedText text table work tree)
-        go (refused-text j e p n) = let j-is : j ≡ k = cc in rw n (text-when-refused k (text-refused text _ _ _ k (e ∙ ap some j-is)))
-        go (short-table ok h p n) = let k-is : 7 ≡ k = cc in rw (n, ← k-is) (text-when-refused 7 (table-short text _ _ _ ok h))
+        go (refused-text j e p n) = let j-is : j ≡ k = cc in rw n (text-when-refused entryWords text table work tree k (text-refused entryWords text _ _ _ k (e ∙ ap some j-is)))
+        go (short-table ok h p n) = let k-is : 7 ≡ k = cc in rw (n, ← k-is) (text-when-refused entryWords text table work tree 7 (table-short entryWords text _ _ _ ok h))
         go (many ok h l p n) = apart cc
         go (all ok h l p n) = apart cc
 
@@ -270,8 +275,8 @@ module _ (text table work tree : List ℕ) where
         go (many ok h l p n) =
             let m-is : m ≡ countOthers (tokens text) = cc in
             rw (n, lacks, m-is)
-            (text-when-refused _
-            (table-long text _ _ _ ok h ∙ one-short (countOthers (tokens text)) (length work) (length tree) (omega (arith, b, l))))
+            (text-when-refused entryWords text table work tree _
+            (table-long entryWords text _ _ _ ok h ∙ one-short (countOthers (tokens text)) (length work) (length tree) (omega (arith, b, l))))
 
     module _ (m others : ℕ) (q : r ≡ under.Tokens m others)
         (b : room ≡ roomFor (length work) (length tree)) where
@@ -302,10 +307,10 @@ module _ (text table work tree : List ℕ) where
       next-is = facts .next-is
 
       fits : roomRefusal (countOthers (tokens text)) (length work) (length tree) ≡ none
-      fits = room-enough (countOthers (tokens text)) (length work) (length tree) (omega (arith, b, facts .few)) (omega (arith, b, facts .few))
+      fits = room-enough entryWords (countOthers (tokens text)) (length work) (length tree) (omega (arith, b, facts .few)) (omega (arith, b, facts .few))
 
       enough : parseRefusal text (length table) (length work) (length tree) ≡ none
-      enough = table-long text (length table) (length work) (length tree) ok (facts .long) ∙ fits
+      enough = table-long entryWords text (length table) (length work) (length tree) ok (facts .long) ∙ fits
 
       list-is : tokenList m next ≡ tokens text
       list-is = rw (m-is, next-is) (list-of-words (tokens text) (drop (3 * length (tokens text)) table))
@@ -333,4 +338,4 @@ module _ (text table work tree : List ℕ) where
             let v : takes ∷ items ∷ bit b ∷ [] ≡ values text (tokens text) = cc in
             let l : L ≡ workAfter (length work) = ap (λ (x : Answer × List ℕ × List ℕ). x .1) read-is in
             let t : y ≡ treeAfter text (tokens text) (length tree) = ap (λ (x : Answer × List ℕ × List ℕ). x .2) read-is in
-            rw (text-read enough, m-is, v, next-is, l, t)
+            rw (text-read entryWords text table work tree enough, m-is, v, next-is, l, t)

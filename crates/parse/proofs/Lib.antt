@@ -19,3 +19,4 @@ pub mod Wrapping
 pub mod Records
 pub mod Calls
 pub mod Theorems
+pub mod HalfWords

@@ -5,7 +5,7 @@ use mathlib.Core.List.{List, [], _∷_, _++_, append-assoc}
 use mathlib.Core.Option.{Option, none, some}
 use mathlib.Core.Bool.{Bool, true, false, not, _&&_, cond}
 use native.Mathlib.Omega.{arith}
-use lib.ListN.{length, length-append, getD, getElem?, set, take, drop}
+use lib.ListN.{length, length-append, getD, getElem?, take, drop}
 use lib.Dec.{eqb, ltb}
 use lib.Seq.{sets, length-sets, take-take, take-at, length-take-le, getD-take, getD-append-add}
 use borrow.Author.Tests.{ltb-true, ltb-false, eqb-true, eqb-false, eq-eqb, ne-eqb}
@@ -17,11 +17,11 @@ use Rattle.reading.specs.Reading.{State, M, matrixMark, made, lost, isAt, isByt
 use Rattle.parse.specs.declared.cursor.Cursor.{Cursor}
 use Rattle.parse.specs.declared.cursor.Step.the-variants.{Found, Nothing}
 use Rattle.parse.specs.Buffer.{Wrote}
-use Rattle.records.specs.Record.{afterClose, sepWord, marksOf, kindOf}
+use Rattle.records.specs.Record.{afterClose, sepOf, marksOf, kindOf, Whole}
 use Rattle.lookahead.specs.Tests.{testAt, isKind}
 use Rattle.spans.specs.Spans.{byteAt}
 use Rattle.brackets.specs.Brackets.{barAt, closesAt, couldBeMatrixAt, setAt, makesAt}
-use Rattle.marks.specs.Marks.{isMarked, withMark}
+use Rattle.marks.specs.Marks.{isMarked}
 use Rattle.nodes.specs.Nodes.{matrixWords}
 use Rattle.parse.specs.Entry.{Kept, bit}
 use Rattle.parse.specs.Meet.{Input, Row, linkNumber, Given, At, Known, readers, Moves, Misses, Each, TryMatrix, onward, rewound}
@@ -34,7 +34,7 @@ use Rattle.columns.specs.Columns.{cellsEnd}
 use Rattle.columns.specs.Rows as columns
 use Rattle.parse.specs.Columns.{SplitReady, MatrixAt, Splits}
 use Rattle.parse.specs.Matrix.{Broke, Filled, Fails, HasMatrix, rowsAt}
-use Rattle.parse.proofs.Attempts.{mark-is, set-kept, at-lost, known-lost, attempt-known, attempt-made, attempt-lost}
+use Rattle.parse.proofs.Attempts.{mark-is, marks-kept, marked, at-lost, known-lost, attempt-known, attempt-made, attempt-lost}
 use Rattle.parse.proofs.Cells.{took-any, cell-words}
 use Rattle.parse.proofs.Loop.{bar-is}
 use Rattle.parse.proofs.Rows.{is-at-is, byte-at}
@@ -170,7 +170,7 @@ module _ {X t : List ℕ} {n : ℕ} {K : List ℕ} {I : Input} (g : Given X t n 
             | false ↦ closes (I .text) (I .es) o i (suc c) && hasSep zero (drop (suc (suc i)) (I .es))
           ]
         ]
-      ] ≡ cond b (cond (eqb (afterClose K (suc i)) 0) false (cond (testAt t K n (isKind 3) (afterClose K (suc i))) true (cond (closesAt X t K n i (afterClose K (suc i))) (eqb (sepWord K (suc i)) 1) false))) false
+      ] ≡ cond b (cond (eqb (afterClose K (suc i)) 0) false (cond (testAt t K n (isKind 3) (afterClose K (suc i))) true (cond (closesAt X t K n i (afterClose K (suc i))) (eqb (sepOf K (suc i)) 1) false))) false
       go false e = refl
       go true e =
           let h : suc i < n = test-below t K n (isKind 20) (suc i) e in
@@ -234,12 +234,12 @@ module _ {X t : List ℕ} {n : ℕ} {K : List ℕ} (i : ℕ) (c : Cursor) (e : �
     )
 
     module _ (new : isMarked (marksOf K i) 4 ≡ false) (L y : List ℕ) (room : e + 20 + 32 * (n - c .pos) ≤ length x) where
-      lost-numbers : {N z : List ℕ} (d : Cursor) → d .depth ≡ c .depth → length z ≡ length x → Kept K L → Known X t n L → 4 * i + 3 < length L → N ≡ set L (4 * i + 3) (withMark (marksOf L i) 4)
+      lost-numbers : {N z : List ℕ} (d : Cursor) → d .depth ≡ c .depth → length z ≡ length x → Kept K L → Known X t n L → Whole L i → N ≡ marked L matrixMark i
           → Moves X t 0 0 0 n K N c e x z (rewound (c .pos) d) e
-      lost-numbers d hd long kp kn fit hn = record { within = here-n; on = omega arith; depth = hd; room = omega arith; long = long; kept = kept-trans kp (rw hn (set-kept L i _ fit)); known = known-lost matrixMark i kn inside fit hn }
+      lost-numbers d hd long kp kn fit hn = record { within = here-n; on = omega arith; depth = hd; room = omega arith; long = long; kept = kept-trans kp (rw hn (marks-kept L i _)); known = known-lost matrixMark i kn inside fit hn }
 
       lost-runs : {N z : List ℕ} {I : Input} {s u : State} {en : Entry} (d : Cursor) → At X t n K (c .pos) (c .takes) I s → getElem? (I .es) i ≡ some en → matrixBody (I .text) (I .es) true (readers (c .depth) I) en i s ≡ (lost, u)
-          → At X t n L (d .pos) (d .takes) I u → 4 * i + 3 < length L → N ≡ set L (4 * i + 3) (withMark (marksOf L i) 4) → Wrote x e z e []
+          → At X t n L (d .pos) (d .takes) I u → Whole L i → N ≡ marked L matrixMark i → Wrote x e z e []
           → Misses X t n N (tryMatrix (I .text) (I .es) true (readers (c .depth) I) en i) I s e x z (rewound (c .pos) d)
       unfolding tryMatrix
       lost-runs {I = I} {s = s} d at there run at2 fit hn wr = record {
@@ -250,7 +250,7 @@ module _ {X t : List ℕ} {n : ℕ} {K : List ℕ} (i : ℕ) (c : Cursor) (e : �
       }
 
       pub try-broken : {N : List ℕ} {d : Cursor} → Broke X t n K L c (e + 8) x y d → Each X t n K c (λ I s. Fails X t n L (rowsAt X t n (c .depth) I) I s (e + 8) x y d)
-          → 4 * i + 3 < length L → N ≡ set L (4 * i + 3) (withMark (marksOf L i) 4) → TryMatrix X t n K N i c e x y (Nothing (rewound (c .pos) d))
+          → Whole L i → N ≡ marked L matrixMark i → TryMatrix X t n K N i c e x y (Nothing (rewound (c .pos) d))
       unfolding matrixBody
       try-broken {d = d} b p fit hn = (
         lost-numbers d (b .depth) (b .long) (b .kept) (b .known) fit hn,
@@ -270,7 +270,7 @@ module _ {X t : List ℕ} {n : ℕ} {K : List ℕ} (i : ℕ) (c : Cursor) (e : �
             let q = p I s at in
             record { has = q; mat = subst (λ (w : List ℕ). MatrixAt (splitColumnLines w (I .es) (q .rows)) x (e + 8) z sp) (sym (at .given .text)) (sl .gives (I .es) (q .rows) x (q .all) (q .tree)) }
 
-        pub try-unmade : {N : List ℕ} → makesAt X t L n i l (sp .cells) (d .pos) ≡ false → 4 * i + 3 < length L → N ≡ set L (4 * i + 3) (withMark (marksOf L i) 4) → TryMatrix X t n K N i c e x z (Nothing (rewound (c .pos) d))
+        pub try-unmade : {N : List ℕ} → makesAt X t L n i l (sp .cells) (d .pos) ≡ false → Whole L i → N ≡ marked L matrixMark i → TryMatrix X t n K N i c e x z (Nothing (rewound (c .pos) d))
         unfolding matrixBody
         try-unmade h fit hn = (
           lost-numbers d (f .depth) (lz ∙ f .long) (f .kept) (f .known) fit hn,

@@ -20,7 +20,7 @@ use Rattle.bounds.proofs.Theorems.{entries-count}
 use Rattle.tokens.proofs.Accepted.{accepted}
 use Rattle.entries.specs.Prepared.{workWords}
 use Rattle.entries.proofs.Recorded.{Recorded, recorded, behind}
-use Rattle.records.specs.Record.{placeOf, isPlaced, kindOf, startOf, lenOf}
+use Rattle.records.specs.Record.{recordWords, placeOf, isPlaced, kindOf, startOf, lenOf}
 use Rattle.records.proofs.Places.{is-placed}
 use Rattle.parse.specs.Entry.{bit}
 use Rattle.parse.specs.Meet.{Input, Stands, Linked, Given, linkNumber}
@@ -41,7 +41,7 @@ same-link (some k) = refl
 module _ (text table : List ℕ) (count : ℕ) (ok : listRefusal text count table ≡ none) (K rest : List ℕ)
     (work : K ≡ workWords (tokenList count table) ++ rest) where
   at : (i : ℕ) → i < countOthers (tokenList count table) → Recorded count table K (entries nowhere (tokenList count table)) i
-  at i h = let a = accepted text count table ok in recorded count table (λ j l. a .sound j l .kind) (a .words) K rest work i h
+  at i h = let a = accepted text count table ok in recorded count table (λ j l. a .sound j l .kind) (a .few) (a .words) K rest work i h
 
   place : (i : ℕ) → i < countOthers (tokenList count table) → placeOf K i < count
   place i h = at i h .inside
@@ -65,14 +65,14 @@ module _ (text table : List ℕ) (count : ℕ) (ok : listRefusal text count tabl
   pub given : Given text table (countOthers (tokenList count table)) K (inputOf text (tokenList count table))
   given = record { text = refl; size = entries-count nowhere (tokenList count table); stands = stands; linked = linked }
 
-  spans : 4 * countOthers (tokenList count table) ≤ length K → (i : ℕ) → i < countOthers (tokenList count table) → startOf table K i + lenOf table K i ≤ length text
+  spans : recordWords (countOthers (tokenList count table)) ≤ length K → (i : ℕ) → i < countOthers (tokenList count table) → startOf table K i + lenOf table K i ≤ length text
   unfolding startOf lenOf
   spans fit i h =
       let a = accepted text count table ok in
       let p : isPlaced table K i ≡ true = is-placed table K i (omega arith) (omega (arith, place i h, a .words)) in
       rw p (a .sound (placeOf K i) (place i h) .span)
 
-  pub top-ready : 4 * countOthers (tokenList count table) ≤ length K → (tree : List ℕ) → 32 * (countOthers (tokenList count table) + 1) ≤ length tree
+  pub top-ready : recordWords (countOthers (tokenList count table)) ≤ length K → (tree : List ℕ) → 32 * (countOthers (tokenList count table) + 1) ≤ length tree
       → TopReady (countOthers (tokenList count table)) text table K tree
   top-ready fit tree room =
       let a = accepted text count table ok in

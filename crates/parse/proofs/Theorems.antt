@@ -7,7 +7,7 @@ use lib.ListN.{length}
 use Rattle.tokens.specs.Lexeme.{Lexeme}
 use Rattle.lexing.specs.Rules.{tokens}
 use Rattle.tokens.specs.Table.{tokenList}
-use Rattle.tokens.specs.Refusals.{Answer, accepted, refused}
+use Rattle.tokens.specs.Refusals.{Answer, accepted, refused, entryWords}
 use Rattle.tokens.proofs.Cases.{by-option}
 use Rattle.tree.specs.Tree.{count}
 use Rattle.tree.specs.Decode.{decode}
@@ -57,12 +57,12 @@ pub list-answered : (text table : List ℕ) (count : ℕ) (work tree : List ℕ)
 list-answered text table count work tree takes items blankness workLeft treeLeft e =
     by-option (parseTokensRefusal text table count (length work) (length tree))
     (λ p.
-    let q = sym e ∙ list-taken text table count work tree p in
+    let q = sym e ∙ list-taken entryWords text table count work tree p in
     let a : accepted (takes ∷ items ∷ blankness ∷ []) ≡ accepted (values text (tokenList count table)) = ap (λ (x : Answer × List ℕ × List ℕ). x .0) q in
     let v : takes ∷ items ∷ blankness ∷ [] ≡ values text (tokenList count table) = cc in
     answered text (tokenList count table) takes items blankness (length tree) treeLeft v (ap (λ (x : Answer × List ℕ × List ℕ). x .2) q))
     (λ k p.
-    let q = list-when-refused text table count work tree k p ∙ e in
+    let q = list-when-refused entryWords text table count work tree k p ∙ e in
     let a : refused k ≡ accepted (takes ∷ items ∷ blankness ∷ []) = ap (λ (x : Answer × List ℕ × List ℕ). x .0) q in
     apart cc)
 
@@ -73,12 +73,12 @@ pub text-answered : (text table work tree : List ℕ) (number takes items blankn
 text-answered text table work tree number takes items blankness tableLeft workLeft treeLeft e =
     by-option (parseRefusal text (length table) (length work) (length tree))
     (λ p.
-    let q = sym e ∙ text-read text table work tree p in
+    let q = sym e ∙ text-read entryWords text table work tree p in
     let a : accepted (number ∷ takes ∷ items ∷ blankness ∷ []) ≡ accepted (length (tokens text) ∷ values text (tokens text)) = ap (λ (x : Answer × List ℕ × List ℕ × List ℕ). x .0) q in
     let n : number ≡ length (tokens text) = cc in
     let v : takes ∷ items ∷ blankness ∷ [] ≡ values text (tokens text) = cc in
     (n, answered text (tokens text) takes items blankness (length tree) treeLeft v (ap (λ (x : Answer × List ℕ × List ℕ × List ℕ). x .3) q)))
     (λ k p.
-    let q = text-when-refused text table work tree k p ∙ e in
+    let q = text-when-refused entryWords text table work tree k p ∙ e in
     let a : refused k ≡ accepted (number ∷ takes ∷ items ∷ blankness ∷ []) = ap (λ (x : Answer × List ℕ × List ℕ × List ℕ). x .0) q in
     apart cc)

@@ -16,12 +16,12 @@ use Rattle.reading.specs.Entries.{Entry, is}
 use Rattle.reading.specs.Reading.{State, advance, level, intermediates, unscripted, endsOperand, endsFirst, look, prefixes, parse, parseEntries, lastOf}
 use Rattle.parse.specs.declared.cursor.Cursor.{Cursor}
 use Rattle.parse.specs.declared.cursor.Items.{Items}
-use Rattle.records.specs.Record.{placeOf, afterClose, sepWord, marksOf, kindOf, startOf, lenOf, withClose, withSep}
+use Rattle.records.specs.Record.{afterClose, sepOf, marksOf, kindOf, startOf, lenOf, InHalf, Whole, withClose, withSep}
 use Rattle.lookahead.specs.Tests.{testAt, isKind}
 use Rattle.parse.specs.Entry.{Safe, Kept}
 use Rattle.parse.specs.Meet.{Input, Row, Given, Marks, At, Known, Intermediates, lastAfter, isNone, onward, seen}
 use Rattle.lookahead.proofs.Testing.{test-below}
-use Rattle.stores.proofs.Stores.{field-length, field-place, field-marks, close-same, close-other, sep-same, sep-other, close-of-sep, sep-of-close}
+use Rattle.stores.proofs.Stores.{close-length, close-same, close-other, place-of-close, sep-of-close, marks-of-close, sep-length, sep-same, sep-other, place-of-sep, close-of-sep, marks-of-sep}
 use Rattle.parse.proofs.Whole.{whole-items}
 use Rattle.parse.proofs.Kit.{bind, ret, tick, at-tick, same-kind, same-start, same-len, same-row, Places, safe-same, safe-kept, took, passed, test-kind, same-is}
 use Rattle.parse.specs.Top.{Wrap, Chained, wrapWords, wrapsWords, TopReady, Topped}
@@ -29,36 +29,24 @@ use Rattle.parse.proofs.Scripting.{count-append}
 use Rattle.parse.proofs.Loop.{encodeItems-append, last-append}
 
 -- A wrap noted: only two words of its closing bracket change.
-module _ (K : List ℕ) (i a k : ℕ) (fit : 4 * i + 3 < length K) where
+module _ (K : List ℕ) (i a k : ℕ) where
   abbrev closed : List ℕ
   closed = withClose K i a
 
   abbrev noted : List ℕ
   noted = withSep closed i k
 
-  noted-long : length noted ≡ length K
-  noted-long = field-length closed i 2 k ∙ field-length K i 1 a
-
-  noted-place : (j : ℕ) → placeOf noted j ≡ placeOf K j
-  noted-place j = field-place closed i 2 k (omega arith) (omega arith) j ∙ field-place K i 1 a (omega arith) (omega arith) j
-
   pub noted-places : Places K noted
-  noted-places = record { long = noted-long; place = noted-place }
+  noted-places = record { long = sep-length closed i k ∙ close-length K i a; place = λ j. place-of-sep closed i k j ∙ place-of-close K i a j }
 
   noted-marks : (j : ℕ) → marksOf noted j ≡ marksOf K j
-  noted-marks j = field-marks closed i 2 k (omega arith) (omega arith) j ∙ field-marks K i 1 a (omega arith) (omega arith) j
+  noted-marks j = marks-of-sep closed i k j ∙ marks-of-close K i a j
 
   noted-close : (j : ℕ) → (j ≡ i → ⊥) → afterClose noted j ≡ afterClose K j
   noted-close j h = close-of-sep closed i k j ∙ close-other K i a j h
 
-  noted-sep : (j : ℕ) → (j ≡ i → ⊥) → sepWord noted j ≡ sepWord K j
+  noted-sep : (j : ℕ) → (j ≡ i → ⊥) → sepOf noted j ≡ sepOf K j
   noted-sep j h = sep-other closed i k j h ∙ sep-of-close K i a j
-
-  own-close : afterClose noted i ≡ a
-  own-close = close-of-sep closed i k i ∙ close-same K i a fit
-
-  own-sep : sepWord noted i ≡ k
-  own-sep = sep-same closed i k (omega (arith, field-length K i 1 a, fit))
 
   pub given-noted : {X t : List ℕ} {n : ℕ} {I : Input} → kindOf t K i ≡ 21 → Given X t n K I → Given X t n noted I
   given-noted {X} {t} kd q = record {
@@ -84,12 +72,20 @@ module _ (K : List ℕ) (i a k : ℕ) (fit : 4 * i + 3 < length K) where
       let d : (last ≡ i → ⊥) = λ z. omega (arith, c .1) in
       (c .0, c .1, noted-sep last d ∙ c .2, subst (λ (p : ℕ). Chained noted last p ws) (sym (noted-close last d)) (chained-below last (afterClose K last) ws (omega (arith, c .1)) (c .3)))
 
-  pub chained-more : (b : ℕ) (ws : List Wrap) → b ≤ i → Chained K b a ws → Chained noted (i + 1) i (record { closer = i; items = k } ∷ ws)
-  chained-more b ws h c = (refl, omega arith, own-sep, subst (λ (p : ℕ). Chained noted i p ws) (sym own-close) (weaken b i a ws h (chained-below b a ws h c)))
-    where
-      weaken : (b b2 last : ℕ) (ws : List Wrap) → b ≤ b2 → Chained noted b last ws → Chained noted b2 last ws
-      weaken b b2 last [] h c = tt
-      weaken b b2 last (w ∷ ws) h c = (c .0, omega (arith, c .1), c .2, c .3)
+  -- both numbers fit in their halves
+  module _ (fit : Whole K i) (small : InHalf a) (few : InHalf k) where
+    own-close : afterClose noted i ≡ a
+    own-close = close-of-sep closed i k i ∙ close-same K i a fit small
+
+    own-sep : sepOf noted i ≡ k
+    own-sep = sep-same closed i k (omega (arith, close-length K i a, fit)) few
+
+    pub chained-more : (b : ℕ) (ws : List Wrap) → b ≤ i → Chained K b a ws → Chained noted (i + 1) i (record { closer = i; items = k } ∷ ws)
+    chained-more b ws h c = (refl, omega arith, own-sep, subst (λ (p : ℕ). Chained noted i p ws) (sym own-close) (weaken b i a ws h (chained-below b a ws h c)))
+      where
+        weaken : (b b2 last : ℕ) (ws : List Wrap) → b ≤ b2 → Chained noted b last ws → Chained noted b2 last ws
+        weaken b b2 last [] h c = tt
+        weaken b b2 last (w ∷ ws) h c = (c .0, omega (arith, c .1), c .2, c .3)
 
 chained-kept : {K L : List ℕ} (b last : ℕ) (ws : List Wrap) → Kept K L → Chained K b last ws → Chained L b last ws
 chained-kept b last [] p c = tt
@@ -327,9 +323,8 @@ module _ {X t : List ℕ} {n : ℕ} {K₀ K L x y y2 : List ℕ} {cur : Cursor} 
         let at₀ = g .cur .pos in
         let c₀ = num + g .count in
         let sl = safe-kept (p .moves .kept) (i .safe) in
-        let fit : 4 * at₀ + 3 < length L = sl .placed at₀ b .fit in
         let kd : kindOf t L at₀ ≡ 21 = eqb-true (kindOf t L at₀) 21 (test-kind t L n (isKind 21) at₀ true b h) in
-        let pl = noted-places L at₀ last c₀ fit in
+        let pl = noted-places L at₀ last c₀ in
         let kn = p .moves .known in
         record {
           within = omega arith;
@@ -342,10 +337,10 @@ module _ {X t : List ℕ} {n : ℕ} {K₀ K L x y y2 : List ℕ} {cur : Cursor} 
           small = omega arith;
           started = λ z. absurd-bool (sym z);
           safe = safe-same pl sl;
-          known = record { input = kn .input; marked = kn .marked; given = given-noted L at₀ last c₀ fit kd (kn .given); marks = marks-noted L at₀ last c₀ fit (kn .marks) };
+          known = record { input = kn .input; marked = kn .marked; given = given-noted L at₀ last c₀ kd (kn .given); marks = marks-noted L at₀ last c₀ (kn .marks) };
           list = record { closer = at₀; items = c₀ } ∷ i .list;
           size = omega (arith, i .size);
-          chain = chained-more L at₀ last c₀ fit (cur .pos) (i .list) (omega (arith, p .moves .on)) (chained-kept (cur .pos) last (i .list) (p .moves .kept) (i .chain));
+          chain = chained-more L at₀ last c₀ (sl .placed at₀ b .fit) (omega (arith, i .small, i .safe .few)) (omega (arith, i .few, p .few, i .safe .few)) (cur .pos) (i .list) (omega (arith, p .moves .on)) (chained-kept (cur .pos) last (i .list) (p .moves .kept) (i .chain));
           along = λ I g₀.
               let a = i .along I g₀ in
               let q = turn I a in
@@ -361,7 +356,7 @@ module _ {X t : List ℕ} {n : ℕ} {K₀ K L x y y2 : List ℕ} {cur : Cursor} 
                     ∙ parse-wrap (I .text) (I .es) (a .left) (a .acc) (q .l) (a .state) (q .u) (tick (q .u)) (q .run) (256 - (wraps + 1)) (v .0 .entry) (v .1)
                     ∙ ap (λ (k : ℕ). parse (I .text) (I .es) true k (256 - (wraps + 1)) new (tick (q .u))) l1;
                 enough = omega (arith, l1, a .enough, p .moves .on);
-                at = let t2 = at-tick (q .at) in record { given = given-noted L at₀ last c₀ fit kd (t2 .given); marks = marks-noted L at₀ last c₀ fit (t2 .marks); pos = t2 .pos; takes = t2 .takes };
+                at = let t2 = at-tick (q .at) in record { given = given-noted L at₀ last c₀ kd (t2 .given); marks = marks-noted L at₀ last c₀ (t2 .marks); pos = t2 .pos; takes = t2 .takes };
                 words = wrap-words (v .0 .entry) (a .acc ⧺ q .l) (v .0 .row) (q .number) ∙ ap (λ (w : List ℕ). wrapWords c₀ (startOf t L at₀) (lenOf t L at₀) ++ w) (q .words)
                     ∙ sym (append-assoc (wrapWords c₀ (startOf t L at₀) (lenOf t L at₀)) (wrapsWords t L (i .list)) (take (g .end) y2))
                     ∙ ap (λ (w : List ℕ). w ++ take (g .end) y2) (sym (wraps-same t (record { closer = at₀; items = c₀ } ∷ i .list) pl));

@@ -11,7 +11,7 @@ use Rattle.tree.specs.Words.{encodeItems}
 use Rattle.reading.specs.Entries.{Entry}
 use Rattle.reading.specs.Reading.{State, parseEntries}
 use Rattle.parse.specs.Buffer.{Wrote}
-use Rattle.records.specs.Record.{afterClose, sepWord, startOf, lenOf}
+use Rattle.records.specs.Record.{afterClose, sepOf, startOf, lenOf}
 use Rattle.parse.specs.Meet.{Input, Given}
 use Rattle.parse.proofs.Buffer.{fill}
 use Rattle.buffer.specs.Buffer.{shifted}
@@ -79,7 +79,7 @@ putting-none t K n wraps last x = record {
 -- a wrap is left
 pub record Next (t K : List ℕ) (n : ℕ) (ws : List Wrap) (x y : List ℕ) (i k : ℕ) : Type 0 where
   pub small : i < n
-  pub step : Stage t K n ws x (sets y (13 * k) (wrapWords (sepWord K i) (startOf t K i) (lenOf t K i))) (afterClose K i) (k + 1)
+  pub step : Stage t K n ws x (sets y (13 * k) (wrapWords (sepOf K i) (startOf t K i) (lenOf t K i))) (afterClose K i) (k + 1)
 
 next-of : {t K : List ℕ} {n : ℕ} {ws : List Wrap} {x y : List ℕ} {i k : ℕ} (d r : List Wrap) (b : ℕ) → ws ≡ d ++ r → length d ≡ k → Chained K b i r → b ≤ n → y ≡ sets x 0 (wrapsWords t K d) → k < length ws → Next t K n ws x y i k
 next-of {ws = ws} {k = k} d [] b j h c l e s = absurd (omega (arith, ap length j, length-append d []))
@@ -95,9 +95,9 @@ next-of {t} {K} {n} {ws} {x} {y} {i} {k} d (w ∷ r) b j h c l e s =
         number = length-append d (w ∷ []) ∙ omega (arith, h);
         chain = c .3;
         least = omega (arith, c .1);
-        tree = ap (λ (v : List ℕ). sets v (13 * k) (wrapWords (sepWord K i) (startOf t K i) (lenOf t K i))) e
-            ∙ ap (λ (p : ℕ). sets (sets x 0 (wrapsWords t K d)) p (wrapWords (sepWord K i) (startOf t K i) (lenOf t K i))) ln
-            ∙ sym (sets-append x 0 (wrapsWords t K d) (wrapWords (sepWord K i) (startOf t K i) (lenOf t K i)))
+        tree = ap (λ (v : List ℕ). sets v (13 * k) (wrapWords (sepOf K i) (startOf t K i) (lenOf t K i))) e
+            ∙ ap (λ (p : ℕ). sets (sets x 0 (wrapsWords t K d)) p (wrapWords (sepOf K i) (startOf t K i) (lenOf t K i))) ln
+            ∙ sym (sets-append x 0 (wrapsWords t K d) (wrapWords (sepOf K i) (startOf t K i) (lenOf t K i)))
             ∙ ap (λ (v : List ℕ). sets x 0 (wrapsWords t K d ++ v)) (sym (one-wrap t K w ∙ rw (c .0, ← c .2)))
             ∙ ap (λ (v : List ℕ). sets x 0 v) (sym (wraps-append t K d (w ∷ [])));
       };
@@ -106,12 +106,12 @@ next-of {t} {K} {n} {ws} {x} {y} {i} {k} d (w ∷ r) b j h c l e s =
 pub next-wrap : {t K : List ℕ} {n wraps last : ℕ} {x y : List ℕ} {i at k : ℕ} → Putting t K n wraps last x y i at k → k < wraps → (p : Noted n t K wraps last) → Next t K n (p .list) x y i k
 next-wrap v h p = let a = v .along p in next-of (a .done) (a .rest) (a .bound) (a .joined) (a .number) (a .chain) (a .least) (a .tree) (omega (arith, p .number))
 
-pub putting-more : {t K : List ℕ} {n wraps last : ℕ} {x y z : List ℕ} {i at k j : ℕ} → Putting t K n wraps last x y i at k → k < wraps → z ≡ sets y at (wrapWords (sepWord K i) (startOf t K i) (lenOf t K i)) → j ≡ afterClose K i
+pub putting-more : {t K : List ℕ} {n wraps last : ℕ} {x y z : List ℕ} {i at k j : ℕ} → Putting t K n wraps last x y i at k → k < wraps → z ≡ sets y at (wrapWords (sepOf K i) (startOf t K i) (lenOf t K i)) → j ≡ afterClose K i
     → Putting t K n wraps last x z j (at + 13) (k + 1)
 putting-more {t} {K} {n} {x = x} {y} {i = i} {at} {k} v h hz hj = rw (hz, hj, v .place) (record {
   place = omega arith;
   within = omega arith;
-  long = length-sets y (13 * k) (wrapWords (sepWord K i) (startOf t K i) (lenOf t K i)) ∙ v .long;
+  long = length-sets y (13 * k) (wrapWords (sepOf K i) (startOf t K i) (lenOf t K i)) ∙ v .long;
   along = λ p. next-wrap v h p .step;
 })
 

@@ -5,11 +5,11 @@ use mathlib.Core.Path.{_≡_}
 use mathlib.Core.List.{List}
 use mathlib.Core.Bool.{Bool, true, false}
 use lib.ListN.{length}
-use Rattle.records.specs.Record.{placeOf, afterClose, sepWord, startOf, lenOf}
+use Rattle.records.specs.Record.{Whole, placeOf, afterClose, sepOf, startOf, lenOf}
 
--- the entry i has its four words, and its token stands in the table
+-- the entry i has its words, and its token stands in the table
 pub record Placed (t K : List ℕ) (i : ℕ) : Type 0 where
-  pub fit : 4 * i + 3 < length K
+  pub fit : Whole K i
   pub inside : 3 * placeOf K i + 2 < length t
 
 -- what makes the readers' steps safe: n entries, each placed, with a span of the text
@@ -23,7 +23,7 @@ pub record Kept (K L : List ℕ) : Type 0 where
   pub long : length L ≡ length K
   pub place : (i : ℕ) → placeOf L i ≡ placeOf K i
   pub close : (i : ℕ) → afterClose L i ≡ afterClose K i
-  pub sep : (i : ℕ) → sepWord L i ≡ sepWord K i
+  pub sep : (i : ℕ) → sepOf L i ≡ sepOf K i
 
 abbrev pub bit : Bool → ℕ
 bit true = 1

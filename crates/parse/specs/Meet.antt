@@ -23,7 +23,7 @@ use Rattle.parse.specs.declared.cursor.Scripted as code
 use Rattle.parse.specs.declared.cursor.Items.{Items}
 use Rattle.parse.specs.declared.cursor.Gap.{Gap}
 use Rattle.parse.specs.Buffer.{Wrote}
-use Rattle.records.specs.Record.{afterClose, sepWord, marksOf, kindOf, startOf, lenOf, spaceStart, spaceLen}
+use Rattle.records.specs.Record.{afterClose, sepOf, marksOf, kindOf, startOf, lenOf, spaceStart, spaceLen}
 use Rattle.nodes.specs.Nodes.{gapWords, gapItems}
 use Rattle.lookahead.specs.Takes.{taken, looked}
 use Rattle.parse.specs.Entry.{Safe, Kept, bit, marksWord}
@@ -57,7 +57,7 @@ linkNumber (some k) = suc k
 
 pub record Linked (K : List ℕ) (I : Input) (i : ℕ) : Type 0 where
   pub close : afterClose K i ≡ linkNumber (closeOf (I .text) (I .es) i)
-  pub sep : sepWord K i ≡ bit (hasSep zero (drop (suc i) (I .es)))
+  pub sep : sepOf K i ≡ bit (hasSep zero (drop (suc i) (I .es)))
 
 -- The words are the input's.
 pub record Given (X t : List ℕ) (n : ℕ) (K : List ℕ) (I : Input) : Type 0 where
@@ -66,7 +66,7 @@ pub record Given (X t : List ℕ) (n : ℕ) (K : List ℕ) (I : Input) : Type 0 
   pub stands : (i : ℕ) → i < n → Stands t K (I .es) i
   pub linked : (i : ℕ) → i < n → kindOf t K i ≡ 20 → Linked K I i
 
--- The mark words are these marks.
+-- The marks in the work words are these.
 pub record Marks (n : ℕ) (K : List ℕ) (m : List Bool) : Type 0 where
   pub held : length m ≡ 3 * n
   pub words : (i : ℕ) → i < n → marksOf K i ≡ marksWord (getD m (3 * i) false) (getD m (3 * i + 1) false) (getD m (3 * i + 2) false)

@@ -9,7 +9,7 @@ use Rattle.tree.specs.Words.{encodeItems}
 use Rattle.reading.specs.Reading.{parseEntries}
 use Rattle.parse.specs.declared.top.Wrapped.{Wrapped}
 use Rattle.parse.specs.declared.top.Reading.{Reading}
-use Rattle.records.specs.Record.{afterClose, sepWord, marksOf, startOf, lenOf}
+use Rattle.records.specs.Record.{afterClose, sepOf, marksOf, startOf, lenOf}
 use Rattle.parse.specs.Entry.{Safe, Placed}
 use Rattle.parse.specs.Meet.{Input, Given}
 
@@ -18,11 +18,11 @@ pub record Wrap : Type 0 where
   pub closer : ℕ
   pub items : ℕ
 
--- The wraps up to the one that `last` closes, the last first: the close word of each closing bracket leads to the one before it,
--- and its word behind has the items.
+-- The wraps up to the one that `last` closes, the last first: the close field of each closing bracket leads to the one before it,
+-- and its Sep field has the items.
 abbrev pub Chained : List ℕ → ℕ → ℕ → List Wrap → Type 0
 Chained K b last [] = Unit
-Chained K b last (w ∷ ws) = (w .closer ≡ last) × (last < b) × (sepWord K last ≡ w .items) × Chained K last (afterClose K last) ws
+Chained K b last (w ∷ ws) = (w .closer ≡ last) × (last < b) × (sepOf K last ≡ w .items) × Chained K last (afterClose K last) ws
 
 -- The words of the wraps' headers: an item, a simple part and a group each.
 abbrev pub wrapWords : ℕ → ℕ → ℕ → List ℕ

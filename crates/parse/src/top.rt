@@ -6,7 +6,7 @@ use crate::write::put6;
 use buffer::clear_from;
 use buffer::shift;
 use fields::after_close;
-use fields::sep_word;
+use fields::sep_of;
 use lookahead::tests::is_at;
 use records::record::len_at;
 use records::record::start_at;
@@ -20,7 +20,7 @@ ghost use mathlib.Core.List.{_++_};
 ghost use Prim.Native.Nat.{_+_, _*_, _≤_};
 ghost use lib.ListN.{length, take, replicate};
 ghost use lib.Seq.{sets};
-ghost use Rattle.records.specs.Record.{sepWord, startOf, lenOf, withClose, withSep};
+ghost use Rattle.records.specs.Record.{sepOf, startOf, lenOf, withClose, withSep};
 ghost use Rattle.parse.specs.Entry.{Placed};
 ghost use Rattle.parse.specs.Meet.{Input, Given};
 ghost use Rattle.parse.specs.Top.{Noted, wrapWords, wrapsWords, TopReady, Topped, Reads};
@@ -100,7 +100,7 @@ fn read_items(text: &[u8], tok: &[u32], n: usize, work: &mut [u32], tree: &mut [
 fn put_wrap(tok: &[u32], work: &[u32], tree: &mut [u32], at: usize, i: usize)
     requires { ⌜ Placed (now tok) (now work) i ⌝ }
     requires { ⌜ at + 13 ≤ length (now tree) ⌝ }
-    ensures { λ _. ⌜ now (tree .exit) ≡ sets (now (tree .entry)) at (wrapWords (sepWord (now (work .entry)) i) (startOf (now (tok .entry)) (now (work .entry)) i) (lenOf (now (tok .entry)) (now (work .entry)) i)) ⌝ }
+    ensures { λ _. ⌜ now (tree .exit) ≡ sets (now (tree .entry)) at (wrapWords (sepOf (now (work .entry)) i) (startOf (now (tok .entry)) (now (work .entry)) i) (lenOf (now (tok .entry)) (now (work .entry)) i)) ⌝ }
 {
     put1(tree, at, 0);
     put6(tree, at + 1, NODE_SIMPLE, 0, 0, 0, 0, 0);
@@ -110,7 +110,7 @@ fn put_wrap(tok: &[u32], work: &[u32], tree: &mut [u32], at: usize, i: usize)
         NODE_GROUP,
         0,
         0,
-        sep_word(work, i),
+        sep_of(work, i),
         start_at(tok, work, i),
         len_at(tok, work, i),
     );

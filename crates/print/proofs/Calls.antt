@@ -7,7 +7,7 @@ use native.Mathlib.Omega.{arith}
 use lib.ListN.{length, drop, replicate}
 use Rattle.lexing.specs.Rules.{tokens}
 use Rattle.tokens.specs.Table.{tableWords}
-use Rattle.tokens.specs.Refusals.{Answer, accepted, refused}
+use Rattle.tokens.specs.Refusals.{Answer, accepted, refused, entryWords}
 use Rattle.tokens.proofs.Cases.{by-lt, by-option}
 use Rattle.tree.specs.Tree.{count}
 use Rattle.tree.specs.Words.{encodeItems}
@@ -16,10 +16,11 @@ use Rattle.bounds.proofs.Theorems.{bounds}
 use Rattle.parse.specs.Entry.{bit}
 use Rattle.parse.specs.Call as read
 use Rattle.parse.specs.Call.{parseRefusal, parsedText, workAfter, treeAfter}
+use Rattle.parse.proofs.Calls.{text-when-refused, text-read}
 use Rattle.printer.specs.Call.{printWords, fitted}
 use Rattle.printer.proofs.Printing.{tree-printed}
 use Rattle.printer.proofs.Fits.{fits, short}
-use Rattle.print.specs.Call.{printOf, values, printedText}
+use Rattle.print.specs.Call.{printOf, values, printing, printedText, printedTextBy}
 
 -- the answer and the buffers of the reading, and with them the print buffer
 abbrev Left : Type 0
@@ -33,42 +34,40 @@ pub apart : {A : Type 0} → _≡_ {A = ℕ} 0 1 → A
 apart z = absurd (omega arith)
 
 module _ (text table work tree out : List ℕ) where
-  -- What the reading leaves where it accepts.
-  pub text-read : parseRefusal text (length table) (length work) (length tree) ≡ none
+  -- What the reading answers and leaves.
+  text-reads : parseRefusal text (length table) (length work) (length tree) ≡ none
       → parsedText text table work tree
       ≡ (accepted (length (tokens text) ∷ read.values text (tokens text)), tableWords (tokens text) ++ drop (3 * length (tokens text)) table, workAfter (length work), treeAfter text (tokens text) (length tree))
-  unfolding parsedText
-  text-read e = rw (e, parsedText)
+  text-reads = text-read entryWords text table work tree
 
   text-refused : (k : ℕ) → parseRefusal text (length table) (length work) (length tree) ≡ some k
       → parsedText text table work tree ≡ (refused k, table, work, tree)
-  unfolding parsedText
-  text-refused k e = rw (e, parsedText)
+  text-refused k e = sym (text-when-refused entryWords text table work tree k e)
 
   -- The call's answers, by its cases.
   pub refused-so : (k : ℕ) → parseRefusal text (length table) (length work) (length tree) ≡ some k
       → printedText text table work tree out ≡ (refused k, table, work, tree, out)
-  unfolding printedText
-  refused-so k e = rw (text-refused k e, printedText) (rw (text-refused k e))
+  unfolding printedTextBy
+  refused-so k e = ap (printing text out) (text-refused k e)
 
   module _ (e : parseRefusal text (length table) (length work) (length tree) ≡ none) where
     pub short-so : length out < length (printOf text) → (printedText text table work tree out) .0 ≡ refused 10
-    unfolding printedText
-    short-so l = rw (text-read e, printedText) (rw (short (printOf text) out l))
+    unfolding printedTextBy
+    short-so l = ap (λ (p : Left). (printing text out p) .0) (text-reads e) ∙ rw (short (printOf text) out l)
 
     pub whole-so : length (printOf text) ≤ length out
         → printedText text table work tree out
         ≡ (accepted (values text), tableWords (tokens text) ++ drop (3 * length (tokens text)) table, workAfter (length work), treeAfter text (tokens text) (length tree), printOf text ++ drop (length (printOf text)) out)
-    unfolding printedText
+    unfolding printedTextBy
     whole-so l =
-        rw (text-read e, printedText) (rw (fits (printOf text) out l, text-read e))
+        ap (printing text out) (text-reads e) ∙ rw (fits (printOf text) out l)
 
   module _ (a : Answer) (t w y : List ℕ) (e : (a, t, w, y) ≡ parsedText text table work tree) where
     pub when-refused : (k : ℕ) → a ≡ refused k → _≡_ {A = LeftAll} (refused k, t, w, y, out) (printedText text table work tree out)
-    unfolding printedText
+    unfolding printedTextBy
     when-refused k q =
         let p : parsedText text table work tree ≡ (refused k, t, w, y) = rw q at (sym e) in
-        sym (rw (p, printedText) (rw p))
+        sym (ap (printing text out) p)
 
     module _ (n takes items b : ℕ) (q : a ≡ accepted (n ∷ takes ∷ items ∷ b ∷ [])) where
       is : parsedText text table work tree ≡ (accepted (n ∷ takes ∷ items ∷ b ∷ []), t, w, y)
@@ -82,7 +81,7 @@ module _ (text table work tree out : List ℕ) where
           apart cc)
 
       answers : accepted (n ∷ takes ∷ items ∷ b ∷ []) ≡ accepted (length (tokens text) ∷ read.values text (tokens text))
-      answers = ap (λ (x : Left). x .0) (sym is ∙ text-read accepts)
+      answers = ap (λ (x : Left). x .0) (sym is ∙ text-reads accepts)
 
       n-is : n ≡ length (tokens text)
       n-is = let d = answers in cc
@@ -104,7 +103,7 @@ module _ (text table work tree out : List ℕ) where
 
       words-are : y ≡ encodeItems (readText text .tree) ++ replicate (length tree - length (encodeItems (readText text .tree))) 0
       unfolding treeAfter
-      words-are = ap (λ (x : Left). x .3) (sym is ∙ text-read accepts)
+      words-are = ap (λ (x : Left). x .3) (sym is ∙ text-reads accepts)
 
       module _ (after : List ℕ) (f : Answer) (put : (f, after) ≡ fitted (printWords y (length text) n takes items) out) where
         prints : fitted (printOf text) out ≡ (f, after)
@@ -116,16 +115,16 @@ module _ (text table work tree out : List ℕ) where
             (rw (n-is, takes-are, items-are) (tree-printed y (length text) (length (tokens text)) (readText text .takes) (readText text .tree) _ (bounds text (tokens text) .well-formed) words-are)))
 
         pub too-short : (k : ℕ) → f ≡ refused k → _≡_ {A = LeftAll} (refused k, t, w, y, after) (printedText text table work tree out)
-        unfolding printedText
-        too-short k s = sym (rw (is, printedText) (rw (prints, s, is)))
+        unfolding printedTextBy
+        too-short k s = sym (ap (printing text out) is ∙ rw (prints, s))
 
         pub printed-whole : (len : ℕ) → f ≡ accepted (len ∷ [])
             → _≡_ {A = LeftAll} (accepted (len ∷ takes ∷ b ∷ []), t, w, y, after) (printedText text table work tree out)
-        unfolding printedText values
+        unfolding printedTextBy values
         printed-whole len s =
             by-lt (length out) (length (printOf text))
             (λ l. let d = ap (λ (x : Answer × List ℕ). x .0) (sym prints ∙ short (printOf text) out l) in apart cc)
             (λ l.
             let d = ap (λ (x : Answer × List ℕ). x .0) (sym prints ∙ fits (printOf text) out l) in
             let n : len ≡ length (printOf text) = cc in
-            sym (rw (is, printedText) (rw (prints, s, is, n, takes-are, blank-is))))
+            sym (ap (printing text out) is ∙ rw (prints, s, n, takes-are, blank-is)))

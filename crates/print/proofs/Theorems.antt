@@ -5,7 +5,7 @@ use mathlib.Core.Path.{_≡_, sym, ap, _∙_}
 use mathlib.Core.List.{List, [], _∷_, _++_}
 use lib.ListN.{length, drop}
 use Rattle.lexing.specs.Rules.{tokens}
-use Rattle.tokens.specs.Refusals.{accepted, refused}
+use Rattle.tokens.specs.Refusals.{accepted, refused, entryWords}
 use Rattle.tokens.proofs.Cases.{by-lt, by-option}
 use Rattle.tree.specs.Tree.{count}
 use Rattle.reading.specs.Reading.{readText, blank}
@@ -13,9 +13,10 @@ use Rattle.parse.specs.Entry.{bit}
 use Rattle.parse.specs.Call as read
 use Rattle.parse.specs.Call.{parseRefusal, treeAfter}
 use Rattle.parse.specs.Answers.{Answered}
+use Rattle.parse.proofs.Calls.{text-read}
 use Rattle.parse.proofs.Theorems.{text-answered}
 use Rattle.print.specs.Call.{printOf, values, printedText}
-use Rattle.print.proofs.Calls.{LeftAll, apart, text-read, refused-so, short-so, whole-so}
+use Rattle.print.proofs.Calls.{LeftAll, apart, refused-so, short-so, whole-so}
 
 pub print-answered : (text table work tree out : List ℕ) (len takes blankness : ℕ) (tableLeft workLeft treeLeft outLeft : List ℕ)
     → printedText text table work tree out ≡ (accepted (len ∷ takes ∷ blankness ∷ []), tableLeft, workLeft, treeLeft, outLeft)
@@ -38,7 +39,7 @@ print-answered text table work tree out len takes blankness tableLeft workLeft t
     let b : blankness ≡ bit (blank text (readText text .tree)) = cc in
     let y : treeLeft ≡ treeAfter text (tokens text) (length tree) = ap (λ (x : LeftAll). x .3) q in
     let z : outLeft ≡ printOf text ++ drop (length (printOf text)) out = ap (λ (x : LeftAll). x .4) q in
-    (rw (t, b, y) (text-answered text table work tree _ _ _ _ _ _ _ (text-read text table work tree out h) .1), n, z ∙ rw n)))
+    (rw (t, b, y) (text-answered text table work tree _ _ _ _ _ _ _ (text-read entryWords text table work tree h) .1), n, z ∙ rw n)))
     (λ k h.
     let d : accepted (len ∷ takes ∷ blankness ∷ []) ≡ refused k = ap (λ (x : LeftAll). x .0) (sym e ∙ refused-so text table work tree out k h) in
     apart cc)

@@ -3,10 +3,10 @@ use mathlib.Core.List.{List, [], _∷_}
 use Prim.Native.Nat.{ℕ}
 use lib.ListN.{length}
 use Rattle.lexing.specs.Rules.{tokens}
-use Rattle.tokens.specs.Refusals.{Answer, accepted, refused}
+use Rattle.tokens.specs.Refusals.{Answer, accepted, refused, entryWords}
 use Rattle.reading.specs.Reading.{readText, blank}
 use Rattle.parse.specs.Entry.{bit}
-use Rattle.parse.specs.Call.{parsedText}
+use Rattle.parse.specs.Call.{parsedTextBy}
 use Rattle.line.specs.Print.{printed}
 use Rattle.printer.specs.Call.{fitted}
 use Rattle.print.specs.declared.Printed.{Printed}
@@ -27,14 +27,21 @@ values text =
     let r = readText text in length (printOf text) ∷ r .takes ∷ bit (blank text (r .tree)) ∷ []
 
 -- "For text: 1, 2, 7, 8, 9, 10": the first five are those of the call that reads a text (crates/parse/specs/Call.antt), and its
--- buffers are left as it leaves them. 10 is tested after them: `fitted` (crates/printer/specs/Call.antt) says when it comes, and what
--- the print buffer holds. It "leaves the print buffer unchanged and the others as after acceptance".
-unfoldable pub printedText : List ℕ → List ℕ → List ℕ → List ℕ → List ℕ → Answer × List ℕ × List ℕ × List ℕ × List ℕ
-printedText text table work tree out =
-    let p = parsedText text table work tree in
+-- buffers are left as it leaves them: p is what it answers and leaves. 10 is tested after them: `fitted`
+-- (crates/printer/specs/Call.antt) says when it comes, and what the print buffer holds. It "leaves the print buffer unchanged and the
+-- others as after acceptance".
+abbrev pub printing : List ℕ → List ℕ → Answer × List ℕ × List ℕ × List ℕ → Answer × List ℕ × List ℕ × List ℕ × List ℕ
+printing text out p =
     elim (p .0) [
       | refused k ↦ (refused k, p .1, p .2, p .3, out)
       | accepted read ↦
           let f = fitted (printOf text) out in
           (elim (f .0) [ refused k ↦ refused k | accepted len ↦ accepted (values text) ], p .1, p .2, p .3, f .1)
     ]
+
+-- by the words an entry has, as there
+unfoldable pub printedTextBy : ℕ → List ℕ → List ℕ → List ℕ → List ℕ → List ℕ → Answer × List ℕ × List ℕ × List ℕ × List ℕ
+printedTextBy words text table work tree out = printing text out (parsedTextBy words text table work tree)
+
+abbrev pub printedText : List ℕ → List ℕ → List ℕ → List ℕ → List ℕ → Answer × List ℕ × List ℕ × List ℕ × List ℕ
+printedText text table work tree out = printedTextBy entryWords text table work tree out

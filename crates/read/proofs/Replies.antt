@@ -10,7 +10,7 @@ use lib.ListN.{length, take, drop, set, length-append, length-drop, length-set}
 use lib.Seq.{take-at, take-suc-set}
 use borrow.Author.Tests.{lt-ltb, le-ltb}
 use Rattle.tokens.specs.Bytes.{bytes}
-use Rattle.tokens.specs.Refusals.{accepted, refused, ascii, textRefusal}
+use Rattle.tokens.specs.Refusals.{accepted, refused, ascii, textRefusal, entryWords}
 use Rattle.tokens.specs.Table.{countOthers}
 use Rattle.room.proofs.Lengths.{room-enough}
 use Rattle.lexing.specs.Rules.{tokens}
@@ -27,12 +27,12 @@ use Rattle.print.proofs.Calls.{LeftAll, apart, refused-so, short-so, whole-so}
 use Rattle.read.specs.Reply.{refusal, replyTo, Written}
 
 -- buffers for any text of this length
-any-text : (text : List ℕ) (table work tree : ℕ) → textRefusal text ≡ none → 3 * length text ≤ table → 4 * (length text + 1) ≤ work
+any-text : (text : List ℕ) (table work tree : ℕ) → textRefusal text ≡ none → 3 * length text ≤ table → entryWords * (length text + 1) ≤ work
     → 32 * (length text + 1) ≤ tree → parseRefusal text table work tree ≡ none
 any-text text table work tree ok a b c =
     let n = never-outnumber text in
     let m = others-within (tokens text) in
-    table-long text table work tree ok (omega arith) ∙ room-enough (countOthers (tokens text)) work tree (omega arith) (omega arith)
+    table-long entryWords text table work tree ok (omega arith) ∙ room-enough entryWords (countOthers (tokens text)) work tree (omega arith) (omega arith)
 
 -- The line of a refusal, byte by byte behind `refused=`.
 module _ (x out : List ℕ) (e : x ≡ bytes "refused=" ++ drop 8 out) (room : 11 ≤ length out) where
@@ -85,7 +85,7 @@ pub too-long : (text : List ℕ) → 500 < length text → replyTo text ≡ refu
 unfolding replyTo
 too-long text h = rw (lt-ltb 500 (length text) h, replyTo)
 
-module _ (text table work tree out : List ℕ) (few : length text ≤ 500) (ta : length table ≡ 1500) (wo : length work ≡ 2004)
+module _ (text table work tree out : List ℕ) (few : length text ≤ 500) (ta : length table ≡ 1500) (wo : length work ≡ 1002)
     (tr : length tree ≡ 16032) (ou : length out ≡ 65536) where
   reply-refused : (k : ℕ) → textRefusal text ≡ some k → replyTo text ≡ refusal k
   unfolding replyTo
@@ -113,7 +113,7 @@ module _ (text table work tree out : List ℕ) (few : length text ≤ 500) (ta :
     by-refusal k h =
         answer ∙
         ap (λ (x : LeftAll). x .0)
-        (refused-so text table work tree out k (text-refused text (length table) (length work) (length tree) k h))
+        (refused-so text table work tree out k (text-refused entryWords text (length table) (length work) (length tree) k h))
 
     pub when-refused : (k : ℕ) → r ≡ Refused k → (k < 100) × (replyTo text ≡ refusal k)
     when-refused k q =

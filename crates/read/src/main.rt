@@ -34,7 +34,7 @@ fn reply(text: &[u8], out: &mut [u8]) -> usize
         return refuse(out, 1);
     }
     let mut table = [0u32; 1500];
-    let mut work = [0u32; 2004];
+    let mut work = [0u32; 1002];
     let mut tree = [0u32; 16032];
     match print::print(text, &mut table, &mut work, &mut tree, out) {
         Printed::Whole {

@@ -5,26 +5,25 @@ use mathlib.Core.Bool.{Bool, true, false, cond}
 use mathlib.Core.List.{List}
 use native.Mathlib.Nat.{add-zero}
 use lib.ListN.{length, getD}
-use lib.Dec.{ltb}
 use borrow.Author.Tests.{lt-ltb, le-ltb, eq-eqb, ne-eqb}
-use Rattle.records.specs.Record.{placeOf, isPlaced, startOf, spaceWord}
+use Rattle.records.specs.Record.{placeOf, Whole, isWhole, isPlaced, startOf, spaceWord}
 
 never : (b : Bool) → cond b false false ≡ false
 never true = refl
 never false = refl
 
 module _ (t K : List ℕ) (i : ℕ) where
-  pub is-placed : 4 * i + 3 < length K → 3 * placeOf K i + 2 < length t → isPlaced t K i ≡ true
+  pub is-placed : Whole K i → 3 * placeOf K i + 2 < length t → isPlaced t K i ≡ true
   unfolding isPlaced
   is-placed h k = rw (lt-ltb _ _ h, lt-ltb _ _ k)
 
-  pub is-short : length K ≤ 4 * i + 3 → isPlaced t K i ≡ false
+  pub is-short : length K ≤ 2 * i + 1 → isPlaced t K i ≡ false
   unfolding isPlaced
   is-short h = rw (le-ltb _ _ h)
 
   pub is-outside : length t ≤ 3 * placeOf K i + 2 → isPlaced t K i ≡ false
   unfolding isPlaced
-  is-outside h = rw (le-ltb _ _ h) (never (ltb (4 * i + 3) (length K)))
+  is-outside h = rw (le-ltb _ _ h) (never (isWhole K i))
 
   -- the first word of its token
   pub start-word : cond (isPlaced t K i) (getD t (3 * placeOf K i + 0) 0) 0 ≡ startOf t K i

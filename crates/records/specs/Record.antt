@@ -1,53 +1,91 @@
--- The work words: a record of four for each entry, and one to spare: "Work needs 4 × (n + 1) words". t are the words of the token
--- table, K the work words.
-use Prim.Native.Nat.{ℕ, _+_, _*_, _-_}
-use mathlib.Core.List.{List, [], _∷_}
+-- The work words: a record of two for each entry, and one to spare: "Two words a token, 2 × (n + 1) in all". t are the words of the
+-- token table, K the work words. What a store leaves of each field is said by laws (crates/stores/proofs/Stores.antt): nothing above
+-- `records`, `fields` and `stores` knows where in a record a field stands.
+use Prim.Native.Nat.{ℕ, _+_, _*_, _-_, _/_, _%_, _<_}
+use mathlib.Core.List.{List, _∷_}
 use mathlib.Core.Bool.{Bool, false, cond}
 use lib.ListN.{length, getD, set}
-use lib.Seq.{sets}
 use lib.Dec.{eqb, ltb}
+use Rattle.tokens.specs.Refusals.{entryWords}
+
+-- the words of so many records
+abbrev pub recordWords : ℕ → ℕ
+recordWords n = entryWords * n
+
+-- A word has two halves of 16 bits: numbers below this.
+abbrev pub halfSize : ℕ
+halfSize = 65536
+
+pub data Half : Type 0 where
+  low : Half
+  high : Half
+
+-- the number fits in a half
+abbrev pub InHalf : ℕ → Type 0
+InHalf v = v < halfSize
+
+-- a half of the word w
+abbrev pub halfOf : Half → ℕ → ℕ
+halfOf Half.low w = w % halfSize
+halfOf Half.high w = w / halfSize
+
+-- the word w with v in one half, of a number that is too large what fits; the other half is kept
+abbrev pub withHalf : Half → ℕ → ℕ → ℕ
+withHalf Half.low w v = halfSize * (w / halfSize) + v % halfSize
+withHalf Half.high w v = w % halfSize + halfSize * (v % halfSize)
+
+-- A field of the record i is a half of its word k.
+abbrev pub field : ℕ → Half → List ℕ → ℕ → ℕ
+field k h K i = halfOf h (getD K (2 * i + k) 0)
 
 -- the token's place in the table
 unfoldable pub placeOf : List ℕ → ℕ → ℕ
-placeOf K i = getD K (4 * i) 0
+placeOf K i = field 0 Half.low K i
 
 -- the entry behind the closing bracket of this one, or 0
 unfoldable pub afterClose : List ℕ → ℕ → ℕ
-afterClose K i = getD K (4 * i + 1) 0
+afterClose K i = field 0 Half.high K i
 
 -- 1 if a Sep stands directly in the bracket, or 0
-unfoldable pub sepWord : List ℕ → ℕ → ℕ
-sepWord K i = getD K (4 * i + 2) 0
+unfoldable pub sepOf : List ℕ → ℕ → ℕ
+sepOf K i = field 1 Half.low K i
 
 -- the marks, see the crate `marks`
 unfoldable pub marksOf : List ℕ → ℕ → ℕ
-marksOf K i = getD K (4 * i + 3) 0
+marksOf K i = field 1 Half.high K i
 
--- the entry has its four words
+-- a record of these four, and the words behind it
+unfoldable pub recordOf : ℕ → ℕ → ℕ → ℕ → List ℕ → List ℕ
+recordOf place close sep marks K = (place + halfSize * close) ∷ (sep + halfSize * marks) ∷ K
+
+-- The record i has both its words; where it has not, a store changes nothing.
+abbrev pub Whole : List ℕ → ℕ → Type 0
+Whole K i = 2 * i + 1 < length K
+
 abbrev pub isWhole : List ℕ → ℕ → Bool
-isWhole K i = ltb (4 * i + 3) (length K)
+isWhole K i = ltb (2 * i + 1) (length K)
 
--- a new record: this place, no bracket matched and no mark set. Where a record is not whole, a store changes nothing.
+-- a new record: this place, no bracket matched and no mark set
 unfoldable pub withRecord : List ℕ → ℕ → ℕ → List ℕ
-withRecord K i place = cond (isWhole K i) (sets K (4 * i) (place ∷ 0 ∷ 0 ∷ 0 ∷ [])) K
+withRecord K i place = cond (isWhole K i) (set (set K (2 * i) (place % halfSize)) (2 * i + 1) 0) K
 
--- another word k of the record
-unfoldable pub withField : List ℕ → ℕ → ℕ → ℕ → List ℕ
-withField K i k w = cond (isWhole K i) (set K (4 * i + k) w) K
+-- v in one field
+unfoldable pub withField : ℕ → Half → List ℕ → ℕ → ℕ → List ℕ
+withField k h K i v = cond (isWhole K i) (set K (2 * i + k) (withHalf h (getD K (2 * i + k) 0) v)) K
 
 -- another entry behind the closing bracket
 abbrev pub withClose : List ℕ → ℕ → ℕ → List ℕ
-withClose K i after = withField K i 1 after
+withClose K i after = withField 0 Half.high K i after
 
--- another Sep word
+-- another number for the Sep
 abbrev pub withSep : List ℕ → ℕ → ℕ → List ℕ
-withSep K i w = withField K i 2 w
+withSep K i v = withField 1 Half.low K i v
 
--- another mark word; past the words nothing is stored
+-- other marks
 abbrev pub withMarks : List ℕ → ℕ → ℕ → List ℕ
-withMarks K i w = set K (4 * i + 3) w
+withMarks K i marks = withField 1 Half.high K i marks
 
--- the entry has its four words, and its token stands in the table
+-- the entry has its words, and its token stands in the table
 unfoldable pub isPlaced : List ℕ → List ℕ → ℕ → Bool
 isPlaced t K i = cond (isWhole K i) (ltb (3 * placeOf K i + 2) (length t)) false
 

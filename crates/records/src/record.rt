@@ -1,18 +1,20 @@
-// The token of an entry, by its place in the first word of the record.
+// The token of an entry, by its place in the record.
+use crate::HALF;
+use crate::RECORD_WORDS;
 use tokens::kinds::SPACE;
 ghost use mathlib.Core.Bool.{cond};
 ghost use mathlib.Core.Path.{_≡_};
 ghost use Prim.Native.Nat.{_+_, _*_, _^_, _<_};
-ghost use lib.ListN.{length, getD};
-ghost use Rattle.records.specs.Record.{placeOf, isPlaced, kindOf, startOf, lenOf};
+ghost use lib.ListN.{getD};
+ghost use Rattle.records.specs.Record.{placeOf, Whole, isPlaced, kindOf, startOf, lenOf};
 
 // The place of the token in the table, of an entry that has its words.
 pub(crate) fn place_at(work: &[u32], i: usize) -> usize
-    requires { ⌜ 4 * i + 3 < length (now work) ⌝ }
+    requires { ⌜ Whole (now work) i ⌝ }
     ensures { λ r. ⌜ r ≡ placeOf (now (work .entry)) i ⌝ }
     ensures { λ r. ⌜ r < 2 ^ 32 ⌝ }
 {
-    work[4 * i] as usize
+    (work[RECORD_WORDS * i] % HALF) as usize
 }
 
 // The word k of the entry's token, or `none` if the entry is not placed.
@@ -20,7 +22,7 @@ fn token_word(tok: &[u32], work: &[u32], i: usize, k: usize, none: u32) -> u32
     requires { ⌜ k < 3 ⌝ }
     ensures { λ r. ⌜ r ≡ cond (isPlaced (now (tok .entry)) (now (work .entry)) i) (getD (now (tok .entry)) (3 * placeOf (now (work .entry)) i + k) 0) none ⌝ }
 {
-    if i < work.len() / 4 {
+    if i < work.len() / RECORD_WORDS {
         let j = place_at(work, i);
         if 3 * j + 2 < tok.len() {
             tok[3 * j + k]

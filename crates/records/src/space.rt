@@ -1,4 +1,5 @@
 // The Space directly before an entry.
+use crate::RECORD_WORDS;
 use crate::record::place_at;
 use tokens::kinds::SPACE;
 ghost use mathlib.Core.Bool.{cond};
@@ -27,7 +28,7 @@ fn space_before(tok: &[u32], work: &[u32], i: usize, k: usize) -> u32
     requires { ⌜ k < 2 ⌝ }
     ensures { λ r. ⌜ r ≡ cond (isPlaced (now (tok .entry)) (now (work .entry)) i) (spaceWord (now (tok .entry)) (placeOf (now (work .entry)) i) k) 0 ⌝ }
 {
-    if i < work.len() / 4 {
+    if i < work.len() / RECORD_WORDS {
         let j = place_at(work, i);
         if 3 * j + 2 < tok.len() {
             space_word(tok, j, k)

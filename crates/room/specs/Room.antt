@@ -3,17 +3,17 @@ use mathlib.Core.Bool.{true, false}
 use mathlib.Core.Option.{Option, none, some}
 use Prim.Native.Nat.{ℕ, _+_, _*_, _/_, min}
 use lib.Dec.{ltb}
-use Rattle.tokens.specs.Refusals.{roomRefusal}
+use Rattle.tokens.specs.Refusals.{entryWords, roomRefusal}
 use Rattle.room.specs.declared.Room.{Room}
 use Rattle.room.specs.declared.Room.the-variants.{Enough, Refused}
 
--- "Work needs 4 × (n + 1) words, tree 32 × (n + 1)": the least n for which they are too short
+-- "Two words a token, 2 × (n + 1) in all", "tree 32 × (n + 1)": the least n for which they are too short
 abbrev pub roomFor : ℕ → ℕ → ℕ
-roomFor work tree = min (work / 4) (tree / 32)
+roomFor work tree = min (work / entryWords) (tree / 32)
 
 -- "8 work too short; 9 tree too short": the number where one of the two is
 unfoldable pub lackingFor : ℕ → ℕ → ℕ
-lackingFor n work = elim (ltb work (4 * (n + 1))) [ true ↦ 8 | false ↦ 9 ]
+lackingFor n work = elim (ltb work (entryWords * (n + 1))) [ true ↦ 8 | false ↦ 9 ]
 
 -- the answer of this refusal, or of none
 unfoldable pub roomOf : Option ℕ → Room

@@ -1,4 +1,5 @@
 // Refusals 8 and 9: buffers that are too short.
+use records::RECORD_WORDS;
 ghost use mathlib.Core.Path.{_≡_};
 ghost use Rattle.room.specs.Room.{roomFor, lackingFor, roomAnswer};
 
@@ -12,7 +13,7 @@ pub enum Room {
 pub fn room_for(work: usize, tree: usize) -> usize
     ensures { λ r. ⌜ r ≡ roomFor work tree ⌝ }
 {
-    let a = work / 4;
+    let a = work / RECORD_WORDS;
     let b = tree / 32;
     if a <= b { a } else { b }
 }
@@ -21,7 +22,7 @@ pub fn room_for(work: usize, tree: usize) -> usize
 pub fn lacking(n: usize, work: usize) -> u8
     ensures { λ r. ⌜ r ≡ lackingFor n work ⌝ }
 {
-    if work / 4 <= n { 8 } else { 9 }
+    if work / RECORD_WORDS <= n { 8 } else { 9 }
 }
 
 // For n tokens other than Space, by the buffers' words.

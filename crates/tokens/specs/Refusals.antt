@@ -69,14 +69,21 @@ listRefusal text count table =
     elim (textRefusal text) [ some k ↦ some k | none ↦ tableRefusal (length text) count table ]
 
 -- "Work needs 4 × (n + 1) words, tree 32 × (n + 1)": "8 work too short; 9 tree too short". n is the number of tokens other than
--- Space; the buffers have this many words.
-unfoldable pub roomRefusal : ℕ → ℕ → ℕ → Option ℕ
-roomRefusal n work tree =
-    elim (ltb work (4 * (n + 1))) [
+-- Space; the buffers have this many words. 01's 4 is `words` here, the work words of an entry.
+unfoldable pub roomRefusalBy : ℕ → ℕ → ℕ → ℕ → Option ℕ
+roomRefusalBy words n work tree =
+    elim (ltb work (words * (n + 1))) [
       | true ↦ some 8
       | false ↦
           elim (ltb tree (32 * (n + 1))) [ true ↦ some 9 | false ↦ none ]
     ]
+
+-- "Two words a token, 2 × (n + 1) in all, must do for what four did": "refusal 8 moves to the new length".
+abbrev pub entryWords : ℕ
+entryWords = 2
+
+abbrev pub roomRefusal : ℕ → ℕ → ℕ → Option ℕ
+roomRefusal n work tree = roomRefusalBy entryWords n work tree
 
 -- "For condition 3 a text or token list is accepted if none of the refusals 1 to 6 meets it, whatever the buffers."
 abbrev pub AcceptedText : List ℕ → Type 0

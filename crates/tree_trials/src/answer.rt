@@ -23,7 +23,7 @@ fn print_first(out: &[u8], len: usize) {
 // A text of at most 1,023 bytes.
 pub(crate) fn print_text(text: &[u8]) {
     let mut table = [0u32; 3072];
-    let mut work = [0u32; 4096];
+    let mut work = [0u32; 2048];
     let mut tree = [0u32; 32768];
     let mut out = [0u8; 60000];
     match print::print(text, &mut table, &mut work, &mut tree, &mut out) {
@@ -71,7 +71,7 @@ fn print_tree(takes: u64, items: u32, tree: &[u32]) {
 }
 
 fn print_list_by(text: &[u8], table: &[u32]) {
-    let mut work = [0u32; 404];
+    let mut work = [0u32; 202];
     let mut tree = [0u32; 3232];
     match parse::parse_tokens(text, table, table.len() / 3, &mut work, &mut tree) {
         ParsedTokens::Read {

@@ -21,7 +21,7 @@ fn answer(p: ParsedTokens) -> u8 {
 
 // A call with buffers for four tokens, one word short by the set of faults.
 fn ask(text: &[u8], table: &[u32], count: usize, set: usize) -> u8 {
-    let mut work = [7u32; 12];
+    let mut work = [7u32; 6];
     let mut tree = [7u32; 96];
     let number = answer(parse::parse_tokens(
         text,

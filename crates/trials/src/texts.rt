@@ -65,7 +65,7 @@ fn tokenize(text: &[u8], set: usize) -> u8 {
 
 fn parse(text: &[u8], set: usize) -> u8 {
     let mut table = [7u32; 9];
-    let mut work = [7u32; 12];
+    let mut work = [7u32; 6];
     let mut tree = [7u32; 96];
     let number = parse_answer(parse::parse(
         text,
@@ -78,7 +78,7 @@ fn parse(text: &[u8], set: usize) -> u8 {
 
 fn print(text: &[u8], set: usize) -> u8 {
     let mut table = [7u32; 9];
-    let mut work = [7u32; 12];
+    let mut work = [7u32; 6];
     let mut tree = [7u32; 96];
     let mut out = [7u8; 186];
     let number = print_answer(print::print(
@@ -121,7 +121,7 @@ pub(crate) fn all_sets(call: usize, sets: usize) -> bool {
 // 10 against acceptance, word by word.
 pub(crate) fn short_print() -> bool {
     let mut table = [7u32; 12];
-    let mut work = [7u32; 15];
+    let mut work = [7u32; 9];
     let mut tree = [7u32; 100];
     let printed = print::print(b"a b", &mut table, &mut work, &mut tree, &mut [7; 185]);
     is_short(print_answer(printed), &table, &work, &tree)
@@ -136,7 +136,7 @@ fn is_short(number: u8, table: &[u32], work: &[u32], tree: &[u32]) -> bool {
 fn is_parsed(table: &[u32], tree: &[u32]) -> bool {
     let mut table2 = [7u32; 12];
     let mut tree2 = [7u32; 100];
-    let parsed = parse::parse(b"a b", &mut table2, &mut [7; 15], &mut tree2);
+    let parsed = parse::parse(b"a b", &mut table2, &mut [7; 9], &mut tree2);
     let number = parse_answer(parsed);
     same(same(number, table, &table2), tree, &tree2) == 0
 }

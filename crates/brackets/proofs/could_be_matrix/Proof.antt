@@ -27,8 +27,8 @@ is-at-requires-2 c κs = search needs
 closes-requires : tie.Need-closes-requires
 closes-requires c κs = search needs
 
-sep-word-requires : tie.Need-sep-word-requires
-sep-word-requires c κs = search needs
+sep-of-requires : tie.Need-sep-of-requires
+sep-of-requires c κs = search needs
 
 returns-2 : tie.Need-returns-2
 unfolding couldBeMatrixAt
@@ -40,7 +40,7 @@ returns-3 c = simp (← c .before .before .before .before .before .is-at .ensure
 
 returns-4 : tie.Need-returns-4
 unfolding couldBeMatrixAt
-returns-4 c = simp (← c .before .before .before .before .before .before .before .before .is-at .ensures, c .before .before .before .before .before .before .before .if2 .taken, ← c .before .before .before .before .before .before .after-close .ensures, ne-eqb _ _ (c .before .before .before .before .before .if3 .left), ← c .before .before .before .before .is-at2 .ensures, c .before .before .before .if4 .left, ← c .before .before .closes .ensures, c .before .if5 .taken) (rw (c .sep-word .ensures))
+returns-4 c = simp (← c .before .before .before .before .before .before .before .before .is-at .ensures, c .before .before .before .before .before .before .before .if2 .taken, ← c .before .before .before .before .before .before .after-close .ensures, ne-eqb _ _ (c .before .before .before .before .before .if3 .left), ← c .before .before .before .before .is-at2 .ensures, c .before .before .before .if4 .left, ← c .before .before .closes .ensures, c .before .if5 .taken) (rw (c .sep-of .ensures))
 
 returns-5 : tie.Need-returns-5
 unfolding couldBeMatrixAt
@@ -60,7 +60,7 @@ could-be-matrix-spec =
     after-close-requires
     is-at-requires-2
     closes-requires
-    sep-word-requires
+    sep-of-requires
     returns-2
     returns-3
     returns-4

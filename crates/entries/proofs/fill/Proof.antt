@@ -55,7 +55,7 @@ loop-again c = let a = c .before .before .before .before .before .before .args i
     let p = c .before .before .before .loop in
     let h = c .before .before .loop-test .taken in
     ⊎-elim
-    (λ w. rw (w .9, w .10, w .11) (filling-entry (a .count) (a .table .now) (a .work .now) (p .inv) h (w .0 .taken) (c .before .before .before .before .before .before .pre .1 .1) (w .2 .ensures) (w .6 .ensures)))
+    (λ w. rw (w .9, w .10, w .11) (filling-entry (a .count) (a .table .now) (a .work .now) (p .inv) h (c .before .before .before .before .before .before .pre .0) (w .0 .taken) (c .before .before .before .before .before .before .pre .1 .1) (w .2 .ensures) (w .6 .ensures)))
     (λ w. rw (w .1, w .2, w .3) (filling-space (a .count) (a .table .now) (a .work .now) (p .inv) h (w .0 .left)))
     (c .if1 .came)
 

@@ -1,18 +1,19 @@
--- `after_close`: the second word of the record.
-use Rattle.records.specs.Record.{afterClose}
+-- `after_close`: the high half of the first word.
+use mathlib.Core.Path.{ap}
 use borrow.Author.Needs.{needs}
+use Rattle.records.specs.Record.{Half, halfOf, afterClose}
 use Rattle.fields.proofs.after_close.Statement.{statement}
 use Rattle.fields.proofs.after_close.Tie as tie
 
-field-requires : tie.Need-field-requires
-field-requires c κs = search needs
+word-requires : tie.Need-word-requires
+word-requires c κs = search needs
 
 cast-result : tie.Need-cast-result
 cast-result c = search needs
 
 returns : tie.Need-returns
 unfolding afterClose
-returns c = c .field .ensures
+returns c = ap (halfOf Half.high) (c .word .ensures)
 
 pub after-close-spec : {M : Type 1} → statement M
-after-close-spec = tie.close (tie.spec field-requires cast-result returns)
+after-close-spec = tie.close (tie.spec word-requires cast-result returns)

@@ -14,7 +14,7 @@ room-for-requires c κs = search needs
 
 returns : tie.Need-returns
 unfolding roomOf
-returns c = answers _ _ _ none (room-enough _ _ _ (omega arith) (omega arith))
+returns c = answers _ _ _ none (room-enough _ _ _ _ (omega arith) (omega arith))
 
 lacking-requires : tie.Need-lacking-requires
 lacking-requires c κs = search needs

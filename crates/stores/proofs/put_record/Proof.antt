@@ -1,10 +1,10 @@
--- `put_record`: four stores, one after the other, and none where the record is not whole.
+-- `put_record`: two stores, one after the other, and none where the record is not whole.
 use mathlib.Core.Path.{sym}
 use native.Mathlib.Numerals.{unary-clauses}
 use native.Mathlib.Omega.{arith}
 use lib.ListN.{length-set}
-use borrow.Author.Needs.{needs}
 use Rattle.stores.proofs.Stores.{record-whole, record-short}
+use borrow.Author.Needs.{needs}
 use Rattle.stores.proofs.put_record.Statement.{statement}
 use Rattle.stores.proofs.put_record.Tie as tie
 
@@ -29,36 +29,11 @@ mul-work-4 c = search needs
 slice-write-work-2 : tie.Need-slice-write-work-2
 slice-write-work-2 c = simp length-set (omega arith)
 
-mul-work-5 : tie.Need-mul-work-5
-mul-work-5 c = search needs
-
-add-work-2 : tie.Need-add-work-2
-add-work-2 c = search needs
-
-mul-work-6 : tie.Need-mul-work-6
-mul-work-6 c = search needs
-
-slice-write-work-3 : tie.Need-slice-write-work-3
-slice-write-work-3 c = simp length-set (omega arith)
-
-mul-work-7 : tie.Need-mul-work-7
-mul-work-7 c = search needs
-
-add-work-3 : tie.Need-add-work-3
-add-work-3 c = search needs
-
-mul-work-8 : tie.Need-mul-work-8
-mul-work-8 c = search needs
-
-slice-write-work-4 : tie.Need-slice-write-work-4
-slice-write-work-4 c = simp length-set (omega arith)
-
 same-length : tie.Need-same-length
-same-length c = simp length-set
+same-length c = search needs
 
 returns : tie.Need-returns
-returns c = let a = c .before .args in
-    rw (record-whole (a .work .now) (a .i) (a .place) (omega arith)) (simp unary-clauses)
+returns c = let a = c .before .args in rw (record-whole (a .work .now) (a .i) (a .place) (omega arith)) (simp unary-clauses)
 
 returns-2 : tie.Need-returns-2
 returns-2 c = sym (record-short _ _ _ (omega arith))
@@ -74,14 +49,6 @@ put-record-spec =
     add-work
     mul-work-4
     slice-write-work-2
-    mul-work-5
-    add-work-2
-    mul-work-6
-    slice-write-work-3
-    mul-work-7
-    add-work-3
-    mul-work-8
-    slice-write-work-4
     same-length
     returns
     returns-2)

@@ -21,8 +21,8 @@ add-put6-2 : tie.Need-add-put6-2
 add-put6-2 c = search needs
 
 -- src/top.rt:120:34
-sep-word-requires : tie.Need-sep-word-requires
-sep-word-requires c κs = search needs
+sep-of-requires : tie.Need-sep-of-requires
+sep-of-requires c κs = search needs
 
 -- src/top.rt:120:53
 start-at-requires : tie.Need-start-at-requires
@@ -42,7 +42,7 @@ same-length c = search needs
 
 -- src/top.rt:113:1
 returns : tie.Need-returns
-returns c = rw (c .before .before .put62 .ensures, c .before .before .before .before .before .before .before .before .before .put6 .ensures, c .before .before .before .before .before .before .before .before .before .before .before .before .before .put1 .ensures, c .before .before .before .before .before .sep-word .ensures, c .before .before .before .before .start-at .ensures, c .before .before .before .len-at .ensures, add-one, seven)
+returns c = rw (c .before .before .put62 .ensures, c .before .before .before .before .before .before .before .before .before .put6 .ensures, c .before .before .before .before .before .before .before .before .before .before .before .before .before .put1 .ensures, c .before .before .before .before .before .sep-of .ensures, c .before .before .before .before .start-at .ensures, c .before .before .before .len-at .ensures, add-one, seven)
 
 pub put-wrap-spec : {M : Type 1} → statement M
 put-wrap-spec =
@@ -52,7 +52,7 @@ put-wrap-spec =
     add-put6
     put6-requires
     add-put6-2
-    sep-word-requires
+    sep-of-requires
     start-at-requires
     len-at-requires
     put6-requires-2

@@ -1,7 +1,7 @@
--- `record::place_at`: the first word of the record.
+-- `record::place_at`: the low half of the first word.
 use Rattle.records.specs.Record.{placeOf}
-use mathlib.Core.Path.{refl}
 use Prim.Native.Nat.{_*_}
+use native.Mathlib.Nat.{add-zero}
 use native.Mathlib.Omega.{arith}
 use borrow.Author.Needs.{needs}
 use Rattle.records.proofs.record.place_at.Statement.{statement}
@@ -17,11 +17,11 @@ shared-slice-read-result : tie.Need-shared-slice-read-result
 shared-slice-read-result c = search needs
 
 cast-result : tie.Need-cast-result
-cast-result c = omega (arith, c .shared-slice-known .given (4 * c .before .args .i))
+cast-result c = omega (arith, c .shared-slice-known .given (2 * c .before .args .i))
 
 returns : tie.Need-returns
 unfolding placeOf
-returns c = (refl, omega (arith, c .shared-slice-known .given (4 * c .before .args .i)))
+returns c = (simp add-zero, omega (arith, c .shared-slice-known .given (2 * c .before .args .i)))
 
 pub place-at-spec : {M : Type 1} → statement M
 place-at-spec =

@@ -1,11 +1,11 @@
--- `field`: past the last word there is nothing.
+-- `word`: past the last word there is nothing.
 use lib.ListN.{List·getD-eq-default}
 use Prim.Native.Nat.{_+_, _*_}
 use mathlib.Core.Path.{sym}
 use native.Mathlib.Omega.{arith}
 use borrow.Author.Needs.{needs}
-use Rattle.fields.proofs.field.Statement.{statement}
-use Rattle.fields.proofs.field.Tie as tie
+use Rattle.fields.proofs.word.Statement.{statement}
+use Rattle.fields.proofs.word.Tie as tie
 
 sub-if1 : tie.Need-sub-if1
 sub-if1 c = search needs
@@ -29,10 +29,10 @@ returns : tie.Need-returns
 returns c = search needs
 
 returns-2 : tie.Need-returns-2
-returns-2 c = sym (List·getD-eq-default (c .before .args .work .now) 0 {n = 4 * c .before .args .i + c .before .args .k} (omega arith))
+returns-2 c = sym (List·getD-eq-default (c .before .args .work .now) 0 {n = 2 * c .before .args .i + c .before .args .k} (omega arith))
 
-pub field-spec : {M : Type 1} → statement M
-field-spec =
+pub word-spec : {M : Type 1} → statement M
+word-spec =
     tie.close
     (tie.spec
     sub-if1
