@@ -4,3 +4,4 @@ mod Words
 mod Filling
 mod Answers
 pub mod Recorded
+pub mod Example

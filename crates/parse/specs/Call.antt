@@ -27,8 +27,8 @@ abbrev pub listAnswerOf : ParsedTokens → Answer
 listAnswerOf (list.Read takes items blank) = accepted (takes ∷ items ∷ bit blank ∷ [])
 listAnswerOf (list.Refused k) = refused k
 
--- The refusals by the words of work an entry has: two now, and four before "Two words a token, 2 × (n + 1) in all, must do for
--- what four did" (proofs/HalfWords.antt: nothing else is another).
+-- The definitions go by the words of work that an entry has, `entryWords` now and four before: "Two words a token, 2 × (n + 1) in all,
+-- must do for what four did". Only refusal 8 uses them (proofs/HalfWords.antt).
 
 -- "For text: 1, 2, 7, 8, 9, 10, each where the call has that buffer." "7 token table shorter than 3 words a token"
 unfoldable pub parseRefusalBy : ℕ → List ℕ → ℕ → ℕ → ℕ → Option ℕ

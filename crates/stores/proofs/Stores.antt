@@ -112,16 +112,16 @@ module _ (k : ℕ) (h : Half) (K : List ℕ) (i v : ℕ) where
       go true = getD-set-other K (2 * i + k) y new 0 d
       go false = refl
 
+  -- a field in another word
+  field-other : (m : ℕ) (g : Half) (j : ℕ) → (2 * j + m ≡ 2 * i + k → ⊥) → field m g (withField k h K i v) j ≡ field m g K j
+  field-other m g j d = ap (halfOf g) (field-elsewhere (2 * j + m) d)
+
   module _ (two : k < 2) where
     field-same : Whole K i → InHalf v → field k h (withField k h K i v) i ≡ v
     field-same l s =
         rw (field-whole l, getD-set-same K (2 * i + k) new 0 (omega arith)) (half-same h (getD K (2 * i + k) 0) v s)
 
-    -- the field of another record, or of another word
-    field-other : (m : ℕ) (g : Half) (j : ℕ) → (2 * j + m ≡ 2 * i + k → ⊥) → field m g (withField k h K i v) j ≡ field m g K j
-    field-other m g j d = ap (halfOf g) (field-elsewhere (2 * j + m) d)
-
-    -- the other halves
+    -- a field in the other half, of this word or any
     field-beside : (m j : ℕ) → field m (other h) (withField k h K i v) j ≡ field m (other h) K j
     unfolding withField
     field-beside m j = go (isWhole K i) refl (ℕ-discrete (2 * j + m) (2 * i + k))
@@ -149,7 +149,7 @@ module _ (K : List ℕ) (i v : ℕ) where
 
   pub close-other : (j : ℕ) → (j ≡ i → ⊥) → afterClose (withClose K i v) j ≡ afterClose K j
   unfolding afterClose
-  close-other j d = field-other 0 Half.high K i v (omega arith) 0 Half.high j (λ z. d (omega arith))
+  close-other j d = field-other 0 Half.high K i v 0 Half.high j (λ z. d (omega arith))
 
   pub place-of-close : (j : ℕ) → placeOf (withClose K i v) j ≡ placeOf K j
   unfolding placeOf
@@ -161,7 +161,7 @@ module _ (K : List ℕ) (i v : ℕ) where
 
   pub marks-of-close : (j : ℕ) → marksOf (withClose K i v) j ≡ marksOf K j
   unfolding marksOf
-  marks-of-close j = field-other 0 Half.high K i v (omega arith) 1 Half.high j (λ z. omega arith)
+  marks-of-close j = field-other 0 Half.high K i v 1 Half.high j (λ z. omega arith)
 
   pub close-beyond : (x : ℕ) → recordWords (i + 1) ≤ x → getD (withClose K i v) x 0 ≡ getD K x 0
   close-beyond = field-beyond 0 Half.high K i v (omega arith)
@@ -176,11 +176,11 @@ module _ (K : List ℕ) (i v : ℕ) where
 
   pub sep-other : (j : ℕ) → (j ≡ i → ⊥) → sepOf (withSep K i v) j ≡ sepOf K j
   unfolding sepOf
-  sep-other j d = field-other 1 Half.low K i v (omega arith) 1 Half.low j (λ z. d (omega arith))
+  sep-other j d = field-other 1 Half.low K i v 1 Half.low j (λ z. d (omega arith))
 
   pub place-of-sep : (j : ℕ) → placeOf (withSep K i v) j ≡ placeOf K j
   unfolding placeOf
-  place-of-sep j = field-other 1 Half.low K i v (omega arith) 0 Half.low j (λ z. omega arith)
+  place-of-sep j = field-other 1 Half.low K i v 0 Half.low j (λ z. omega arith)
 
   pub close-of-sep : (j : ℕ) → afterClose (withSep K i v) j ≡ afterClose K j
   unfolding afterClose
@@ -203,7 +203,7 @@ module _ (K : List ℕ) (i v : ℕ) where
 
   pub marks-other : (j : ℕ) → (j ≡ i → ⊥) → marksOf (withMarks K i v) j ≡ marksOf K j
   unfolding marksOf
-  marks-other j d = field-other 1 Half.high K i v (omega arith) 1 Half.high j (λ z. d (omega arith))
+  marks-other j d = field-other 1 Half.high K i v 1 Half.high j (λ z. d (omega arith))
 
   pub place-of-marks : (j : ℕ) → placeOf (withMarks K i v) j ≡ placeOf K j
   unfolding placeOf
@@ -211,7 +211,7 @@ module _ (K : List ℕ) (i v : ℕ) where
 
   pub close-of-marks : (j : ℕ) → afterClose (withMarks K i v) j ≡ afterClose K j
   unfolding afterClose
-  close-of-marks j = field-other 1 Half.high K i v (omega arith) 0 Half.high j (λ z. omega arith)
+  close-of-marks j = field-other 1 Half.high K i v 0 Half.high j (λ z. omega arith)
 
   pub sep-of-marks : (j : ℕ) → sepOf (withMarks K i v) j ≡ sepOf K j
   unfolding sepOf
