@@ -1,6 +1,7 @@
 // The fields of a record beside its token's place: the closing bracket, the Sep and the marks.
-use records::HALF;
 use records::RECORD_WORDS;
+use records::half::Half;
+use records::half::half_of;
 ghost use mathlib.Core.Path.{_≡_};
 ghost use Prim.Native.Nat.{_+_, _*_, _<_};
 ghost use lib.ListN.{getD};
@@ -22,19 +23,19 @@ fn word(work: &[u32], i: usize, k: usize) -> u32
 pub fn after_close(work: &[u32], i: usize) -> usize
     ensures { λ r. ⌜ r ≡ afterClose (now (work .entry)) i ⌝ }
 {
-    (word(work, i, 0) / HALF) as usize
+    half_of(Half::High, word(work, i, 0)) as usize
 }
 
 // 1 if a Sep stands directly in the bracket at i, or 0.
 pub fn sep_of(work: &[u32], i: usize) -> u32
     ensures { λ r. ⌜ r ≡ sepOf (now (work .entry)) i ⌝ }
 {
-    word(work, i, 1) % HALF
+    half_of(Half::Low, word(work, i, 1))
 }
 
 // The marks of the entry i, see the crate `marks`.
 pub fn marks_of(work: &[u32], i: usize) -> u32
     ensures { λ r. ⌜ r ≡ marksOf (now (work .entry)) i ⌝ }
 {
-    word(work, i, 1) / HALF
+    half_of(Half::High, word(work, i, 1))
 }

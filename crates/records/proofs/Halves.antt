@@ -6,7 +6,8 @@ use native.Mathlib.Omega.{arith}
 use native.Mathlib.Decide.{ℕ-discrete}
 use lib.ListN.{length, getD, drop, List·getD-append}
 use lib.Seq.{getD-drop}
-use Rattle.records.specs.Record.{recordWords, Half, InHalf, halfOf, placeOf, afterClose, sepOf, marksOf, recordOf}
+use Rattle.records.specs.declared.half.Half.the-variants.{Low, High}
+use Rattle.records.specs.Record.{recordWords, InHalf, halfOf, placeOf, afterClose, sepOf, marksOf, recordOf}
 
 -- the record i of K is the record j of L
 pub record Same (K : List ℕ) (i : ℕ) (L : List ℕ) (j : ℕ) : Type 0 where
@@ -21,7 +22,7 @@ unfolding placeOf afterClose sepOf marksOf
 same-words K i L j h =
     let a = h 0 (omega arith) in
     let b = h 1 (omega arith) in
-    record { place = ap (halfOf Half.low) a; close = ap (halfOf Half.high) a; sep = ap (halfOf Half.low) b; marks = ap (halfOf Half.high) b }
+    record { place = ap (halfOf Low) a; close = ap (halfOf High) a; sep = ap (halfOf Low) b; marks = ap (halfOf High) b }
 
 -- where n records are the same, so are their words
 pub words-same : (K L : List ℕ) (n : ℕ) → ((j : ℕ) → j < n → Same K j L j) → (x : ℕ) → x < recordWords n → getD K x 0 ≡ getD L x 0

@@ -7,18 +7,16 @@ use mathlib.Core.Bool.{Bool, false, cond}
 use lib.ListN.{length, getD, set}
 use lib.Dec.{eqb, ltb}
 use Rattle.tokens.specs.Refusals.{entryWords}
+use Rattle.records.specs.declared.half.Half.{Half}
+use Rattle.records.specs.declared.half.Half.the-variants.{Low, High}
 
 -- the words of so many records
 abbrev pub recordWords : ℕ → ℕ
 recordWords n = entryWords * n
 
--- A word has two halves of 16 bits: numbers below this.
+-- A word has two halves of 16 bits, `Low` and `High`: numbers below this.
 abbrev pub halfSize : ℕ
 halfSize = 65536
-
-pub data Half : Type 0 where
-  low : Half
-  high : Half
 
 -- the number fits in a half
 abbrev pub InHalf : ℕ → Type 0
@@ -26,13 +24,13 @@ InHalf v = v < halfSize
 
 -- a half of the word w
 abbrev pub halfOf : Half → ℕ → ℕ
-halfOf Half.low w = w % halfSize
-halfOf Half.high w = w / halfSize
+halfOf Low w = w % halfSize
+halfOf High w = w / halfSize
 
--- the word w with v in one half, of a number that is too large what fits; the other half is kept
+-- the word w with v in one half, of a larger number its low 16 bits; the other half is kept
 abbrev pub withHalf : Half → ℕ → ℕ → ℕ
-withHalf Half.low w v = halfSize * (w / halfSize) + v % halfSize
-withHalf Half.high w v = w % halfSize + halfSize * (v % halfSize)
+withHalf Low w v = halfSize * (w / halfSize) + v % halfSize
+withHalf High w v = w % halfSize + halfSize * (v % halfSize)
 
 -- A field of the record i is a half of its word k.
 abbrev pub field : ℕ → Half → List ℕ → ℕ → ℕ
@@ -40,19 +38,19 @@ field k h K i = halfOf h (getD K (2 * i + k) 0)
 
 -- the token's place in the table
 unfoldable pub placeOf : List ℕ → ℕ → ℕ
-placeOf K i = field 0 Half.low K i
+placeOf K i = field 0 Low K i
 
 -- the entry behind the closing bracket of this one, or 0
 unfoldable pub afterClose : List ℕ → ℕ → ℕ
-afterClose K i = field 0 Half.high K i
+afterClose K i = field 0 High K i
 
 -- 1 if a Sep stands directly in the bracket, or 0
 unfoldable pub sepOf : List ℕ → ℕ → ℕ
-sepOf K i = field 1 Half.low K i
+sepOf K i = field 1 Low K i
 
 -- the marks, see the crate `marks`
 unfoldable pub marksOf : List ℕ → ℕ → ℕ
-marksOf K i = field 1 Half.high K i
+marksOf K i = field 1 High K i
 
 -- a record of these four, and the words behind it
 unfoldable pub recordOf : ℕ → ℕ → ℕ → ℕ → List ℕ → List ℕ
@@ -67,7 +65,7 @@ isWhole K i = ltb (2 * i + 1) (length K)
 
 -- a new record: this place, no bracket matched and no mark set
 unfoldable pub withRecord : List ℕ → ℕ → ℕ → List ℕ
-withRecord K i place = cond (isWhole K i) (set (set K (2 * i) (place % halfSize)) (2 * i + 1) 0) K
+withRecord K i place = cond (isWhole K i) (set (set K (2 * i) (halfOf Low place)) (2 * i + 1) 0) K
 
 -- v in one field
 unfoldable pub withField : ℕ → Half → List ℕ → ℕ → ℕ → List ℕ
@@ -75,15 +73,15 @@ withField k h K i v = cond (isWhole K i) (set K (2 * i + k) (withHalf h (getD K 
 
 -- another entry behind the closing bracket
 abbrev pub withClose : List ℕ → ℕ → ℕ → List ℕ
-withClose K i after = withField 0 Half.high K i after
+withClose K i after = withField 0 High K i after
 
 -- another number for the Sep
 abbrev pub withSep : List ℕ → ℕ → ℕ → List ℕ
-withSep K i v = withField 1 Half.low K i v
+withSep K i v = withField 1 Low K i v
 
 -- other marks
 abbrev pub withMarks : List ℕ → ℕ → ℕ → List ℕ
-withMarks K i marks = withField 1 Half.high K i marks
+withMarks K i marks = withField 1 High K i marks
 
 -- the entry has its words, and its token stands in the table
 unfoldable pub isPlaced : List ℕ → List ℕ → ℕ → Bool

@@ -1,8 +1,8 @@
-// The record of an entry, a token other than Space, in the work words; its token, and the Space before it.
+// The record of an entry, a token other than Space, in the work words: docs/LAYOUT.md. Its token, the Space before it, and the halves of
+// its words.
+pub mod half;
 pub mod record;
 pub mod space;
 
-// The words of a record, and what a half of a word holds: numbers below this (docs/LAYOUT.md).
+// The words of a record.
 pub const RECORD_WORDS: usize = 2;
-
-pub const HALF: u32 = 65536;

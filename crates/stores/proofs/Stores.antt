@@ -8,12 +8,14 @@ use native.Mathlib.Decide.{ℕ-discrete}
 use lib.ListN.{length, getD, set, length-set}
 use lib.Seq.{getD-set-same, getD-set-other}
 use borrow.Author.Tests.{lt-ltb, le-ltb, ltb-true}
-use Rattle.records.specs.Record.{recordWords, halfSize, Half, InHalf, halfOf, withHalf, field, placeOf, afterClose, sepOf, marksOf, Whole, isWhole, withRecord, withField, withClose, withSep, withMarks}
+use Rattle.records.specs.declared.half.Half.{Half}
+use Rattle.records.specs.declared.half.Half.the-variants.{Low, High}
+use Rattle.records.specs.Record.{recordWords, InHalf, halfOf, withHalf, field, placeOf, afterClose, sepOf, marksOf, Whole, isWhole, withRecord, withField, withClose, withSep, withMarks}
 use Rattle.records.proofs.Halves.{Same, same-words}
 
 -- A new record.
 module _ (K : List ℕ) (i place : ℕ) where
-  pub record-whole : Whole K i → withRecord K i place ≡ set (set K (2 * i) (place % halfSize)) (2 * i + 1) 0
+  pub record-whole : Whole K i → withRecord K i place ≡ set (set K (2 * i) (halfOf Low place)) (2 * i + 1) 0
   unfolding withRecord
   record-whole h = rw (lt-ltb _ _ h)
 
@@ -25,7 +27,7 @@ module _ (K : List ℕ) (i place : ℕ) where
   unfolding withRecord
   record-length = go (isWhole K i)
     where
-      go : (b : Bool) → length (cond b (set (set K (2 * i) (place % halfSize)) (2 * i + 1) 0) K) ≡ length K
+      go : (b : Bool) → length (cond b (set (set K (2 * i) (halfOf Low place)) (2 * i + 1) 0) K) ≡ length K
       go true = simp length-set
       go false = refl
 
@@ -33,8 +35,8 @@ module _ (K : List ℕ) (i place : ℕ) where
   unfolding withRecord
   elsewhere y a b = go (isWhole K i)
     where
-      go : (c : Bool) → getD (cond c (set (set K (2 * i) (place % halfSize)) (2 * i + 1) 0) K) y 0 ≡ getD K y 0
-      go true = getD-set-other (set K (2 * i) (place % halfSize)) (2 * i + 1) y 0 0 b ∙ getD-set-other K (2 * i) y (place % halfSize) 0 a
+      go : (c : Bool) → getD (cond c (set (set K (2 * i) (halfOf Low place)) (2 * i + 1) 0) K) y 0 ≡ getD K y 0
+      go true = getD-set-other (set K (2 * i) (halfOf Low place)) (2 * i + 1) y 0 0 b ∙ getD-set-other K (2 * i) y (halfOf Low place) 0 a
       go false = refl
 
   pub record-other : (j : ℕ) → (j ≡ i → ⊥) → Same (withRecord K i place) j K j
@@ -45,14 +47,14 @@ module _ (K : List ℕ) (i place : ℕ) where
   record-beyond x h = elsewhere x (λ z. omega arith) (λ z. omega arith)
 
   module _ (h : Whole K i) where
-    first : getD (withRecord K i place) (2 * i + 0) 0 ≡ place % halfSize
+    first : getD (withRecord K i place) (2 * i + 0) 0 ≡ halfOf Low place
     first =
         let z : 2 * i + 0 ≡ 2 * i = omega arith in
         rw (z, record-whole h)
-        (getD-set-other (set K (2 * i) (place % halfSize)) (2 * i + 1) (2 * i) 0 0 (λ z. omega arith) ∙ getD-set-same K (2 * i) (place % halfSize) 0 (omega arith))
+        (getD-set-other (set K (2 * i) (halfOf Low place)) (2 * i + 1) (2 * i) 0 0 (λ z. omega arith) ∙ getD-set-same K (2 * i) (halfOf Low place) 0 (omega arith))
 
     second : getD (withRecord K i place) (2 * i + 1) 0 ≡ 0
-    second = rw (record-whole h) (getD-set-same (set K (2 * i) (place % halfSize)) (2 * i + 1) 0 0 (simp length-set h))
+    second = rw (record-whole h) (getD-set-same (set K (2 * i) (halfOf Low place)) (2 * i + 1) 0 0 (simp length-set h))
 
     pub record-place : InHalf place → placeOf (withRecord K i place) i ≡ place
     unfolding placeOf
@@ -72,16 +74,16 @@ module _ (K : List ℕ) (i place : ℕ) where
 
 -- A field: the half h of the word k.
 abbrev other : Half → Half
-other Half.low = Half.high
-other Half.high = Half.low
+other Low = High
+other High = Low
 
 half-same : (h : Half) (w v : ℕ) → InHalf v → halfOf h (withHalf h w v) ≡ v
-half-same Half.low w v l = omega arith
-half-same Half.high w v l = omega arith
+half-same Low w v l = omega arith
+half-same High w v l = omega arith
 
 half-kept : (h : Half) (w v : ℕ) → halfOf (other h) (withHalf h w v) ≡ halfOf (other h) w
-half-kept Half.low w v = omega arith
-half-kept Half.high w v = omega arith
+half-kept Low w v = omega arith
+half-kept High w v = omega arith
 
 module _ (k : ℕ) (h : Half) (K : List ℕ) (i v : ℕ) where
   abbrev new : ℕ
@@ -141,78 +143,78 @@ module _ (k : ℕ) (h : Half) (K : List ℕ) (i v : ℕ) where
 module _ (K : List ℕ) (i v : ℕ) where
   -- Another entry behind the closing bracket.
   pub close-length : length (withClose K i v) ≡ length K
-  close-length = field-length 0 Half.high K i v
+  close-length = field-length 0 High K i v
 
   pub close-same : Whole K i → InHalf v → afterClose (withClose K i v) i ≡ v
   unfolding afterClose
-  close-same = field-same 0 Half.high K i v (omega arith)
+  close-same = field-same 0 High K i v (omega arith)
 
   pub close-other : (j : ℕ) → (j ≡ i → ⊥) → afterClose (withClose K i v) j ≡ afterClose K j
   unfolding afterClose
-  close-other j d = field-other 0 Half.high K i v 0 Half.high j (λ z. d (omega arith))
+  close-other j d = field-other 0 High K i v 0 High j (λ z. d (omega arith))
 
   pub place-of-close : (j : ℕ) → placeOf (withClose K i v) j ≡ placeOf K j
   unfolding placeOf
-  place-of-close = field-beside 0 Half.high K i v (omega arith) 0
+  place-of-close = field-beside 0 High K i v (omega arith) 0
 
   pub sep-of-close : (j : ℕ) → sepOf (withClose K i v) j ≡ sepOf K j
   unfolding sepOf
-  sep-of-close = field-beside 0 Half.high K i v (omega arith) 1
+  sep-of-close = field-beside 0 High K i v (omega arith) 1
 
   pub marks-of-close : (j : ℕ) → marksOf (withClose K i v) j ≡ marksOf K j
   unfolding marksOf
-  marks-of-close j = field-other 0 Half.high K i v 1 Half.high j (λ z. omega arith)
+  marks-of-close j = field-other 0 High K i v 1 High j (λ z. omega arith)
 
   pub close-beyond : (x : ℕ) → recordWords (i + 1) ≤ x → getD (withClose K i v) x 0 ≡ getD K x 0
-  close-beyond = field-beyond 0 Half.high K i v (omega arith)
+  close-beyond = field-beyond 0 High K i v (omega arith)
 
   -- Another number for the Sep.
   pub sep-length : length (withSep K i v) ≡ length K
-  sep-length = field-length 1 Half.low K i v
+  sep-length = field-length 1 Low K i v
 
   pub sep-same : Whole K i → InHalf v → sepOf (withSep K i v) i ≡ v
   unfolding sepOf
-  sep-same = field-same 1 Half.low K i v (omega arith)
+  sep-same = field-same 1 Low K i v (omega arith)
 
   pub sep-other : (j : ℕ) → (j ≡ i → ⊥) → sepOf (withSep K i v) j ≡ sepOf K j
   unfolding sepOf
-  sep-other j d = field-other 1 Half.low K i v 1 Half.low j (λ z. d (omega arith))
+  sep-other j d = field-other 1 Low K i v 1 Low j (λ z. d (omega arith))
 
   pub place-of-sep : (j : ℕ) → placeOf (withSep K i v) j ≡ placeOf K j
   unfolding placeOf
-  place-of-sep j = field-other 1 Half.low K i v 0 Half.low j (λ z. omega arith)
+  place-of-sep j = field-other 1 Low K i v 0 Low j (λ z. omega arith)
 
   pub close-of-sep : (j : ℕ) → afterClose (withSep K i v) j ≡ afterClose K j
   unfolding afterClose
-  close-of-sep = field-beside 1 Half.low K i v (omega arith) 0
+  close-of-sep = field-beside 1 Low K i v (omega arith) 0
 
   pub marks-of-sep : (j : ℕ) → marksOf (withSep K i v) j ≡ marksOf K j
   unfolding marksOf
-  marks-of-sep = field-beside 1 Half.low K i v (omega arith) 1
+  marks-of-sep = field-beside 1 Low K i v (omega arith) 1
 
   pub sep-beyond : (x : ℕ) → recordWords (i + 1) ≤ x → getD (withSep K i v) x 0 ≡ getD K x 0
-  sep-beyond = field-beyond 1 Half.low K i v (omega arith)
+  sep-beyond = field-beyond 1 Low K i v (omega arith)
 
   -- Other marks.
   pub marks-length : length (withMarks K i v) ≡ length K
-  marks-length = field-length 1 Half.high K i v
+  marks-length = field-length 1 High K i v
 
   pub marks-same : Whole K i → InHalf v → marksOf (withMarks K i v) i ≡ v
   unfolding marksOf
-  marks-same = field-same 1 Half.high K i v (omega arith)
+  marks-same = field-same 1 High K i v (omega arith)
 
   pub marks-other : (j : ℕ) → (j ≡ i → ⊥) → marksOf (withMarks K i v) j ≡ marksOf K j
   unfolding marksOf
-  marks-other j d = field-other 1 Half.high K i v 1 Half.high j (λ z. d (omega arith))
+  marks-other j d = field-other 1 High K i v 1 High j (λ z. d (omega arith))
 
   pub place-of-marks : (j : ℕ) → placeOf (withMarks K i v) j ≡ placeOf K j
   unfolding placeOf
-  place-of-marks = field-beside 1 Half.high K i v (omega arith) 0
+  place-of-marks = field-beside 1 High K i v (omega arith) 0
 
   pub close-of-marks : (j : ℕ) → afterClose (withMarks K i v) j ≡ afterClose K j
   unfolding afterClose
-  close-of-marks j = field-other 1 Half.high K i v 0 Half.high j (λ z. omega arith)
+  close-of-marks j = field-other 1 High K i v 0 High j (λ z. omega arith)
 
   pub sep-of-marks : (j : ℕ) → sepOf (withMarks K i v) j ≡ sepOf K j
   unfolding sepOf
-  sep-of-marks = field-beside 1 Half.high K i v (omega arith) 1
+  sep-of-marks = field-beside 1 High K i v (omega arith) 1

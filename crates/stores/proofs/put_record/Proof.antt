@@ -1,12 +1,15 @@
 -- `put_record`: two stores, one after the other, and none where the record is not whole.
-use mathlib.Core.Path.{sym}
-use native.Mathlib.Numerals.{unary-clauses}
+use Prim.Native.Nat.{ℕ, _+_, _*_}
+use mathlib.Core.Path.{sym, ap}
 use native.Mathlib.Omega.{arith}
-use lib.ListN.{length-set}
-use Rattle.stores.proofs.Stores.{record-whole, record-short}
+use lib.ListN.{set, length-set}
 use borrow.Author.Needs.{needs}
+use Rattle.stores.proofs.Stores.{record-whole, record-short}
 use Rattle.stores.proofs.put_record.Statement.{statement}
 use Rattle.stores.proofs.put_record.Tie as tie
+
+half-of-requires : tie.Need-half-of-requires
+half-of-requires c κs = search needs
 
 mul-work : tie.Need-mul-work
 mul-work c = search needs
@@ -33,7 +36,8 @@ same-length : tie.Need-same-length
 same-length c = search needs
 
 returns : tie.Need-returns
-returns c = let a = c .before .args in rw (record-whole (a .work .now) (a .i) (a .place) (omega arith)) (simp unary-clauses)
+returns c = let a = c .before .before .before .args in
+    rw (record-whole (a .work .now) (a .i) (a .place) (omega arith)) (ap (λ (w : ℕ). set (set (a .work .now) (2 * a .i) w) (2 * a .i + 1) 0) (c .half-of .ensures))
 
 returns-2 : tie.Need-returns-2
 returns-2 c = sym (record-short _ _ _ (omega arith))
@@ -42,6 +46,7 @@ pub put-record-spec : {M : Type 1} → statement M
 put-record-spec =
     tie.close
     (tie.spec
+    half-of-requires
     mul-work
     mul-work-2
     slice-write-work

@@ -1,10 +1,12 @@
--- `put_high`: one word with another high half, and none where the record is not whole.
-use mathlib.Core.Path.{sym}
+-- `put_half`: one word with another half, and none where the record is not whole.
+use Prim.Native.Nat.{ℕ, _+_, _*_}
+use mathlib.Core.Path.{sym, ap}
 use native.Mathlib.Omega.{arith}
+use lib.ListN.{set}
 use borrow.Author.Needs.{needs}
 use Rattle.stores.proofs.Stores.{field-whole, field-short}
-use Rattle.stores.proofs.put_high.Statement.{statement}
-use Rattle.stores.proofs.put_high.Tie as tie
+use Rattle.stores.proofs.put_half.Statement.{statement}
+use Rattle.stores.proofs.put_half.Tie as tie
 
 mul-word : tie.Need-mul-word
 mul-word c = search needs
@@ -18,6 +20,9 @@ mul-word-2 c = search needs
 slice-read-word : tie.Need-slice-read-word
 slice-read-word c = search needs
 
+with-half-requires : tie.Need-with-half-requires
+with-half-requires c κs = search needs
+
 mul-work : tie.Need-mul-work
 mul-work c = search needs
 
@@ -27,12 +32,6 @@ add-work c = search needs
 mul-work-2 : tie.Need-mul-work-2
 mul-work-2 c = search needs
 
-add-work-2 : tie.Need-add-work-2
-add-work-2 c = search needs
-
-mul-work-3 : tie.Need-mul-work-3
-mul-work-3 c = search needs
-
 slice-write-work : tie.Need-slice-write-work
 slice-write-work c = search needs
 
@@ -40,24 +39,24 @@ same-length : tie.Need-same-length
 same-length c = search needs
 
 returns : tie.Need-returns
-returns c = sym (field-whole _ _ _ _ _ (omega arith))
+returns c = let a = c .before .before .before .before .args in
+    rw (field-whole (a .k) (a .half) (a .work .now) (a .i) (a .v) (omega arith)) (ap (λ (w : ℕ). set (a .work .now) (2 * a .i + a .k) w) (c .with-half .ensures))
 
 returns-2 : tie.Need-returns-2
 returns-2 c = sym (field-short _ _ _ _ _ (omega arith))
 
-pub put-high-spec : {M : Type 1} → statement M
-put-high-spec =
+pub put-half-spec : {M : Type 1} → statement M
+put-half-spec =
     tie.close
     (tie.spec
     mul-word
     add-word
     mul-word-2
     slice-read-word
+    with-half-requires
     mul-work
     add-work
     mul-work-2
-    add-work-2
-    mul-work-3
     slice-write-work
     same-length
     returns
