@@ -6,8 +6,8 @@
 SPELLINGS is tokenizer.rs of the original or the project's list of rows. Each family gives its
 fixed texts and then `count` random ones; the same arguments give the same texts. The families
 `lists`, `kinds`, `wild`, `bars`, `full` and `string_lists` are different: their lines are `HEX
-start,len,kind start,len,kind ..`, token lists over a text. They, `strings` and `examples` are not
-among the default families.
+start,len,kind start,len,kind ..`, token lists over a text; `kinds`, `full` and `string_lists` are fixed
+lists, whatever the count and length. They, `strings` and `examples` are not among the default families.
 """
 
 import argparse

@@ -1,10 +1,11 @@
 #!/usr/bin/env bash
-# The library beside an earlier build of it, in one process: answers, time, instructions.
+# The library beside an earlier build of it: answers and time in one process, and instructions.
 #
 #   run.sh BEFORE [LIB]
 #
-# BEFORE is the archive of the earlier build, whose `parse` and `parse_tokens` have the same signatures; LIB is the
-# project's archive; without it the archive is proved and built here. Exit status 1 on a difference.
+# BEFORE is the archive of the earlier build, `rt staticlib asciimath` in a checkout of it; its calls `parse` and
+# `parse_tokens` must have today's signatures. LIB is the project's archive; without it the archive is proved and
+# built here. Exit status 1 on a difference.
 set -euo pipefail
 [ $# -eq 1 ] || [ $# -eq 2 ] || { echo "usage: run.sh BEFORE [LIB]" >&2; exit 2; }
 here=$(cd "$(dirname "$0")" && pwd)
@@ -14,11 +15,8 @@ source "$root/tools/library.sh"
 library=$(archive "${2:-}")
 out=$(mktemp -d)
 trap 'rm -rf "$out"' EXIT
-names=()
-for call in parse parse_tokens tokens count print; do
-    names+=(--redefine-sym "asciimath_$call=before_$call")
-done
-objcopy "${names[@]}" "$before" "$out/before.a"
+nm -g --defined-only "$before" | sed -n 's/.* T asciimath_\(.*\)/asciimath_\1 before_\1/p' > "$out/names"
+objcopy --redefine-syms="$out/names" "$before" "$out/before.a"
 gcc -std=c11 -O2 -g -Wall -Wextra "$here/versions.c" "$out/before.a" "$library" -o "$out/versions"
 
 corpus() { python3 "$root/tools/corpus.py" "$root/crates/lexing/specs/Spellings.antt" "$@"; }

@@ -4,7 +4,7 @@
  *     versions same < CASES                on each line of tools/corpus.py both must answer alike and leave
  *                                          the same words; ours also in a work buffer of the earlier length
  *     versions time < GROUPS               on lines `NAME<TAB>HEX`: nanoseconds a byte, and the ratio
- *     versions once NAME SIDE < GROUPS     one group by one side, inside `collected`
+ *     versions once NAME SIDE < GROUPS     one group by one side, `before` or `ours`, inside `collected`
  *
  * Both sides have work buffers of just the words that they ask for.
  */
@@ -141,8 +141,12 @@ __attribute__((noinline)) void collected(struct side *s) { read_text(s, s->words
 
 int main(int argc, char **argv) {
     const char *mode = argc > 1 ? argv[1] : "";
-    int compare = !strcmp(mode, "same"), measure = !strcmp(mode, "time");
-    struct side *one = argc > 3 && !strcmp(argv[3], "before") ? &before : &ours;
+    int compare = !strcmp(mode, "same"), measure = !strcmp(mode, "time"), once = !strcmp(mode, "once") && argc == 4;
+    struct side *one = once && !strcmp(argv[3], before.name) ? &before : &ours;
+    if (!compare && !measure && !(once && !strcmp(argv[3], one->name))) {
+        fprintf(stderr, "usage: versions same | time | once NAME before | once NAME ours\n");
+        return 2;
+    }
     find_words(&before);
     find_words(&ours);
     char *given = NULL, name[80] = "";
@@ -151,8 +155,11 @@ int main(int argc, char **argv) {
         given[strcspn(given, "\n")] = 0;
         char *tab = strchr(given, '\t');
         line = tab ? tab + 1 : given;
-        if (tab && strncmp(name, given, (size_t)(tab - given)) && measure) group_done(name);
-        if (tab) snprintf(name, sizeof name, "%.*s", (int)(tab - given), given);
+        if (tab) {
+            *tab = 0;
+            if (measure && strcmp(name, given)) group_done(name);
+            snprintf(name, sizeof name, "%s", given);
+        }
         case_of_line();
         cases++;
         if (compare) {
@@ -162,12 +169,14 @@ int main(int argc, char **argv) {
             read += ours.code == 0;
         } else if (measure) {
             time_text();
-        } else if (argc > 2 && !strcmp(name, argv[2])) {
+        } else if (!strcmp(name, argv[2])) {
             read_text(one, one->words);
             collected(one);
+            read++;
         }
     }
     if (measure) group_done(name);
+    if (once && !read) fail("no such group");
     if (compare) printf("%zu cases, %zu of them read, the same by both\n", cases, read);
     free(given);
     return 0;

@@ -63,7 +63,7 @@ module _ (n : ℕ) (e : Entry) (es : List Entry) where
     unfolding hasSep
     sep-other s d = rw (hasSep, o, c, s)
 
--- What the word of an entry comes to in the end: f of its depth, if its bracket is open, else itself.
+-- What the field of an entry comes to in the end: f of its depth, if its bracket is open, else itself.
 abbrev pub comes : (ℕ → ℕ → ℕ) → ℕ → List ℕ → ℕ → ℕ → ℕ
 comes f d [] i w = w
 comes f d (s ∷ st) i w = cond (eqb i s) (f d w) (comes f (suc d) st i w)
@@ -134,7 +134,7 @@ module _ {c : ℕ → ℕ} where
   pub popped : {b o : ℕ} {st : List ℕ} → Chain c b st (suc o) → Popped c b o st
   popped (Chain.more {st = st} l p) = record { rest = st; whole = refl; below = l; chain = p }
 
-  -- the last bracket o is open no more: its word is what it comes to
+  -- the last bracket o is open no more: its field is what it comes to
   pub comes-popped : (f g : ℕ → ℕ → ℕ) (i w : ℕ) {o top : ℕ} {st : List ℕ} → Chain c o st top → ((d : ℕ) → g d w ≡ f (suc d) w)
       → comes f 0 (o ∷ st) i w ≡ comes g 0 st i (cond (eqb i o) (f 0 w) w)
   comes-popped f g i w {o} {top} {st} p h =
@@ -142,7 +142,7 @@ module _ {c : ℕ → ℕ} where
       (λ e. rw (eq-eqb i o e) (sym (chain-out g 0 (f 0 w) p (omega arith))))
       (λ e. rw (ne-eqb i o e) (sym (comes-deeper g f i w h 0 st)))
 
--- n entries are matched by the words c and s, and es are to come: each word comes to what it has to be, fc and fs.
+-- n entries are matched by the fields c and s, and es are to come: each field comes to what it has to be, fc and fs.
 pub record Matching (fc fs c s : ℕ → ℕ) (n top : ℕ) (es : List Entry) : Type 0 where
   pub stack : List ℕ
   pub chain : Chain c n stack top
@@ -163,7 +163,7 @@ module _ (fc fs c s : ℕ → ℕ) where
         sep = λ i l. rw (hs i l) (m .sep i l);
       }
 
-  -- One entry more, e, whose words are what the definition says.
+  -- One entry more, e, whose fields are what the definition says.
   module _ (n top : ℕ) (e : Entry) (es : List Entry) (m : Matching fc fs c s n top (e ∷ es))
       (fcn : fc n ≡ ofBracket e (closeFrom zero (suc n) es)) (fsn : fs n ≡ ofBracket e (cond (hasSep zero es) 1 0)) (cn : c n ≡ 0) (sn : s n ≡ 0)
     where

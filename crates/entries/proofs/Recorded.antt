@@ -24,7 +24,7 @@ use Rattle.records.proofs.Halves.{Same, same-append, next-record, first-place, 
 use Rattle.records.proofs.Places.{is-placed, space-first, space-there, space-absent}
 use Rattle.entries.proofs.Filling.{places-space, entries-space, places-other, entries-other, sep-small, length-work}
 
--- the words of the record i
+-- the fields of the record i
 record Fields (L : List ℕ) (i j : ℕ) (ps : List ℕ) (es : List Entry) : Type 0 where
   entry : Entry
   there : getElem? es i ≡ some entry

@@ -12,6 +12,7 @@ fn word(work: &[u32], i: usize, k: usize) -> u32
     requires { ⌜ k < 2 ⌝ }
     ensures { λ r. ⌜ r ≡ getD (now (work .entry)) (2 * i + k) 0 ⌝ }
 {
+    // so many records have a word k
     if i < (work.len() + (1 - k)) / RECORD_WORDS {
         work[RECORD_WORDS * i + k]
     } else {
@@ -26,7 +27,7 @@ pub fn after_close(work: &[u32], i: usize) -> usize
     half_of(Half::High, word(work, i, 0)) as usize
 }
 
-// 1 if a Sep stands directly in the bracket at i, or 0.
+// 1 if a Sep stands directly in the bracket at i, or 0; or what the reading noted there.
 pub fn sep_of(work: &[u32], i: usize) -> u32
     ensures { λ r. ⌜ r ≡ sepOf (now (work .entry)) i ⌝ }
 {

@@ -6,23 +6,23 @@ ghost use Rattle.records.specs.Record.{marksOf, withMarks};
 ghost use Rattle.marks.specs.Marks.{isMarked, withMark, openMark};
 
 // The mark of this number (1, 2 or 4) among an entry's marks, which are one number.
-fn is_marked(word: u32, mark: u32) -> bool
-    ensures { λ r. ⌜ r ≡ isMarked word mark ⌝ }
+fn is_marked(marks: u32, mark: u32) -> bool
+    ensures { λ r. ⌜ r ≡ isMarked marks mark ⌝ }
 {
     if mark == 0 {
         false
     } else {
-        word / mark % 2 == 1
+        marks / mark % 2 == 1
     }
 }
 
-fn with_mark(word: u32, mark: u32) -> u32
-    ensures { λ r. ⌜ r ≡ withMark word mark ⌝ }
+fn with_mark(marks: u32, mark: u32) -> u32
+    ensures { λ r. ⌜ r ≡ withMark marks mark ⌝ }
 {
-    if is_marked(word, mark) {
-        word
+    if is_marked(marks, mark) {
+        marks
     } else {
-        std::num::wrapping_add_u32(word, mark)
+        std::num::wrapping_add_u32(marks, mark)
     }
 }
 
@@ -35,8 +35,8 @@ pub fn failed_at(work: &[u32], i: usize, mark: u32) -> bool
 pub fn mark_failed(work: &mut [u32], i: usize, mark: u32)
     ensures { λ _. ⌜ now (work .exit) ≡ withMarks (now (work .entry)) i (withMark (marksOf (now (work .entry)) i) mark) ⌝ }
 {
-    let word = with_mark(marks_of(work, i), mark);
-    set_marks(work, i, word);
+    let marks = with_mark(marks_of(work, i), mark);
+    set_marks(work, i, marks);
 }
 
 // The number of the mark of a matrix that failed.

@@ -1,4 +1,4 @@
--- The marks as words: reading one, and setting one; and the definition's attempts as equations.
+-- The marks as numbers: reading one, and setting one; and the definition's attempts as equations.
 use Prim.Native.Nat.{ℕ, _+_, _*_, _<_}
 use mathlib.Core.Path.{_≡_, refl, sym, ap, _∙_, subst}
 use mathlib.Core.List.{List}

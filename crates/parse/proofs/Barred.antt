@@ -43,7 +43,7 @@ pub open-small : (stop : Bool) → (0 < entry.openMark stop) × (entry.openMark 
 open-small true = (omega arith, omega arith)
 open-small false = (omega arith, omega arith)
 
--- the bar's own word says whether it has failed
+-- the bar's own marks say whether it has failed
 open-known : {X t : List ℕ} {n : ℕ} {K : List ℕ} {p u : ℕ} {I : Input} {s : State} (i : ℕ) (stop b : Bool) → At X t n K p u I s → i < n → isMarked (marksOf K i) (entry.openMark stop) ≡ b → getD (s .marks) (slot (openMark (stopOf stop)) i) false ≡ b
 open-known i stop b at h k = sym (mark-is (openMark (stopOf stop)) i (at .marks) h) ∙ ap (isMarked _) (number-open stop) ∙ k
 

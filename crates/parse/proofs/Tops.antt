@@ -28,7 +28,7 @@ use Rattle.parse.specs.Top.{Wrap, Chained, wrapWords, wrapsWords, TopRea
 use Rattle.parse.proofs.Scripting.{count-append}
 use Rattle.parse.proofs.Loop.{encodeItems-append, last-append}
 
--- A wrap noted: only two words of its closing bracket change.
+-- A wrap noted: only two fields of its closing bracket change.
 module _ (K : List ℕ) (i a k : ℕ) where
   abbrev closed : List ℕ
   closed = withClose K i a

@@ -29,6 +29,6 @@ abbrev pub bit : Bool → ℕ
 bit true = 1
 bit false = 0
 
--- the marks of an entry, failed opens with the stops none and Sep and a failed matrix, in one word
+-- the marks of an entry, failed opens with the stops none and Sep and a failed matrix, as one number
 abbrev pub marksWord : Bool → Bool → Bool → ℕ
 marksWord a b c = bit a + (2 * bit b + 4 * bit c)

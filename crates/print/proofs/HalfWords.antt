@@ -1,5 +1,5 @@
--- Two work words an entry do for what four did, in the call that prints (crates/parse/proofs/HalfWords.antt; what it accepts of the
--- work words is what the reading accepts): where both read the text, the answer, the table, the tree and the print buffer are the same.
+-- Two work words an entry do for what four did, in the call that prints: where both read the text, the answer, the table, the tree and
+-- the print buffer are the same. Its refusals 1 to 9 are the reading's (crates/parse/proofs/HalfWords.antt).
 use Prim.Native.Nat.{ℕ}
 use mathlib.Core.Path.{_≡_, refl}
 use mathlib.Core.List.{List}

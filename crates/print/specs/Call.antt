@@ -39,7 +39,7 @@ printing text out p =
           (elim (f .0) [ refused k ↦ refused k | accepted len ↦ accepted (values text) ], p .1, p .2, p .3, f .1)
     ]
 
--- By the words of work that an entry has, as there.
+-- By the words of work that an entry has, as crates/parse/specs/Call.antt.
 unfoldable pub printedTextBy : ℕ → List ℕ → List ℕ → List ℕ → List ℕ → List ℕ → Answer × List ℕ × List ℕ × List ℕ × List ℕ
 printedTextBy words text table work tree out = printing text out (parsedTextBy words text table work tree)
 

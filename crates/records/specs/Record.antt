@@ -1,6 +1,6 @@
 -- The work words: a record of two for each entry, and one to spare: "Two words a token, 2 × (n + 1) in all". t are the words of the
 -- token table, K the work words. What a store leaves of each field is said by laws (crates/stores/proofs/Stores.antt): nothing above
--- `records`, `fields` and `stores` knows where in a record a field stands.
+-- `records`, `fields` and `stores` knows where in a record a field stands, but for a computed example.
 use Prim.Native.Nat.{ℕ, _+_, _*_, _-_, _/_, _%_, _<_}
 use mathlib.Core.List.{List, _∷_}
 use mathlib.Core.Bool.{Bool, false, cond}
@@ -44,7 +44,7 @@ placeOf K i = field 0 Low K i
 unfoldable pub afterClose : List ℕ → ℕ → ℕ
 afterClose K i = field 0 High K i
 
--- 1 if a Sep stands directly in the bracket, or 0
+-- of an OpenBracket 1 if a Sep stands directly inside, or 0; of a CloseBracket that nothing opened the reading notes here what it wraps
 unfoldable pub sepOf : List ℕ → ℕ → ℕ
 sepOf K i = field 1 Low K i
 

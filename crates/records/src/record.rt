@@ -5,15 +5,15 @@ use crate::half::half_of;
 use tokens::kinds::SPACE;
 ghost use mathlib.Core.Bool.{cond};
 ghost use mathlib.Core.Path.{_≡_};
-ghost use Prim.Native.Nat.{_+_, _*_, _^_, _<_};
+ghost use Prim.Native.Nat.{_+_, _*_, _<_};
 ghost use lib.ListN.{getD};
-ghost use Rattle.records.specs.Record.{placeOf, Whole, isPlaced, kindOf, startOf, lenOf};
+ghost use Rattle.records.specs.Record.{InHalf, placeOf, Whole, isPlaced, kindOf, startOf, lenOf};
 
 // The place of the token in the table, of an entry that has its words.
 pub(crate) fn place_at(work: &[u32], i: usize) -> usize
     requires { ⌜ Whole (now work) i ⌝ }
     ensures { λ r. ⌜ r ≡ placeOf (now (work .entry)) i ⌝ }
-    ensures { λ r. ⌜ r < 2 ^ 32 ⌝ }
+    ensures { λ r. ⌜ InHalf r ⌝ }
 {
     half_of(Half::Low, work[RECORD_WORDS * i]) as usize
 }

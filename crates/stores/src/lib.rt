@@ -35,7 +35,8 @@ pub fn set_close(work: &mut [u32], i: usize, after: u32)
     put_half(work, i, 0, Half::High, after);
 }
 
-// 1 for a Sep directly in the bracket at i; the reading also notes a count there.
+// The Sep of the one at i: 1 if one stands directly in the bracket. Of a closing bracket that nothing opened the reading notes here how
+// many items it wraps.
 pub fn set_sep(work: &mut [u32], i: usize, sep: u32)
     ensures { λ _. ⌜ now (work .exit) ≡ withSep (now (work .entry)) i sep ⌝ }
 {

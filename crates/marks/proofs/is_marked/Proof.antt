@@ -1,4 +1,4 @@
--- `is_marked`: a bit of the word; the mark 0 is none.
+-- `is_marked`: a bit of the marks; the mark 0 is none.
 use Rattle.marks.specs.Marks.{isMarked}
 use native.Mathlib.Nat.{div-zero}
 use mathlib.Core.Path.{refl}
