@@ -29,6 +29,9 @@ const SHOTS: usize = 3;
 /// What a shot of the original should take at least, in nanoseconds.
 const SHOT_TIME: f64 = 20_000.0;
 const LONGEST: usize = 4096;
+/// Words of work, and of tree, for each token other than Space and one more.
+const WORK: usize = 2;
+const TREE: usize = 32;
 
 type Text = &'static str;
 
@@ -127,8 +130,8 @@ const CALLS: [Call; 8] = [
                 input.bytes(),
                 &input.table,
                 input.tokens.len(),
-                &mut room.work[..2 * (input.others + 1)],
-                &mut room.tree[..32 * (input.others + 1)],
+                &mut room.work[..WORK * (input.others + 1)],
+                &mut room.tree[..TREE * (input.others + 1)],
                 &mut room.answer,
             ));
         },
@@ -211,8 +214,8 @@ fn our_parse(input: &Input, room: &mut Room, table: usize, others: usize) {
     accepted(calls::parse(
         input.bytes(),
         &mut room.table[..table],
-        &mut room.work[..2 * (others + 1)],
-        &mut room.tree[..32 * (others + 1)],
+        &mut room.work[..WORK * (others + 1)],
+        &mut room.tree[..TREE * (others + 1)],
         &mut room.answer,
     ));
 }
@@ -371,8 +374,8 @@ fn main() {
         tokens: Vec::with_capacity(LONGEST),
         our_tokens: Vec::with_capacity(LONGEST),
         table: vec![0; 3 * LONGEST],
-        work: vec![0; 2 * (LONGEST + 1)],
-        tree: vec![0; 32 * (LONGEST + 1)],
+        work: vec![0; WORK * (LONGEST + 1)],
+        tree: vec![0; TREE * (LONGEST + 1)],
         answer: [0; 4],
     };
     let pairs = CALLS

@@ -192,8 +192,8 @@ impl<'a> Check<'a> {
         let others = self.answer.map_or(40, |answer| answer.others);
         Lent {
             table: Some(self.answer.map_or(120, |answer| answer.table.len())),
-            work: Some(2 * (others + 1)),
-            tree: Some(32 * (others + 1)),
+            work: Some(predict::WORK * (others + 1)),
+            tree: Some(predict::TREE * (others + 1)),
             print: Some(self.answer.map_or(500, |answer| answer.printed.len())),
         }
     }
@@ -296,7 +296,7 @@ impl<'a> Check<'a> {
         );
         if let Some(answer) = self.accepted(code, &room)? {
             let known = answer.printed.len();
-            let most = 12 * 32 * (answer.others + 1) + 64;
+            let most = 12 * predict::TREE * (answer.others + 1) + 64;
             expect(known <= most, "longer than ASCIIMATH_PRINT_BYTES")?;
             let blank = u64::from(answer.items == 0);
             room.has_values(&[known as u64, answer.takes, blank])?;

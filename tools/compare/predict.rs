@@ -23,11 +23,15 @@ fn of_text(text: &[u8]) -> Option<u32> {
     }
 }
 
-/// Work needs 2 × (n + 1) words, tree 32 × (n + 1).
+/// Words of work, and of tree, for each token other than Space and one more: work needs 2 × (n + 1)
+/// words, tree 32 × (n + 1).
+pub const WORK: usize = 2;
+pub const TREE: usize = 32;
+
 fn of_work_and_tree(others: usize, lent: &Lent) -> Option<u32> {
-    if short(lent.work, 2 * (others + 1)) {
+    if short(lent.work, WORK * (others + 1)) {
         Some(8)
-    } else if short(lent.tree, 32 * (others + 1)) {
+    } else if short(lent.tree, TREE * (others + 1)) {
         Some(9)
     } else {
         None

@@ -3,6 +3,7 @@
 use crate::check::{Case, Situation};
 use crate::guarded::Random;
 use crate::original::Answer;
+use crate::predict::{TREE, WORK};
 
 /// Buffers of just the length that is needed.
 pub fn plain(seed: u64) -> Situation {
@@ -51,8 +52,8 @@ fn any_text(length: usize, answer: &Answer, seed: u64) -> Situation {
     let more = |words: usize, tokens: usize| words as isize * (length as isize - tokens as isize);
     Situation {
         table: more(3, answer.table.len() / 3),
-        work: more(2, answer.others),
-        tree: more(32, answer.others),
+        work: more(WORK, answer.others),
+        tree: more(TREE, answer.others),
         ..plain(seed)
     }
 }
