@@ -49,7 +49,8 @@
  *         return 0;
  *     }
  *
- * examples/c/read.c walks over the whole tree.
+ * examples/c/read.c walks over the whole tree; examples/c/brackets.c marks each bracket and its
+ * partner.
  */
 #ifndef ASCIIMATH_H
 #define ASCIIMATH_H
@@ -69,6 +70,8 @@ extern "C" {
 /* Words of work and of tree for n tokens other than Space. */
 #define ASCIIMATH_WORK_WORDS(n) (2 * ((size_t)(n) + 1))
 #define ASCIIMATH_TREE_WORDS(n) (32 * ((size_t)(n) + 1))
+/* Words of closers for n tokens other than Space. */
+#define ASCIIMATH_CLOSERS_WORDS(n) ((size_t)(n))
 /* Bytes that any print of n tokens other than Space fits in: a print has at most 12 bytes for each
  * word of its tree, and a first line of at most 64. (Counted, not proved: a shorter or a longer
  * buffer is safe all the same.) */
@@ -83,7 +86,8 @@ enum asciimath_refusal {
     ASCIIMATH_TOKEN_SPAN = 5,   /* a token's start + length, not wrapped, passes the text's end */
     ASCIIMATH_DOUBLE_SPACE = 6, /* a Space token directly after a Space of length 1 or more */
     ASCIIMATH_SHORT_TABLE = 7,  /* the table has fewer than ASCIIMATH_TABLE_WORDS(tokens) words */
-    ASCIIMATH_SHORT_WORK = 8,   /* work has fewer than ASCIIMATH_WORK_WORDS(n) words */
+    ASCIIMATH_SHORT_WORK = 8,   /* work has fewer than ASCIIMATH_WORK_WORDS(n) words, or the buffer
+                                   of closers fewer than ASCIIMATH_CLOSERS_WORDS(n) */
     ASCIIMATH_SHORT_TREE = 9,   /* tree has fewer than ASCIIMATH_TREE_WORDS(n) words */
     ASCIIMATH_SHORT_PRINT = 10  /* the print buffer is shorter than the whole print */
 };
@@ -203,6 +207,23 @@ uint32_t asciimath_parse_tokens(const uint8_t *text, size_t text_len, const uint
 uint32_t asciimath_print(const uint8_t *text, size_t text_len, uint32_t *table, size_t table_len,
                          uint32_t *work, size_t work_len, uint32_t *tree, size_t tree_len,
                          uint8_t *out, size_t out_len, uint64_t *answer, size_t answer_len);
+
+/* Finds the closers of a list of `count` tokens over a text, as asciimath_parse_tokens takes it. For
+ * each token other than Space, `out` gets the place of its closer, counted from 0 among those tokens,
+ * or n for none; words behind stay as they were. A token's closer is the token that ends the group,
+ * matrix or matrix row that it opens in the reading. It stands behind its opener, is no other's and
+ * opens nothing, and pairs never cross. The table is only read.
+ * Values: n. Refusals: 1, 2, 3, then token by token 4, 5, 6, then 8. */
+uint32_t asciimath_closers(const uint8_t *text, size_t text_len, const uint32_t *table,
+                           size_t table_len, size_t count, uint32_t *out, size_t out_len,
+                           uint64_t *answer, size_t answer_len);
+
+/* Writes the tokens of a text into the table as asciimath_tokens does, and their closers into `out`
+ * as asciimath_closers does.
+ * Values: tokens, n. Refusals: 1, 2, 7, 8. */
+uint32_t asciimath_closers_text(const uint8_t *text, size_t text_len, uint32_t *table,
+                                size_t table_len, uint32_t *out, size_t out_len, uint64_t *answer,
+                                size_t answer_len);
 
 #ifdef __cplusplus
 }

@@ -5,8 +5,8 @@
 
 SPELLINGS is tokenizer.rs of the original or the project's list of rows. Each family gives its
 fixed texts and then `count` random ones; the same arguments give the same texts. The families
-`lists`, `kinds`, `wild`, `bars`, `full` and `string_lists` are different: their lines are `HEX
-start,len,kind start,len,kind ..`, token lists over a text; `kinds`, `full` and `string_lists` are fixed
+`lists`, `kinds`, `wild`, `bars`, `full`, `bracket_lists` and `string_lists` are different: their lines are
+`HEX start,len,kind start,len,kind ..`, token lists over a text; `kinds`, `full` and `string_lists` are fixed
 lists, whatever the count and length. They, `strings` and `examples` are not among the default families.
 """
 
@@ -32,6 +32,12 @@ UNITS = ["|(", "|sin ", "| |(", "|a(", "|[", "|| |(", "|x^", "sin |", "[(|", "-|
 TEXTS = os.path.join(os.path.dirname(os.path.abspath(__file__)), "bench", "texts.txt")
 # ways to go deeper
 NESTED = ["(", "|", "[(", "[(a,", "[(a,b),(", "|(a,b),(", "x^", "x_1^", "sqrt ", "frac x", "1/", "sin ", "sin^", "-", "sin_1^"]
+# closers that hang on an attempt given back, on a Sep that is an argument, on cells and lines counted
+BRACKETS = ["{(a|b,|c|,d)}", "((sqrt ,))", "[(|a,b)|", "a)(b", "[(|,a)]", "[(|)]", "[(|,|)]", "|(a,b),(c,d)|", "[(a,b),(c)]", "[(a|,|b)]"]
+BRACKETS += ["{(|a,b),(c,d|)}", "|(a|,b)|", "[[|[(a,b)],(c|,d)]|]", "[([(|a,b)],c)|,d]", "|-|(a,|b)", "[(sqrt ,a)]", "((x^,))", "[(-|a,b|)]"]
+# ways to open, and how many of one or another are as deep as can be
+OPENERS = ["(", "[(", "|(", "sqrt (", "-(", "(a,", "[(a,", "{(|", "x^(", "[(a,b),("]
+DEEPEST = [count + step for count in (43, 64, 85, 128) for step in (-1, 0, 1)]
 COUNTS = [2, 3, 64, 126, 127, 128, 129, 255, 256, 257, 258, 512, 1024, 2048, 4096]
 
 # document 01's 'Strings to try', in its order
@@ -330,6 +336,39 @@ class Maker:
         start, end = (self.pick("", "-|(", "[(", "-", "|", "((") for _ in range(2))
         return start + units * int(100 ** self.rng.random()) + self.pick("", "),", ",", "|") + end
 
+    def brackets_fixed(self):
+        """Bars over cells, and closers where it is as deep as can be."""
+        yield from BRACKETS
+        for pair, row in itertools.product(("{}", "[]", "||", "()"), ("()", "[]")):
+            for cells in itertools.product(("a", "|", "a|b", "|c|", "-|", "[(|,d)]"), repeat=3):
+                yield from (self.rows_of(rows, *pair, row) for rows in ([cells], [cells[:2], cells[1:]]))
+        starts, ends = ("", "-", "[(", ")" * 256 + "=)-"), (")", "b)]", "|)", "a),")
+        for start, unit, count, end in itertools.product(starts, OPENERS, DEEPEST, ends):
+            text = start + unit * count + end * (count + 2)
+            yield from [text] if len(text) <= self.longest else []
+
+    def brackets(self):
+        deep = self.rng.choice(OPENERS) * self.rng.randrange(140) if self.often(1, 8) else ""
+        text = deep + self.grown(self.rng.randint(1, 5)) + (self.pick(")", ")]", "|)") * self.rng.randrange(140) if deep else "")
+        return text if self.often(3) else self.damaged(text)
+
+    def grown(self, depth):
+        """Brackets in brackets, with some that are alone."""
+        if depth <= 0:
+            return self.pick("a", "a", "", "-", "|", "|", ",", "sqrt ", "1/", "x^")
+        inner = lambda: self.grown(depth - 1)
+        return self.pick(
+            lambda: inner() + inner(),
+            lambda: inner().join(self.pick("()", "[]", "{}", "||", ("||", "||"), "(]", ("|", ")"), ("(", ""))),
+            lambda: self.rows_of(self.cells(inner), *self.rng.choice(PAIRS[:5]), self.pick("()", "()", "[]")),
+        )()
+
+    def cells(self, cell):
+        """Rows of cells with a line here and there, a bar behind some, seldom of different lengths."""
+        lines = [self.often(1) for _ in range(self.rng.randint(1, 3))]
+        rows = [["|" if line else cell() + self.pick("", "", "|") for line in lines] for _ in range(self.rng.randint(1, 3))]
+        return [row + ["a"] * self.often(1, 20) for row in rows]
+
     def nested_fixed(self):
         """As deep as can be, of one or two ways in turns."""
         for one, other in itertools.product(NESTED, ["", *NESTED]):
@@ -345,6 +384,12 @@ class Maker:
 KINDS = dict(zip(PIECES, (20, 21, 20, 21, 20, 21, 22, 22, 3, 23, 6, 4, 16, 0, 2, 1, 17, 18, 19, 10)))
 
 
+def pieces_of(text):
+    """Start, length and kind of each piece of a text."""
+    for piece in re.finditer("sin|sqrt|frac|[|][|]|.", text):
+        yield piece.start(), len(piece[0]), KINDS.get(piece[0], 6)
+
+
 def token_list(make):
     """A text of pieces as a token list, in which some kinds and spans are changed."""
     rng, text, tokens = make.rng, "", []
@@ -355,8 +400,7 @@ def token_list(make):
         matrix = make.rows_of(cells, *rng.choice(PAIRS[:4]), make.pick("()", "[]"))
         text += make.pick(some(), matrix)
     changed = make.pick(0, 0.02, 0.2)
-    for piece in re.finditer("sin|sqrt|frac|[|][|]|.", text):
-        start, length, kind = piece.start(), len(piece[0]), KINDS[piece[0]]
+    for start, length, kind in pieces_of(text):
         if rng.random() < changed:
             kind = rng.randrange(24)
         if rng.random() < changed:
@@ -401,6 +445,22 @@ def bar_list(make):
     return " ".join(part for part in [text.encode().hex(), start, *bars, end] if part)
 
 
+def bracket_list(make):
+    """Brackets in brackets as a list. Those that look alike may have one span, bars an empty one; bars may be other tokens."""
+    text, how, tokens = make.brackets()[: make.longest], make.pick("own", "own", "first", "empty"), []
+    other = make.rng.randrange(23)
+    bars = make.pick([22], [22], [22, 22, 22, other], [other])
+    for start, length, kind in pieces_of(text):
+        if how == "first":
+            start = text.find(text[start : start + length])
+        if how == "empty" and kind == 22:
+            start, length = make.rng.randint(0, len(text)), 0
+        if kind == 22:
+            kind = make.rng.choice(bars)
+        tokens.append(f"{start},{length},{kind}")
+    return " ".join([text.encode().hex(), *tokens])
+
+
 # what a list as long as can be repeats
 FULL = ["(", ")", "|", "()", "[(", "|(", "(,", "(|", "a)", "a ", "),", "x^", "(a,"]
 
@@ -414,8 +474,8 @@ def full_lists():
         yield " ".join([(unit + ")").encode().hex(), *many, *closer])
 
 
-FAMILIES = "spellings blanks numbers quotes commands bytes soup matrices expressions short deep nested all limits answers takes".split()
-LISTS = {"lists": token_list, "wild": wild_list, "bars": bar_list}
+FAMILIES = "spellings blanks numbers quotes commands bytes soup matrices expressions short deep nested all limits answers takes brackets".split()
+LISTS = {"lists": token_list, "wild": wild_list, "bars": bar_list, "bracket_lists": bracket_list}
 FIXED_LISTS = {"kinds": kind_lists, "full": full_lists}
 
 

@@ -19,9 +19,14 @@ corpus() { python3 "$root/tools/corpus.py" "$root/crates/lexing/specs/Spellings.
 each() { awk -v step="$1" 'NR % step == 1 % step'; }
 # lines LISTS: `HEX a,b,c d,e,f` as `HEX:a,b,c,d,e,f,`
 lines() { sed -e '/ /!s/$/:/' -e '/:$/!s/$/,/' -e 's/ /:/' -e 's/ /,/g' "$1"; }
+# closed LINES: before each line `--` the next of the lines of closers, with a blank behind each number
+closed() {
+    awk -v lines=<(sed -e 's/[0-9]$/& /' -e 's/^panic$/refused=6/' "$1") \
+        '/^--$/ { if ((getline line < lines) < 1) exit 1; print line } 1'
+}
 # the Rust's answers to texts and to lists
-tree() { "$work/oracle" tree < "$1"; }
-words() { "$work/oracle" list < "$1" | python3 "$root/tools/tree_words.py"; }
+tree() { "$work/oracle" tree < "$1" | closed <("$work/oracle" closers < "$1"); }
+words() { "$work/oracle" list < "$1" | python3 "$root/tools/tree_words.py" | closed <("$work/oracle" list_closers < "$1"); }
 
 corpus --families strings > "$work/strings"
 corpus --families string_lists > "$work/string_lists"
@@ -46,8 +51,15 @@ corpus --families string_lists > "$work/string_lists"
     # depth 256, unmatched closers, the memory of failed attempts
     corpus --families deep --count 40 --max-length 140 | each 24
     corpus --families deep --count 0 --max-length 600 | each 200
+    # closers: bars over cells, attempts given back, brackets in brackets; where it is as deep as can be
+    corpus --families brackets --count 0 --max-length 60 | awk 'NR <= 18 || NR % 47 == 0'
+    corpus --families brackets --count 200 --max-length 60 | tail -n 150
+    corpus --families brackets --count 0 --max-length 600 | awk 'length > 120' | each 120
 } | awk '!seen[$0]++' | grep -vxFf "$work/strings" > "$work/texts"
-corpus --families lists --count 2700 | awk '!seen[$0]++' > "$work/lists"
+{
+    corpus --families lists --count 2700
+    corpus --families bracket_lists --count 300 --max-length 60
+} | awk '!seen[$0]++' > "$work/lists"
 
 {
     cat "$work/strings"
@@ -62,7 +74,7 @@ corpus --families lists --count 2700 | awk '!seen[$0]++' > "$work/lists"
     words "$work/string_lists"
     tree "$work/texts"
     words "$work/lists"
-    printf 'refused=1\n--\nrefused=2\n--\n'
+    printf 'refused=1\nrefused=1\n--\nrefused=2\nrefused=2\n--\n'
 } > "$out/stdout"
 wc -l "$work"/{strings,string_lists,texts,lists}
 wc -c "$out/stdin" "$out/stdout"

@@ -20,6 +20,7 @@ pub struct Situation {
     pub table: isize,
     pub work: isize,
     pub tree: isize,
+    pub closers: isize,
     pub print: isize,
     pub answer: usize,
     /// The words in the buffers come from it.
@@ -73,6 +74,7 @@ struct Room {
     table: Guarded<u32>,
     work: Guarded<u32>,
     tree: Guarded<u32>,
+    closers: Guarded<u32>,
     print: Guarded<u8>,
     answer: Guarded<u64>,
     /// The lengths.
@@ -89,6 +91,7 @@ impl Room {
             table: length(needed.table, situation.table),
             work: length(needed.work, situation.work),
             tree: length(needed.tree, situation.tree),
+            closers: length(needed.closers, situation.closers),
             print: length(needed.print, situation.print),
         };
         Room {
@@ -99,6 +102,7 @@ impl Room {
             },
             work: Guarded::random(lent.work.unwrap_or(0), random, word),
             tree: Guarded::random(lent.tree.unwrap_or(0), random, word),
+            closers: Guarded::random(lent.closers.unwrap_or(0), random, word),
             print: Guarded::random(lent.print.unwrap_or(0), random, byte),
             answer: Guarded::random(situation.answer, random, |word| word),
             lent,
@@ -110,6 +114,7 @@ impl Room {
         expect(self.table.same(), "the table changed")?;
         expect(self.work.same(), "work changed")?;
         expect(self.tree.same(), "the tree changed")?;
+        expect(self.closers.same(), "the closers changed")?;
         expect(self.print.same(), "the print buffer changed")?;
         expect(self.answer.same(), "the answer changed")
     }
@@ -135,6 +140,17 @@ impl Room {
         expect(self.table.same_from(known), "words behind the tokens")
     }
 
+    /// The closers, in pairs that never cross, and the other words as before.
+    fn has_closers(&self, answer: &Answer) -> Checked {
+        let given = &self.closers.now()[..answer.others];
+        if given != answer.closers {
+            let right = &answer.closers;
+            return Err(format!("the closers are {given:?}, not {right:?}"));
+        }
+        nested(given)?;
+        expect(self.closers.same_from(given.len()), "words behind closers")
+    }
+
     /// Work is zero, the tree is the original's, and zero behind it.
     fn has_tree(&self, text: &str, answer: &Answer) -> Checked {
         let zero = |words: &[u32]| words.iter().all(|&word| word == 0);
@@ -148,6 +164,27 @@ impl Room {
         expect(zero(&words[end..]), "words behind the tree")?;
         expect(self.tree.same_around(), "words around the tree")
     }
+}
+
+/// A closer stands behind its opener, is no other's and opens nothing; pairs never cross.
+fn nested(closers: &[u32]) -> Checked {
+    // the closers to come, the next one last
+    let mut open = Vec::new();
+    for (at, &closer) in closers.iter().enumerate() {
+        let (closer, closes) = (closer as usize, open.last() == Some(&at));
+        if closes {
+            open.pop();
+        }
+        if closer == closers.len() {
+            continue;
+        }
+        expect(!closes, "a closer opens")?;
+        expect(at < closer, "a closer before its opener")?;
+        let before = *open.last().unwrap_or(&closers.len());
+        expect(closer < before, "pairs cross or have one closer")?;
+        open.push(closer);
+    }
+    Ok(())
 }
 
 pub fn same_lines(ours: &str, original: &str) -> Checked {
@@ -174,13 +211,14 @@ impl<'a> Check<'a> {
     /// written.
     pub fn run(&mut self) -> Checked {
         if self.case.list.is_some() {
+            self.closers().map_err(|say| say + " (closers)")?;
             return self.parse_tokens().map_err(|say| say + " (parse_tokens)");
         }
         self.count().map_err(|say| say + " (count)")?;
         self.tokens().map_err(|say| say + " (tokens)")?;
         self.parse().map_err(|say| say + " (parse)")?;
         self.print().map_err(|say| say + " (print)")?;
-        Ok(())
+        self.closers_text().map_err(|say| say + " (closers_text)")
     }
 
     fn room(&self, needed: Lent) -> Room {
@@ -194,32 +232,27 @@ impl<'a> Check<'a> {
             table: Some(self.answer.map_or(120, |answer| answer.table.len())),
             work: Some(predict::WORK * (others + 1)),
             tree: Some(predict::TREE * (others + 1)),
+            closers: Some(others),
             print: Some(self.answer.map_or(500, |answer| answer.printed.len())),
         }
     }
 
-    /// Compares the code of a call on a text with the predicted one. The original's answer, if the
-    /// call accepted.
-    fn accepted(&mut self, code: u32, room: &Room) -> Result<Option<&'a Answer>, String> {
-        let expected = match self.answer {
-            None => predict::text(&self.case.text, 0, 0, 0, &room.lent),
-            Some(answer) => predict::text(
-                &self.case.text,
-                answer.table.len() / 3,
-                answer.others,
-                answer.printed.len(),
-                &room.lent,
-            ),
-        };
-        self.expected(code, expected, room)
+    fn predicted(&self, lent: &Lent) -> u32 {
+        let text = &self.case.text;
+        match (&self.case.list, self.answer) {
+            (Some((words, count)), _) => predict::list(text, words, *count, lent),
+            (None, None) => predict::text(text, 0, 0, 0, lent),
+            (None, Some(answer)) => {
+                let (tokens, printed) = (answer.table.len() / 3, answer.printed.len());
+                predict::text(text, tokens, answer.others, printed, lent)
+            }
+        }
     }
 
-    fn expected(
-        &mut self,
-        code: u32,
-        expected: u32,
-        room: &Room,
-    ) -> Result<Option<&'a Answer>, String> {
+    /// Compares the code of a call with the predicted one. The original's answer, if the call
+    /// accepted.
+    fn accepted(&mut self, code: u32, room: &Room) -> Result<Option<&'a Answer>, String> {
+        let expected = self.predicted(&room.lent);
         if code != expected {
             return Err(format!("the code is {code}, not {expected}"));
         }
@@ -265,6 +298,7 @@ impl<'a> Check<'a> {
 
     fn parse(&mut self) -> Checked {
         let mut room = self.room(Lent {
+            closers: None,
             print: None,
             ..self.needed()
         });
@@ -285,7 +319,10 @@ impl<'a> Check<'a> {
     }
 
     fn print(&mut self) -> Checked {
-        let mut room = self.room(self.needed());
+        let mut room = self.room(Lent {
+            closers: None,
+            ..self.needed()
+        });
         let code = calls::print(
             room.text.now(),
             room.table.lent(),
@@ -318,23 +355,67 @@ impl<'a> Check<'a> {
         }
     }
 
+    fn closers_text(&mut self) -> Checked {
+        let mut room = self.room(Lent {
+            table: self.needed().table,
+            closers: self.needed().closers,
+            ..Lent::default()
+        });
+        let code = calls::closers_text(
+            room.text.now(),
+            room.table.lent(),
+            room.closers.lent(),
+            room.answer.lent(),
+        );
+        let Some(answer) = self.accepted(code, &room)? else {
+            return Ok(());
+        };
+        room.has_values(&[answer.table.len() as u64 / 3, answer.others as u64])?;
+        room.has_tokens(answer)?;
+        room.has_closers(answer)
+    }
+
+    /// The count that is claimed for the case's list.
+    fn claimed(&self) -> usize {
+        self.case.list.as_ref().expect("a list").1
+    }
+
+    fn closers(&mut self) -> Checked {
+        let mut room = self.room(Lent {
+            closers: self.needed().closers,
+            ..Lent::default()
+        });
+        let code = calls::closers(
+            room.text.now(),
+            room.table.now(),
+            self.claimed(),
+            room.closers.lent(),
+            room.answer.lent(),
+        );
+        let Some(answer) = self.accepted(code, &room)? else {
+            return Ok(());
+        };
+        room.has_values(&[answer.others as u64])?;
+        expect(room.table.same(), "the table changed")?;
+        room.has_closers(answer)
+    }
+
     fn parse_tokens(&mut self) -> Checked {
-        let (words, count) = self.case.list.as_ref().expect("a list");
         let mut room = self.room(Lent {
             table: None,
+            closers: None,
             print: None,
             ..self.needed()
         });
         let code = calls::parse_tokens(
             room.text.now(),
             room.table.now(),
-            *count,
+            self.claimed(),
             room.work.lent(),
             room.tree.lent(),
             room.answer.lent(),
         );
-        let expected = predict::list(&self.case.text, words, *count, &room.lent);
-        let Some(answer) = self.expected(code, expected, &room)? else {
+        let Some(answer) = self.accepted(code, &room)? else {
             return Ok(());
         };
         let (items, blank) = (answer.items as u64, u64::from(answer.items == 0));

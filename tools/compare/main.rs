@@ -14,6 +14,8 @@ mod kinds;
 mod original;
 mod ours;
 mod predict;
+#[path = "../oracle/reading.rs"]
+mod reading;
 mod vary;
 
 use check::{Case, Check, Checked, Situation, Tally, known};

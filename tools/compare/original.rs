@@ -5,7 +5,8 @@ use asciimath_parser::tree;
 #[path = "../oracle/print.rs"]
 mod print;
 
-use asciimath_parser::{Token, Tokenizer, parse_tokens, takes};
+use crate::reading::reading;
+use asciimath_parser::{Token, Tokenizer};
 use kinds::{TOKENS, kind, start};
 use std::panic::catch_unwind;
 
@@ -15,6 +16,8 @@ pub struct Answer {
     pub table: Vec<u32>,
     /// The tokens other than Space.
     pub others: usize,
+    /// The place of each one's closer among them, or their number for none.
+    pub closers: Vec<u32>,
     pub takes: u64,
     pub items: usize,
     /// The printed tree of document 01.
@@ -47,19 +50,17 @@ pub fn list(text: &str, table: &[u32]) -> Option<Answer> {
 }
 
 fn answer(text: &str, tokens: &[(&str, Token)]) -> Answer {
-    takes::since_last();
-    let root = parse_tokens(tokens.iter().copied());
-    let takes = takes::since_last();
-    let spaces = tokens.iter().filter(|(_, token)| *token == Token::Space);
+    let read = reading(tokens);
     Answer {
         table: tokens
             .iter()
             .flat_map(|&(part, token)| [start(text, part), part.len(), kind(token)])
             .map(|word| word as u32)
             .collect(),
-        others: tokens.len() - spaces.count(),
-        takes,
-        items: root.len(),
-        printed: print::printed(text, tokens.len(), takes, &root),
+        others: read.closers.len(),
+        closers: read.closers.iter().map(|&place| place as u32).collect(),
+        takes: read.takes,
+        items: read.root.len(),
+        printed: print::printed(text, tokens.len(), read.takes, &read.root),
     }
 }

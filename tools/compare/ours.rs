@@ -5,7 +5,7 @@ use crate::kinds;
 use crate::original::Answer;
 use crate::predict::{self, Lent};
 use asciimath::borrowed::tree;
-use asciimath::{Reading, Refusal, Token, Tokenizer, borrowed};
+use asciimath::{Pair, Reading, Refusal, Token, Tokenizer, borrowed};
 #[path = "../oracle/print.rs"]
 mod print;
 
@@ -31,6 +31,8 @@ pub fn check(case: &Case, answer: Option<&Answer>) -> Checked {
         let refusal = predict::text(&case.text, 0, 0, 0, &Lent::default());
         let (owned, tree) = (asciimath::read(text), borrowed::parse(text));
         same_reading(text, refusal, owned, tree, answer)?;
+        same_closers(refusal, asciimath::closers(text), answer)?;
+        same_pairs(refusal, asciimath::pairs(text), answer)?;
         return same_beside(text, refusal, answer);
     };
     let Some(table) = words.get(..3 * count).filter(|table| all_fit(text, table)) else {
@@ -42,8 +44,9 @@ pub fn check(case: &Case, answer: Option<&Answer>) -> Checked {
         (part, Token::of_number(word[2]).expect("a kind"))
     });
     let owned = asciimath::read_tokens(text, tokens.clone());
-    let tree = borrowed::parse_tokens(text, tokens);
-    same_reading(text, refusal, owned, tree, answer)
+    let tree = borrowed::parse_tokens(text, tokens.clone());
+    same_reading(text, refusal, owned, tree, answer)?;
+    same_closers(refusal, asciimath::closers_tokens(text, tokens), answer)
 }
 
 /// The refusal of an answer, or 0.
@@ -51,6 +54,13 @@ fn number<X>(answer: &Result<X, Refusal>) -> u32 {
     answer
         .as_ref()
         .map_or_else(|refusal| refusal.number(), |_| 0)
+}
+
+fn same_refusals(numbers: &[u32], refusal: u32) -> Checked {
+    if numbers.iter().all(|&number| number == refusal) {
+        return Ok(());
+    }
+    Err(format!("the bindings refuse by {numbers:?}, not {refusal}"))
 }
 
 /// The owned and the borrowed reading are the original's, or have the refusal.
@@ -61,10 +71,7 @@ fn same_reading(
     tree: Result<tree::Expression, Refusal>,
     answer: Option<&Answer>,
 ) -> Checked {
-    let numbers = (number(&owned), number(&tree));
-    if numbers != (refusal, refusal) {
-        return Err(format!("the bindings refuse by {numbers:?}, not {refusal}"));
-    }
+    same_refusals(&[number(&owned), number(&tree)], refusal)?;
     let (Ok(owned), Ok(tree), Some(answer)) = (owned, tree, answer) else {
         return Ok(());
     };
@@ -83,13 +90,45 @@ fn same_reading(
     )
 }
 
+/// The original's closers, none where a token has none.
+fn places(answer: &Answer) -> impl Iterator<Item = Option<usize>> {
+    let place = |&word: &u32| Some(word as usize).filter(|&place| place < answer.others);
+    answer.closers.iter().map(place)
+}
+
+/// The closers are the original's, or have the refusal.
+fn same_closers(
+    refusal: u32,
+    closers: Result<Vec<Option<usize>>, Refusal>,
+    answer: Option<&Answer>,
+) -> Checked {
+    same_refusals(&[number(&closers)], refusal)?;
+    let (Ok(closers), Some(answer)) = (closers, answer) else {
+        return Ok(());
+    };
+    expect(places(answer).eq(closers), "the bindings' closers")
+}
+
+/// The pairs are the spans of the original's tokens and of their closers, or have the refusal.
+fn same_pairs(refusal: u32, pairs: Result<Vec<Pair>, Refusal>, answer: Option<&Answer>) -> Checked {
+    same_refusals(&[number(&pairs)], refusal)?;
+    let (Ok(pairs), Some(answer)) = (pairs, answer) else {
+        return Ok(());
+    };
+    let tokens = answer.table.chunks_exact(3).filter(|word| word[2] != 23);
+    let spans: Vec<_> = tokens
+        .map(|word| word[0] as usize..(word[0] + word[1]) as usize)
+        .collect();
+    let right = places(answer)
+        .zip(&spans)
+        .filter_map(|(closer, opener)| Some((opener.clone(), spans[closer?].clone())));
+    expect(right.eq(pairs), "the bindings' pairs")
+}
+
 /// The tokens and the print of a text.
 fn same_beside(text: &str, refusal: u32, answer: Option<&Answer>) -> Checked {
     let (tokens, printed) = (Tokenizer::new(text), asciimath::print(text));
-    let numbers = (number(&tokens), number(&printed));
-    if numbers != (refusal, refusal) {
-        return Err(format!("the bindings refuse by {numbers:?}, not {refusal}"));
-    }
+    same_refusals(&[number(&tokens), number(&printed)], refusal)?;
     let (Ok(tokens), Ok(printed), Some(answer)) = (tokens, printed, answer) else {
         return Ok(());
     };

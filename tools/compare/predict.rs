@@ -6,6 +6,7 @@ pub struct Lent {
     pub table: Option<usize>,
     pub work: Option<usize>,
     pub tree: Option<usize>,
+    pub closers: Option<usize>,
     pub print: Option<usize>,
 }
 
@@ -28,8 +29,9 @@ fn of_text(text: &[u8]) -> Option<u32> {
 pub const WORK: usize = 2;
 pub const TREE: usize = 32;
 
-fn of_work_and_tree(others: usize, lent: &Lent) -> Option<u32> {
-    if short(lent.work, WORK * (others + 1)) {
+/// "In a lent buffer of n words (a shorter one is 8)": the closers.
+fn of_others(others: usize, lent: &Lent) -> Option<u32> {
+    if short(lent.work, WORK * (others + 1)) || short(lent.closers, others) {
         Some(8)
     } else if short(lent.tree, TREE * (others + 1)) {
         Some(9)
@@ -43,7 +45,7 @@ fn of_work_and_tree(others: usize, lent: &Lent) -> Option<u32> {
 pub fn text(text: &[u8], tokens: usize, others: usize, print: usize, lent: &Lent) -> u32 {
     of_text(text)
         .or(short(lent.table, 3 * tokens).then_some(7))
-        .or(of_work_and_tree(others, lent))
+        .or(of_others(others, lent))
         .or(short(lent.print, print).then_some(10))
         .unwrap_or(0)
 }
@@ -73,6 +75,6 @@ pub fn list(text: &[u8], table: &[u32], count: usize, lent: &Lent) -> u32 {
     };
     of_text(text).unwrap_or_else(|| match of_list() {
         Err(number) => number,
-        Ok(others) => of_work_and_tree(others, lent).unwrap_or(0),
+        Ok(others) => of_others(others, lent).unwrap_or(0),
     })
 }

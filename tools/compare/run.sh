@@ -31,13 +31,13 @@ trap 'rm -rf "$out"' EXIT
 "$here/../build.sh" compare "$src" "$library" "$out"
 
 corpus() { python3 "$here/../corpus.py" "$src/tokenizer.rs" --seed "$seed" "$@"; }
-short=spellings,blanks,numbers,quotes,commands,bytes,soup,matrices,expressions,short,deep,all,answers,takes
+short=spellings,blanks,numbers,quotes,commands,bytes,soup,matrices,expressions,short,deep,all,answers,takes,brackets
 many_texts() {
-    corpus --families $short --count $((texts / 15)) --max-length 150 --letters $((texts < 100000 ? 4 : 5))
-    corpus --families limits,soup,matrices,expressions,deep,nested,takes --count $((texts / 105)) --max-length 4100
+    corpus --families $short --count $((texts / 16)) --max-length 150 --letters $((texts < 100000 ? 4 : 5))
+    corpus --families limits,soup,matrices,expressions,deep,nested,takes,brackets --count $((texts / 128)) --max-length 4100
 }
 many_lists() {
-    corpus --families kinds,full,lists,wild,bars --count $((lists / 4)) --max-length 120
-    corpus --families wild,bars --count $((lists / 8)) --max-length 4096
+    corpus --families kinds,full,lists,wild,bars,bracket_lists --count $((lists / 5)) --max-length 120
+    corpus --families wild,bars,bracket_lists --count $((lists / 15)) --max-length 4096
 }
 "$out/compare" "$seed" <(many_texts) <(many_lists)

@@ -11,14 +11,15 @@ pub fn plain(seed: u64) -> Situation {
         table: 0,
         work: 0,
         tree: 0,
+        closers: 0,
         print: 0,
         answer: 6,
         seed,
     }
 }
 
-/// The situations that a case is read in: just enough, one buffer one short, and either enough for
-/// any text of that length or anything.
+/// The situations that a case is read in: just enough, one buffer of a reading and perhaps the
+/// closers one short, and either enough for any text of that length or anything.
 pub fn situations(case: &Case, answer: Option<&Answer>, random: &mut Random) -> [Situation; 3] {
     let mut one_short = plain(random.next());
     match random.below(4) {
@@ -27,6 +28,7 @@ pub fn situations(case: &Case, answer: Option<&Answer>, random: &mut Random) -> 
         2 => one_short.tree = -1,
         _ => one_short.print = -1,
     }
+    one_short.closers = random.pick(&[0, -1]);
     let mut more = || match random.below(8) {
         0 => -(random.below(40) as isize),
         1 => isize::MIN,
@@ -36,6 +38,7 @@ pub fn situations(case: &Case, answer: Option<&Answer>, random: &mut Random) -> 
         table: more(),
         work: more(),
         tree: more(),
+        closers: more(),
         print: more(),
         answer: random.below(6),
         seed: random.next(),
@@ -54,6 +57,7 @@ fn any_text(length: usize, answer: &Answer, seed: u64) -> Situation {
         table: more(3, answer.table.len() / 3),
         work: more(WORK, answer.others),
         tree: more(TREE, answer.others),
+        closers: more(1, answer.others),
         ..plain(seed)
     }
 }
@@ -149,10 +153,11 @@ pub fn smallest(
     differs: &dyn Fn(&Case, &Situation) -> bool,
 ) -> (Case, Situation) {
     let (mut case, mut situation) = (case.clone(), *situation);
-    let easier: [fn(&mut Situation); 5] = [
+    let easier: [fn(&mut Situation); 6] = [
         |s| s.table = 0,
         |s| s.work = 0,
         |s| s.tree = 0,
+        |s| s.closers = 0,
         |s| s.print = 0,
         |s| s.answer = 6,
     ];

@@ -6,8 +6,8 @@
 # SRC holds tokenizer.rs, parse.rs, tree.rs and prefix_map/hash.rs of asciimath-parser, commit
 # d19631f642. OUT gets
 #   plain/libasciimath_parser.rlib      the original as it is
-#   counting/libasciimath_parser.rlib   the original with a counter of takes
-#   oracle                              the program of oracle.rs, with the counter
+#   counting/libasciimath_parser.rlib   the original with a counter of takes and a log of pairs
+#   oracle                              the program of oracle.rs, with both
 # and the stand-ins for the two crates that the original uses.
 set -euo pipefail
 [ $# -eq 2 ] || { echo "usage: build.sh SRC OUT" >&2; exit 2; }
@@ -34,7 +34,7 @@ original() {
 
 for name in plain counting; do
     mkdir -p "$out/$name/src/prefix_map"
-    cp "$src"/{tokenizer,parse,tree}.rs "$here"/{lib,takes}.rs "$out/$name/src/"
+    cp "$src"/{tokenizer,parse,tree}.rs "$here"/{lib,pairs,takes}.rs "$out/$name/src/"
     cp "$src/prefix_map/hash.rs" "$out/$name/src/prefix_map/"
     cp "$here/prefix_map.rs" "$out/$name/src/prefix_map/mod.rs"
 done
@@ -42,20 +42,39 @@ done
 python3 - "$out/counting/src/parse.rs" <<'PY'
 import sys
 
+take = " crate::takes::add();"
+length = " let pairs = crate::pairs::length();"
+cut = "crate::pairs::cut(pairs); "
+pair = "crate::pairs::add({}, self.pos - 1); ".format
+
+# what stands before, what is put in, what stands behind
+places = [
+    ("if item.is_some() {\n            self.pos += 1;", take, ""),
+    ("self.pos += 1;", take, "\n            let (row_open,"),
+    # a row
+    ("}?;", " let row_index = self.pos - 1;", "\n        let mut len = 1;"),
+    ("=> ", "{ " + pair("row_index"), "return Some((open, len, close)),"),
+    ("return Some((open, len, close))", " }", ","),
+    # a matrix, or one given back
+    ("let mark = self.pos;", length, "\n        let matrix = self.next_matrix_rows()"),
+    ("", pair("open_index"), "Matrix::new("),
+    ("", cut, "self.failed_matrices.insert("),
+    # a group
+    ("-> Group<'a> {", " let open_index = self.pos - 1;", ""),
+    ("self.advance() {\n            ", pair("open_index"), "bracket\n"),
+    # a pair of bars, or one given back
+    ("let open_index = mark - 1;", length, ""),
+    ("", pair("open_index"), "Simple::Group(Group::new(open, "),
+    ("", cut, "self.failed_opens.insert("),
+]
 path = sys.argv[1]
 with open(path, encoding="utf-8") as file:
     text = file.read()
-step = "self.pos += 1;\n"
-counted = "self.pos += 1; crate::takes::add();\n"
-for before, after in [
-    ("        if item.is_some() {\n            ", "        }\n        item\n"),
-    ("            ", "            let (row_open, row_cols, row_close) = self.next_matrix_row"),
-]:
-    old = before + step + after
-    if text.count(old) != 1:
-        sys.exit(f"{path}: not there exactly once:\n{old}")
-    text = text.replace(old, before + counted + after)
-if text.count(step) != 0:
+for before, added, after in places:
+    if text.count(before + after) != 1:
+        sys.exit(f"{path}: not there exactly once:\n{before + after}")
+    text = text.replace(before + after, before + added + after)
+if text.count("self.pos += 1;\n") != 0:
     sys.exit(f"{path}: a step without a count is left")
 with open(path, "w", encoding="utf-8") as file:
     file.write(text)

@@ -1,5 +1,7 @@
 //! The root of the crate around the four files of the original.
 
+#[cfg(counting)]
+pub mod pairs;
 mod parse;
 pub mod prefix_map;
 #[cfg(counting)]

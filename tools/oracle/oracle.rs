@@ -1,19 +1,23 @@
 //! Answers of the Rust original, to compare with.
 //!
-//!     oracle tokens|tree|list < lines > answers
+//!     oracle tokens|tree|list|closers|list_closers < lines > answers
 //!
 //! - tokens: each line is a text in lower-case hex; its answer is one line of `start,len,kind`.
 //! - tree: the same lines; the answer is the printed tree of document 01 and a line `--`.
 //! - list: each line is a text in hex and a token list, `HEX start,len,kind start,len,kind ..`;
 //!   the answer is the printed tree of that list, or `panic`, and a line `--`.
+//! - closers, list_closers: the lines of tree and of list; the answer is one line, for each token
+//!   other than Space the place of its closer among them, or their number for none; or `panic`.
 
 mod kinds;
 mod print;
+mod reading;
 
-use asciimath_parser::{Token, Tokenizer, parse_tokens, takes, tree};
+use asciimath_parser::{Token, Tokenizer, tree};
 use kinds::{TOKENS, kind, start};
+use reading::reading;
 use std::io::{BufRead, Write, stdin, stdout};
-use std::panic::{catch_unwind, set_hook};
+use std::panic::{UnwindSafe, catch_unwind, set_hook};
 
 /// A text of a line's hex digits, in a buffer with a byte to spare, so that the address of an
 /// empty text or of its end is that of no other text.
@@ -40,53 +44,59 @@ fn token_of<'a>(text: &'a str, triple: &str) -> (&'a str, Token) {
     (&text[start..start + len], TOKENS[kind])
 }
 
-fn tokens_line(text: &str) -> String {
-    let triples: Vec<String> = Tokenizer::new(text)
-        .map(|(part, token)| format!("{},{},{}", start(text, part), part.len(), kind(token)))
+fn tokens_line(text: &str, tokens: &[(&str, Token)]) -> String {
+    let triples: Vec<String> = tokens
+        .iter()
+        .map(|&(part, token)| format!("{},{},{}", start(text, part), part.len(), kind(token)))
         .collect();
     triples.join(" ") + "\n"
 }
 
 fn tree_lines(text: &str, tokens: &[(&str, Token)]) -> String {
-    takes::since_last();
-    let root = parse_tokens(tokens.iter().copied());
-    let takes = takes::since_last();
-    print::printed(text, tokens.len(), takes, &root)
+    let read = reading(tokens);
+    print::printed(text, tokens.len(), read.takes, &read.root)
 }
 
-/// The tree of a token list, or `panic` for two Space tokens in a row. Any other panic is shown
+fn closers_line(tokens: &[(&str, Token)]) -> String {
+    let closers = reading(tokens).closers;
+    let places: Vec<_> = closers.iter().map(usize::to_string).collect();
+    places.join(" ") + "\n"
+}
+
+/// The answer to a token list, or `panic` for two Space tokens in a row. Any other panic is shown
 /// with its message.
-fn list_lines(text: &str, tokens: &[(&str, Token)]) -> String {
-    catch_unwind(|| tree_lines(text, tokens)).unwrap_or_else(|panic| {
+fn list_lines(answer: impl FnOnce() -> String + UnwindSafe) -> String {
+    set_hook(Box::new(|_| ()));
+    let lines = catch_unwind(answer).unwrap_or_else(|panic| {
         let message = panic.downcast_ref::<&str>().map(|s| s.to_string());
         match message.or_else(|| panic.downcast_ref::<String>().cloned()) {
             Some(message) if message == "two space tokens in a row" => "panic\n".into(),
             message => format!("panic: {message:?}\n"),
         }
-    })
+    });
+    let _ = std::panic::take_hook();
+    lines
 }
 
 fn answer(mode: &str, line: &str) -> String {
     let mut words = line.split(' ');
     let text = text_of(words.next().unwrap_or(""));
+    let own: Vec<_> = Tokenizer::new(&text).collect();
+    let listed: Vec<_> = words.map(|word| token_of(&text, word)).collect();
     match mode {
-        "tokens" => tokens_line(&text),
-        "tree" => tree_lines(&text, &Tokenizer::new(&text).collect::<Vec<_>>()) + "--\n",
-        "list" => {
-            let tokens: Vec<_> = words.map(|word| token_of(&text, word)).collect();
-            set_hook(Box::new(|_| ()));
-            let lines = list_lines(&text, &tokens);
-            let _ = std::panic::take_hook();
-            lines + "--\n"
-        }
-        _ => panic!("a mode is tokens, tree or list"),
+        "tokens" => tokens_line(&text, &own),
+        "tree" => tree_lines(&text, &own) + "--\n",
+        "list" => list_lines(|| tree_lines(&text, &listed)) + "--\n",
+        "closers" => closers_line(&own),
+        "list_closers" => list_lines(|| closers_line(&listed)),
+        _ => panic!("{MODES}"),
     }
 }
 
+const MODES: &str = "a mode is tokens, tree, list, closers or list_closers";
+
 fn main() {
-    let mode = std::env::args()
-        .nth(1)
-        .expect("a mode: tokens, tree or list");
+    let mode = std::env::args().nth(1).expect(MODES);
     let run = move || {
         let mut out = std::io::BufWriter::new(stdout().lock());
         for line in stdin().lock().lines() {

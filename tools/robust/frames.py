@@ -4,9 +4,9 @@
     frames.py LIB
 
 For each function, how much stack its own frame and the arguments of a call take where it makes that
-call. The readers call one another back: `next_simple` and `next_script_func` read one deeper, and find
-nothing at depth 256, so the longest way down is a walk over pairs of a function and a depth. The
-printing recursion is bounded by the tree and is left out here: run.sh measures it.
+call. The readers call one another back: `next_simple` and `next_script_func` of either pass read one
+deeper, and find nothing at depth 256, so the longest way down is a walk over pairs of a function and a
+depth. The printing recursion is bounded by the tree and is left out here: run.sh measures it.
 """
 import functools
 import re
@@ -14,7 +14,7 @@ import subprocess
 import sys
 
 MAX_DEPTH = 256
-DEEPER = {"parse::readers::next_simple", "parse::readers::next_script_func"}
+DEEPER = {"next_simple", "next_script_func"}
 
 
 def frames(lines):
@@ -62,10 +62,10 @@ def main():
     def need(name, depth):
         if name not in sites or depth > MAX_DEPTH + 1:
             return 0
-        inner = depth + (name in DEEPER)
+        inner = depth + (name.split("::")[-1] in DEEPER)
         return max(use + need(callee, inner) for callee, use in sites[name].items())
 
-    for name in ("asciimath_parse", "asciimath_parse_tokens"):
+    for name in ("asciimath_parse", "asciimath_parse_tokens", "asciimath_closers", "asciimath_closers_text"):
         print(f"stack of {name} by its frames: {need(name, 0)} bytes at most")
 
 

@@ -19,8 +19,9 @@
 #include <sys/mman.h>
 #include <unistd.h>
 
-enum { COUNT, TOKENS, PARSE, PARSE_TOKENS, PRINT, CALLS };
-static const char *const NAMES[CALLS] = {"count", "tokens", "parse", "parse_tokens", "print"};
+enum { COUNT, TOKENS, PARSE, PARSE_TOKENS, PRINT, CLOSERS, CLOSERS_TEXT, CALLS };
+static const char *const NAMES[CALLS] = {"count", "tokens",  "parse",       "parse_tokens",
+                                         "print", "closers", "closers_text"};
 enum { PAGE = 4096 };
 
 static uint64_t made[11], seed = 1;
@@ -44,10 +45,13 @@ static uint32_t some(uint32_t below) {
     return (uint32_t)(seed >> 33) % below;
 }
 
-/* Buffers: text, table, work, tree, out, answer. */
-enum { TEXT, TABLE, WORK, TREE, OUT, ANSWER, BUFFERS };
-static const size_t SIZES[BUFFERS] = {1, 4, 4, 4, 1, 8};
+/* Buffers: text, table, work, tree, the closers' places, out, answer. */
+enum { TEXT, TABLE, WORK, TREE, PLACES, OUT, ANSWER, BUFFERS };
+static const size_t SIZES[BUFFERS] = {1, 4, 4, 4, 4, 1, 8};
 static size_t most[BUFFERS];
+
+/* Whether a call only reads the table. */
+static int of_list(int which) { return which == PARSE_TOKENS || which == CLOSERS; }
 
 struct room {
     void *at[BUFFERS];
@@ -68,6 +72,12 @@ static uint32_t call(int which, const struct room *r) {
     case PARSE_TOKENS:
         return asciimath_parse_tokens(at[TEXT], n[TEXT], at[TABLE], n[TABLE], count, at[WORK],
                                       n[WORK], at[TREE], n[TREE], at[ANSWER], n[ANSWER]);
+    case CLOSERS:
+        return asciimath_closers(at[TEXT], n[TEXT], at[TABLE], n[TABLE], count, at[PLACES], n[PLACES],
+                                 at[ANSWER], n[ANSWER]);
+    case CLOSERS_TEXT:
+        return asciimath_closers_text(at[TEXT], n[TEXT], at[TABLE], n[TABLE], at[PLACES], n[PLACES],
+                                      at[ANSWER], n[ANSWER]);
     default:
         return asciimath_print(at[TEXT], n[TEXT], at[TABLE], n[TABLE], at[WORK], n[WORK], at[TREE],
                                n[TREE], at[OUT], n[OUT], at[ANSWER], n[ANSWER]);
@@ -77,12 +87,13 @@ static uint32_t call(int which, const struct room *r) {
 /* Lengths that are enough, or for one buffer a little less. */
 static void lengths(struct room *r, int which, int one_short) {
     const size_t n[BUFFERS] = {text_len, table_len, ASCIIMATH_WORK_WORDS(others),
-                               ASCIIMATH_TREE_WORDS(others), ASCIIMATH_PRINT_BYTES(others), 4};
+                               ASCIIMATH_TREE_WORDS(others), others, ASCIIMATH_PRINT_BYTES(others), 4};
     memcpy(r->length, n, sizeof n);
     if (which == PRINT && some(2)) r->length[OUT] = some(2000);
     if (one_short) {
         int one = (int[]){TABLE, WORK, TREE}[some(3)];
-        if (r->length[one] > 0 && !(which == PARSE_TOKENS && one == TABLE)) r->length[one] -= 1;
+        if (which >= CLOSERS && one != TABLE) one = PLACES;
+        if (r->length[one] > 0 && !(of_list(which) && one == TABLE)) r->length[one] -= 1;
     }
     r->length[ANSWER] = some(6);
 }
@@ -113,7 +124,7 @@ static void guard_calls(int one_short) {
             memcpy(r.at[TEXT], text, text_len);
             memcpy(r.at[TABLE], table, r.length[TABLE] * 4);
             mprotect(mapping[TEXT], room_for(TEXT), PROT_READ);
-            if (which == PARSE_TOKENS) mprotect(mapping[TABLE], room_for(TABLE), PROT_READ);
+            if (of_list(which)) mprotect(mapping[TABLE], room_for(TABLE), PROT_READ);
             made[call(which, &r)] += 1;
             mprotect(mapping[TEXT], room_for(TEXT), PROT_READ | PROT_WRITE);
             mprotect(mapping[TABLE], room_for(TABLE), PROT_READ | PROT_WRITE);
@@ -129,7 +140,7 @@ static void plain_calls(int one_short) {
         for (int b = 0; b < BUFFERS; b++)
             if (!(r.at[b] = malloc(r.length[b] ? r.length[b] * SIZES[b] : 1))) fail("no memory");
         memcpy(r.at[TEXT], text, text_len);
-        if (which == PARSE_TOKENS) memcpy(r.at[TABLE], table, r.length[TABLE] * 4);
+        if (of_list(which)) memcpy(r.at[TABLE], table, r.length[TABLE] * 4);
         made[call(which, &r)] += 1;
         for (int b = 0; b < BUFFERS; b++) free(r.at[b]);
     }
@@ -206,7 +217,7 @@ int main(int argc, char **argv) {
     const char *mode = argc > 1 ? argv[1] : "";
     int guard = !strcmp(mode, "guard"), measure = !strcmp(mode, "stack");
     int random_cases = argc > 2 ? atoi(argv[2]) : 0;
-    size_t sizes[BUFFERS] = {MOST, 3 * MOST, ASCIIMATH_WORK_WORDS(MOST), ASCIIMATH_TREE_WORDS(MOST),
+    size_t sizes[BUFFERS] = {MOST, 3 * MOST, ASCIIMATH_WORK_WORDS(MOST), ASCIIMATH_TREE_WORDS(MOST), MOST,
                              ASCIIMATH_PRINT_BYTES(MOST), 6};
     memcpy(most, sizes, sizeof most);
     if (guard) guard_setup();

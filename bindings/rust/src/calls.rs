@@ -74,6 +74,18 @@ calls! {
         text: &[u8], table: &[u32]; count: usize; work: &mut [u32], tree: &mut [u32], answer: &mut [u64]
     )
 
+    /// The tokens of a text, into the table, and the places of their closers. Values: tokens, tokens
+    /// other than Space.
+    closers_text = asciimath_closers_text(
+        text: &[u8], table: &mut [u32], out: &mut [u32], answer: &mut [u64]
+    )
+
+    /// The places of the closers of a list of `count` tokens over a text. Values: tokens other than
+    /// Space.
+    closers = asciimath_closers(
+        text: &[u8], table: &[u32]; count: usize; out: &mut [u32], answer: &mut [u64]
+    )
+
     /// Reads a text and prints its tree. Values: length of the print, takes, blank.
     print = asciimath_print(
         text: &[u8], table: &mut [u32], work: &mut [u32], tree: &mut [u32], out: &mut [u8],

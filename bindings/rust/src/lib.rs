@@ -25,7 +25,7 @@ pub mod tree;
 
 pub use decode::decode;
 pub use part::Part;
-pub use reader::{Reader, Reading};
+pub use reader::{Pair, Reader, Reading};
 pub use refusal::Refusal;
 pub use token::{SymbolClass, Token, Tokenizer};
 use tree::Expression;
@@ -69,6 +69,61 @@ pub fn read_tokens<'a>(
     tokens: impl IntoIterator<Item = (&'a str, Token)>,
 ) -> Result<Reading, Refusal> {
     Reader::with_own(|reader| reader.read_tokens(text, tokens))
+}
+
+/// For each token of a text other than Space, the place of its closer, if it has one
+///
+/// A token's closer is the token that ends the group, matrix or matrix row that it opens. Places are
+/// counted from 0 among the tokens other than Space. A closer stands behind its opener, is no other's
+/// and opens nothing, and pairs never cross.
+///
+/// ```
+/// let closers = asciimath::closers("(|x|, y")?;
+/// assert_eq!(closers, [None, Some(3), None, None, None, None]);
+/// # Ok::<(), asciimath::Refusal>(())
+/// ```
+///
+/// # Errors
+/// As [`parse`].
+pub fn closers(text: &str) -> Result<Vec<Option<usize>>, Refusal> {
+    Reader::with_own(|reader| reader.closers(text))
+}
+
+/// The places of the closers as in [`closers`], for a token list as in [`parse_tokens`]
+///
+/// ```
+/// use asciimath::{Tokenizer, closers_tokens};
+///
+/// let text = "( a )";
+/// // three tokens other than Space
+/// let closers = closers_tokens(text, Tokenizer::new(text)?)?;
+/// assert_eq!(closers, [Some(2), None, None]);
+/// # Ok::<(), asciimath::Refusal>(())
+/// ```
+///
+/// # Errors
+/// As [`parse_tokens`].
+pub fn closers_tokens<'a>(
+    text: &str,
+    tokens: impl IntoIterator<Item = (&'a str, Token)>,
+) -> Result<Vec<Option<usize>>, Refusal> {
+    Reader::with_own(|reader| reader.closers_tokens(text, tokens))
+}
+
+/// The spans of each opener and its closer in a text, in the order of the openers
+///
+/// The pairs are those of [`closers`], for a box that lights up a bracket's partner.
+///
+/// ```
+/// let pairs = asciimath::pairs("f(langle x rangle")?;
+/// assert_eq!(pairs, [(2..8, 11..17)]);
+/// # Ok::<(), asciimath::Refusal>(())
+/// ```
+///
+/// # Errors
+/// As [`parse`].
+pub fn pairs(text: &str) -> Result<Vec<Pair>, Refusal> {
+    Reader::with_own(|reader| reader.pairs(text))
 }
 
 /// The printed tree of a text, a line for each node

@@ -3,6 +3,7 @@ use crate::part::{OwnedParts, Parts};
 use crate::tree::Expression;
 use crate::{Part, Refusal, Token, Tokenizer, calls};
 use std::cell::Cell;
+use std::ops::Range;
 
 /// The longest text that is read, and the longest token list.
 const LONGEST: usize = 4096;
@@ -19,6 +20,9 @@ pub struct Reading<T = Part> {
     /// Whether the root has no items
     pub blank: bool,
 }
+
+/// The spans of an opener and its closer, in bytes of the text
+pub type Pair = (Range<usize>, Range<usize>);
 
 /// The buffers of a reading, kept from one to the next
 ///
@@ -39,6 +43,7 @@ pub struct Reader {
     table: Vec<u32>,
     work: Vec<u32>,
     tree: Vec<u32>,
+    closers: Vec<u32>,
     print: Vec<u8>,
 }
 
@@ -54,6 +59,7 @@ impl Reader {
             table: Vec::new(),
             work: Vec::new(),
             tree: Vec::new(),
+            closers: Vec::new(),
             print: Vec::new(),
         }
     }
@@ -121,13 +127,53 @@ impl Reader {
         Ok(Tokenizer::of_table(text, self.tokens(tokens)))
     }
 
+    /// For each token of a text other than Space, the place of its closer, if it has one
+    ///
+    /// # Errors
+    /// As [`closers`](crate::closers).
+    pub fn closers(&mut self, text: &str) -> Result<Vec<Option<usize>>, Refusal> {
+        let (_, others) = self.pair(text)?;
+        Ok(places(&self.closers[..others]))
+    }
+
+    /// For each token of a list other than Space, the place of its closer, if it has one
+    ///
+    /// # Errors
+    /// As [`closers_tokens`](crate::closers_tokens).
+    pub fn closers_tokens<'a>(
+        &mut self,
+        text: &str,
+        tokens: impl IntoIterator<Item = (&'a str, Token)>,
+    ) -> Result<Vec<Option<usize>>, Refusal> {
+        let tokens = self.list(text, tokens);
+        let others = self.others(tokens).count();
+        let out = first(&mut self.closers, others);
+        let (text, table) = (text.as_bytes(), &self.table);
+        Refusal::of_code(calls::closers(text, table, tokens, out, &mut []))?;
+        Ok(places(out))
+    }
+
+    /// The spans of each opener and its closer in a text, in the order of the openers
+    ///
+    /// # Errors
+    /// As [`pairs`](crate::pairs).
+    pub fn pairs(&mut self, text: &str) -> Result<Vec<Pair>, Refusal> {
+        let (tokens, _) = self.pair(text)?;
+        let spans: Vec<_> = self.others(tokens).map(span).collect();
+        // the number of them, for none, is no place among them
+        let pair = |(opener, &closer): (&Range<usize>, &u32)| {
+            Some((opener.clone(), spans.get(closer as usize)?.clone()))
+        };
+        Ok(spans.iter().zip(&self.closers).filter_map(pair).collect())
+    }
+
     /// The printed tree of a text, a line for each node
     ///
     /// # Errors
     /// As [`parse`](crate::parse).
     pub fn print(&mut self, text: &str) -> Result<String, Refusal> {
         let tokens = self.tokenize(text)?;
-        let others = self.others(tokens);
+        let others = self.others(tokens).count();
         let out = first(&mut self.print, print_bytes(others));
         let mut answer = [0];
         Refusal::of_code(calls::print(
@@ -172,11 +218,27 @@ impl Reader {
         &self.table.as_chunks().0[..count]
     }
 
-    /// How many of the first tokens of the table are other than Space.
-    fn others(&self, tokens: usize) -> usize {
+    /// Those of the first tokens of the table that are other than Space.
+    fn others(&self, tokens: usize) -> impl Iterator<Item = &[u32; 3]> {
         let space = Token::Space.number();
-        let others = self.tokens(tokens).iter();
-        others.filter(|&&[_, _, kind]| kind != space).count()
+        let tokens = self.tokens(tokens).iter();
+        tokens.filter(move |&&[_, _, kind]| kind != space)
+    }
+
+    /// Writes the text's tokens into the table, and their closers. How many tokens there are, and how
+    /// many of them are other than Space.
+    fn pair(&mut self, text: &str) -> Result<(usize, usize), Refusal> {
+        // a text has at most as many tokens as bytes
+        let most = text.len().min(LONGEST);
+        let mut answer = [0; 2];
+        Refusal::of_code(calls::closers_text(
+            text.as_bytes(),
+            first(&mut self.table, 3 * most),
+            first(&mut self.closers, most),
+            &mut answer,
+        ))?;
+        let [tokens, others] = answer;
+        Ok((tokens as usize, others as usize))
     }
 
     /// The reading of the first tokens of the table, with the parts of the text that `parts` makes.
@@ -188,7 +250,7 @@ impl Reader {
         parts: impl Parts<T>,
     ) -> Result<Reading<T>, Refusal> {
         // just the words that are needed: those behind a tree would be cleared too
-        let others = self.others(tokens);
+        let others = self.others(tokens).count();
         let tree = first(&mut self.tree, tree_words(others));
         let mut answer = [0; 3];
         Refusal::of_code(calls::parse_tokens(
@@ -217,6 +279,18 @@ fn first<T: Clone + Default>(buffer: &mut Vec<T>, words: usize) -> &mut [T] {
         buffer.resize(words, T::default());
     }
     &mut buffer[..words]
+}
+
+/// The places that closers have, or none where it is their number.
+fn places(closers: &[u32]) -> Vec<Option<usize>> {
+    let place = |&word: &u32| Some(word as usize).filter(|&place| place < closers.len());
+    closers.iter().map(place).collect()
+}
+
+/// The span of a token of the table.
+fn span(&[start, len, _]: &[u32; 3]) -> Range<usize> {
+    let start = start as usize;
+    start..start + len as usize
 }
 
 /// The words of work for so many tokens other than Space.

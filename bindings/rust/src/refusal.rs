@@ -19,7 +19,7 @@ impl Refusal {
     pub const DOUBLE_SPACE: Refusal = Refusal(6);
     /// 7: the token table is too short
     pub const SHORT_TABLE: Refusal = Refusal(7);
-    /// 8: the work buffer is too short
+    /// 8: the work buffer, or the buffer of closers, is too short
     pub const SHORT_WORK: Refusal = Refusal(8);
     /// 9: the tree buffer is too short
     pub const SHORT_TREE: Refusal = Refusal(9);
@@ -51,7 +51,7 @@ impl fmt::Display for Refusal {
             Refusal::TOKEN_SPAN => "a token's span passes the text's end",
             Refusal::DOUBLE_SPACE => "a Space token directly after a Space that is not empty",
             Refusal::SHORT_TABLE => "the token table is too short",
-            Refusal::SHORT_WORK => "the work buffer is too short",
+            Refusal::SHORT_WORK => "the work buffer or the buffer of closers is too short",
             Refusal::SHORT_TREE => "the tree buffer is too short",
             Refusal::SHORT_PRINT => "the print buffer is too short",
             Refusal(_) => "unknown",

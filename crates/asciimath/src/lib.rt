@@ -1,5 +1,9 @@
 // The reader for programs in C and Rust: its calls with plain numbers for answers. Each returns 0 and puts its values into the lent
 // answer, as many as it has words for, or returns the number of a refusal and leaves the answer as it was.
+use closers::Paired;
+use closers::PairedText;
+use closers::closers;
+use closers::closers_text;
 use parse::Parsed;
 use parse::ParsedTokens;
 use parse::parse;
@@ -14,6 +18,7 @@ ghost use mathlib.Core.Path.{_≡_};
 ghost use Rattle.tokenizer.specs.Call.{tokenized, counted};
 ghost use Rattle.parse.specs.Call.{parsedText, parsedTokens};
 ghost use Rattle.print.specs.Call.{printedText};
+ghost use Rattle.closers.specs.Call.{closedTokens, closedText};
 ghost use Rattle.asciimath.specs.Exported.{codeOf, valuesIn};
 ghost use lib.ListN.{set};
 
@@ -166,6 +171,57 @@ pub extern "C" fn asciimath_print(
             put(answer, 0, len as u64);
             put(answer, 1, takes);
             put(answer, 2, blank as u64);
+            0
+        }
+    }
+}
+
+// The closers of a list of `count` tokens over a text. Values: tokens other than Space.
+#[no_mangle]
+pub extern "C" fn asciimath_closers(
+    text: &[u8],
+    table: &[u32],
+    count: usize,
+    out: &mut [u32],
+    answer: &mut [u64],
+) -> u32
+    ensures { λ r.
+        ⌜
+        (r ≡ codeOf (closedTokens (now (text .entry)) (now (table .entry)) count (now (out .entry)) .0))
+        × (now (out .exit) ≡ closedTokens (now (text .entry)) (now (table .entry)) count (now (out .entry)) .1)
+        × (now (answer .exit) ≡ valuesIn (closedTokens (now (text .entry)) (now (table .entry)) count (now (out .entry)) .0) (now (answer .entry)))
+        ⌝ }
+{
+    match closers(text, table, count, out) {
+        Paired::Refused(k) => refusal(k),
+        Paired::Found { others } => {
+            put(answer, 0, others as u64);
+            0
+        }
+    }
+}
+
+// The tokens of a text and their closers. Values: tokens, tokens other than Space.
+#[no_mangle]
+pub extern "C" fn asciimath_closers_text(
+    text: &[u8],
+    table: &mut [u32],
+    out: &mut [u32],
+    answer: &mut [u64],
+) -> u32
+    ensures { λ r.
+        ⌜
+        (r ≡ codeOf (closedText (now (text .entry)) (now (table .entry)) (now (out .entry)) .0))
+        × (now (table .exit) ≡ closedText (now (text .entry)) (now (table .entry)) (now (out .entry)) .1)
+        × (now (out .exit) ≡ closedText (now (text .entry)) (now (table .entry)) (now (out .entry)) .2)
+        × (now (answer .exit) ≡ valuesIn (closedText (now (text .entry)) (now (table .entry)) (now (out .entry)) .0) (now (answer .entry)))
+        ⌝ }
+{
+    match closers_text(text, table, out) {
+        PairedText::Refused(k) => refusal(k),
+        PairedText::Found { tokens, others } => {
+            put(answer, 0, tokens as u64);
+            put(answer, 1, others as u64);
             0
         }
     }

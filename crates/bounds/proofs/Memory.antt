@@ -14,7 +14,7 @@ use Rattle.tokens.specs.Lexeme.{Lexeme}
 use Rattle.tree.specs.Tree.{nowhere, Head, Prefix, Node, node, Nodes, end, _▸_, _⧺_, one}
 use Rattle.reading.specs.Stop.{Stop}
 use Rattle.reading.specs.Entries.{Entry, is, entries}
-use Rattle.reading.specs.Reading.{State, M, return, _>>=_, here, Mark, openMark, matrixMark, slot, Try, made, lost, nought, Readers, isAt, isBar, advance, failed, giveUp, attempt, argument, nextScript, nextScriptFunc, nextIntermediate, intermediates, atOpenClose, Row, nextMatrixRow, rowCells, moreRows, nextMatrixRows, matrixBody, tryMatrix, nextOpenGroup, barBody, nextOpenCloseGroup, nextBracket, begun, nextSimple, step, level, parse, parseEntries, orGlyph, couldBeMatrix, prefixes, spaced, orMissingPart, any, marksScript, heads, begins, if_then_else_, readingBy, unscripted}
+use Rattle.reading.specs.Reading.{State, M, return, _>>=_, here, current, closed, Mark, openMark, matrixMark, slot, Try, made, lost, nought, Readers, isAt, isBar, advance, failed, giveUp, attempt, argument, nextScript, nextScriptFunc, nextIntermediate, intermediates, atOpenClose, Row, nextMatrixRow, rowCells, moreRows, nextMatrixRows, matrixBody, tryMatrix, nextOpenGroup, barBody, nextOpenCloseGroup, nextBracket, begun, nextSimple, step, level, parse, start, parseEntries, orGlyph, couldBeMatrix, prefixes, spaced, orMissingPart, any, marksScript, heads, begins, if_then_else_, readingBy, unscripted}
 
 -- For at most 127 entries the reading with its memory and the one without give the same tree. Nothing is assumed.
 
@@ -34,7 +34,7 @@ outside (x ∷ es) (suc i) h = outside es i (omega arith)
 module _ (text : List ℕ) (es : List Entry) where
   -- What an attempt with this mark is, with no memory.
   abbrev bodyOf : Mark → Entry → ℕ → ℕ → M Try
-  bodyOf (openMark stop) o i r = barBody text es false (level text es false r) o stop
+  bodyOf (openMark stop) o i r = barBody text es false (level text es false r) o i stop
   bodyOf matrixMark o i r = matrixBody text es false (level text es false r) o i
 
   -- A mark is sound if the attempt fails without memory too, at every level deep enough.
@@ -55,6 +55,10 @@ module _ (text : List ℕ) (es : List Entry) where
   ret : {A : Type 0} {e b : ℕ} (x : A) → Agree e b (return x) (λ r. return x)
   unfolding return
   ret x = record { run = λ r en s t eq base sound. record { value = refl; place = eq; base = base; sound = sound } }
+
+  noted : {A : Type 0} {e b : ℕ} (i : ℕ) (x : A) → Agree e b (closed i x) (λ r. closed i x)
+  unfolding closed
+  noted i x = record { run = λ r en s t eq base sound. record { value = refl; place = eq; base = base; sound = sound } }
 
   bind : {A B : Type 0} {e b : ℕ} {m : M A} {p : ℕ → M A} {f : A → M B} {g : ℕ → A → M B} → Agree e b m p → ((x : A) → Agree e b (f x) (λ r. g r x)) → Agree e b (m >>= f) (λ r. p r >>= g r)
   unfolding _>>=_
@@ -148,9 +152,9 @@ module _ (text : List ℕ) (es : List Entry) where
     nextMatrixRow-agree : Agree 1 b (nextMatrixRow text es true R) (λ r. nextMatrixRow text es false (level text es false r))
     unfolding nextMatrixRow
     nextMatrixRow-agree =
-        bind (advance-agree any) λ t. elim t [
+        bind here-agree λ i. bind (advance-agree any) λ t. elim t [
           | none ↦ ret _
-          | some o ↦ both-ways _ (bind (rowCells-agree _) λ q. elim q [ none ↦ ret _ | some m ↦ ret _ ]) (ret _)
+          | some o ↦ both-ways _ (bind (rowCells-agree _) λ q. elim q [ none ↦ ret _ | some m ↦ noted i _ ]) (ret _)
         ]
 
     moreRows-agree : (f : ℕ) (h : Row) → Agree 1 b (moreRows text es true R f h) (λ r. moreRows text es false (level text es false r) f h)
@@ -179,23 +183,23 @@ module _ (text : List ℕ) (es : List Entry) where
         bind nextMatrixRows-agree λ q. elim q [
           | none ↦ ret _
           | some r ↦ bind here-agree λ p.
-              both-ways _ (bind (advance-agree any) λ t. elim t [ none ↦ ret _ | some c ↦ ret _ ]) (ret _)
+              both-ways _ (bind (advance-agree any) λ t. elim t [ none ↦ ret _ | some c ↦ noted i _ ]) (ret _)
         ]
 
-    barBody-agree : (o : Entry) (stop : Stop) → Agree 1 b (barBody text es true R o stop) (λ r. barBody text es false (level text es false r) o stop)
+    barBody-agree : (o : Entry) (i : ℕ) (stop : Stop) → Agree 1 b (barBody text es true R o i stop) (λ r. barBody text es false (level text es false r) o i stop)
     unfolding barBody
-    barBody-agree o stop =
+    barBody-agree o i stop =
         bind (nextIntermediate-agree stop true) λ a. elim a [
           | none ↦ ret _
           | some x ↦ bind (intermediates-agree _ (some o) stop (some x)) λ l. bind here-agree λ p.
-              both-ways _ (bind (advance-agree any) λ t. elim t [ none ↦ ret _ | some c ↦ ret _ ]) (ret _)
+              both-ways _ (bind (advance-agree any) λ t. elim t [ none ↦ ret _ | some c ↦ noted i _ ]) (ret _)
         ]
 
-    nextOpenGroup-agree : (o : Entry) → Agree 1 b (nextOpenGroup text es true R o) (λ r. nextOpenGroup text es false (level text es false r) o)
+    nextOpenGroup-agree : (o : Entry) (i : ℕ) → Agree 1 b (nextOpenGroup text es true R o i) (λ r. nextOpenGroup text es false (level text es false r) o i)
     unfolding nextOpenGroup
-    nextOpenGroup-agree o =
+    nextOpenGroup-agree o i =
         bind (intermediates-agree _ none Stop.none none) λ l.
-        bind (advance-agree (is token.CloseBracket)) λ t. elim t [ none ↦ ret _ | some c ↦ ret _ ]
+        bind (advance-agree (is token.CloseBracket)) λ t. elim t [ none ↦ ret _ | some c ↦ noted i _ ]
 
   -- A matrix is made or lost.
   record Never (m : M Try) : Type 0 where
@@ -214,16 +218,16 @@ module _ (text : List ℕ) (es : List Entry) where
   unfolding return
   never-lost = record { never = λ s e. let z : _≡_ {A = ℕ} 0 1 = cc in omega arith }
 
-  never-made : (x : Node) → Never (return (made x))
-  unfolding return
-  never-made x = record { never = λ s e. let z : _≡_ {A = ℕ} 0 1 = cc in omega arith }
+  never-made : (i : ℕ) (x : Node) → Never (closed i (made x))
+  unfolding closed
+  never-made i x = record { never = λ s e. let z : _≡_ {A = ℕ} 0 1 = cc in omega arith }
 
   matrix-never : (R : Readers) (o : Entry) (i : ℕ) → Never (matrixBody text es true R o i)
   unfolding matrixBody
   matrix-never R o i =
       never-bind _ λ q. elim q [
         | none ↦ never-lost
-        | some r ↦ never-bind _ λ p. never-if _ (never-bind _ λ t. elim t [ none ↦ never-lost | some c ↦ never-made _ ]) never-lost
+        | some r ↦ never-bind _ λ p. never-if _ (never-bind _ λ t. elim t [ none ↦ never-lost | some c ↦ never-made i _ ]) never-lost
       ]
 
   -- A new mark is sound.
@@ -258,19 +262,19 @@ module _ (text : List ℕ) (es : List Entry) where
   at-once : {A : Type 0} {i : ℕ} {m : M A} {p : ℕ → M A} → Agree 1 (suc i) m p → AgreeAt i m p
   at-once h = record { run = λ r en s t a c sound. h .run r en s t (a ∙ sym c) (omega arith) sound }
 
-  abbrev settle : Bool → Mark → ℕ → ℕ → Try → M (Option Node)
+  abbrev settle : Bool → Mark → ℕ → State → Try → M (Option Node)
   settle rem m i p t = elim t [ made x ↦ return (some x) | lost ↦ giveUp text es rem m i p | nought ↦ return none ]
 
   module _ (m : Mark) (i : ℕ) (o : Entry) (has : getElem? es i ≡ some o) (body : M Try) (agree : Agree 1 (suc i) body (bodyOf m o i))
       (r : ℕ) (en : 2 * length es + 1 ≤ r + 2 * suc i) (s t : State) (a : s .pos ≡ suc i) (c : t .pos ≡ suc i) (sound : Sound (s .marks)) where
-    settled : (x y : Try) → (body s) .0 ≡ x → x ≡ y → Same (suc i) (settle true m i (s .pos) x ((body s) .1)) (settle false m i (t .pos) y ((bodyOf m o i r t) .1))
+    settled : (x y : Try) → (body s) .0 ≡ x → x ≡ y → Same (suc i) (settle true m i s x ((body s) .1)) (settle false m i t y ((bodyOf m o i r t) .1))
     unfolding return giveUp
     settled x y e f = rw (← f) (go x e)
       where
         q : Same (suc i) (body s) (bodyOf m o i r t)
         q = agree .run r en s t (a ∙ sym c) (omega arith) sound
 
-        go : (x : Try) → (body s) .0 ≡ x → Same (suc i) (settle true m i (s .pos) x ((body s) .1)) (settle false m i (t .pos) x ((bodyOf m o i r t) .1))
+        go : (x : Try) → (body s) .0 ≡ x → Same (suc i) (settle true m i s x ((body s) .1)) (settle false m i t x ((bodyOf m o i r t) .1))
         go (made x) e = record { value = refl; place = q .place; base = q .base; sound = q .sound }
         go nought e = record { value = refl; place = q .place; base = q .base; sound = q .sound }
         go lost e = record {
@@ -280,13 +284,13 @@ module _ (text : List ℕ) (es : List Entry) where
           sound = sound-set ((body s) .1 .marks) m i o has (q .sound) (λ r′ en′ t′ c′. sym (agree .run r′ en′ s t′ (a ∙ sym c′) (omega arith) sound .value) ∙ e);
         }
 
-    known : (x : Bool) → getD (s .marks) (slot m i) false ≡ x → Same (suc i) ((if x then return none else (body >>= settle true m i (s .pos))) s) ((bodyOf m o i r >>= settle false m i (t .pos)) t)
+    known : (x : Bool) → getD (s .marks) (slot m i) false ≡ x → Same (suc i) ((if x then return none else (body >>= settle true m i s)) s) ((bodyOf m o i r >>= settle false m i t) t)
     unfolding if_then_else_ _>>=_ return giveUp
     known true e = rw (sound m i e o has r en t c) (record { value = refl; place = a ∙ sym c; base = omega arith; sound = sound })
     known false e = settled ((body s) .0) ((bodyOf m o i r t) .0) refl (agree .run r en s t (a ∙ sym c) (omega arith) sound .value)
 
   attempt-at : (m : Mark) (i : ℕ) (o : Entry) → getElem? es i ≡ some o → (body : M Try) → Agree 1 (suc i) body (bodyOf m o i) → AgreeAt i (attempt text es true m i body) (λ r. attempt text es false m i (bodyOf m o i r))
-  unfolding attempt failed _>>=_ if_then_else_ here
+  unfolding attempt failed _>>=_ if_then_else_ current
   attempt-at m i o has body agree = record { run = λ r en s t a c sound. known m i o has body agree r en s t a c sound (getD (s .marks) (slot m i) false) refl }
 
   then-at : {A B : Type 0} {i : ℕ} {m : M A} {p : ℕ → M A} {f : A → M B} {g : ℕ → A → M B} → AgreeAt i m p → ((x : A) → Agree 1 (suc i) (f x) (λ r. g r x)) → AgreeAt i (m >>= f) (λ r. p r >>= g r)
@@ -311,19 +315,19 @@ module _ (text : List ℕ) (es : List Entry) where
     -- A matrix that is not made leaves the reading where it was.
     back-at : (s : State) → s .pos ≡ suc i → (x : Bool) → ((if x then attempt text es true matrixMark i (matrixBody text es true R o i) else return none) s) .0 ≡ none →
         ((if x then attempt text es true matrixMark i (matrixBody text es true R o i) else return none) s) .1 .pos ≡ suc i
-    unfolding if_then_else_ return attempt failed _>>=_ giveUp here
+    unfolding if_then_else_ return attempt failed _>>=_ giveUp current
     back-at s a false e = a
     back-at s a true e = go (getD (s .marks) (slot matrixMark i) false) e
       where
         body : M Try
         body = matrixBody text es true R o i
 
-        end-at : (t : Try) → (body s) .0 ≡ t → ((settle true matrixMark i (s .pos) t ((body s) .1)) .0 ≡ none) → (settle true matrixMark i (s .pos) t ((body s) .1)) .1 .pos ≡ suc i
+        end-at : (t : Try) → (body s) .0 ≡ t → ((settle true matrixMark i s t ((body s) .1)) .0 ≡ none) → (settle true matrixMark i s t ((body s) .1)) .1 .pos ≡ suc i
         end-at (made x) f e = let z : _≡_ {A = ℕ} 0 1 = cc in omega arith
         end-at lost f e = a
         end-at nought f e = absurd (matrix-never R o i .never s f)
 
-        go : (x : Bool) → ((if x then return none else (body >>= settle true matrixMark i (s .pos))) s) .0 ≡ none → ((if x then return none else (body >>= settle true matrixMark i (s .pos))) s) .1 .pos ≡ suc i
+        go : (x : Bool) → ((if x then return none else (body >>= settle true matrixMark i s)) s) .0 ≡ none → ((if x then return none else (body >>= settle true matrixMark i s)) s) .1 .pos ≡ suc i
         go true e = a
         go false e = end-at ((body s) .0) refl e
 
@@ -333,14 +337,14 @@ module _ (text : List ℕ) (es : List Entry) where
 
     nextBracket-at : AgreeAt i (nextBracket text es true R o i) (λ r. nextBracket text es false (level text es false r) o i)
     unfolding nextBracket
-    nextBracket-at = then-at tryMatrix-at λ m. elim m [ some x ↦ ret _ | none ↦ nextOpenGroup-agree (suc i) R like o ]
+    nextBracket-at = then-at tryMatrix-at λ m. elim m [ some x ↦ ret _ | none ↦ nextOpenGroup-agree (suc i) R like o i ]
 
-    bar-at : (stop : Stop) → AgreeAt i (attempt text es true (openMark stop) i (barBody text es true R o stop) >>= λ g. return (orGlyph o g))
-        (λ r. attempt text es false (openMark stop) i (barBody text es false (level text es false r) o stop) >>= λ g. return (orGlyph o g))
-    bar-at stop = then-at (attempt-at (openMark stop) i o has _ (barBody-agree (suc i) R like o stop)) λ g. ret _
+    bar-at : (stop : Stop) → AgreeAt i (attempt text es true (openMark stop) i (barBody text es true R o i stop) >>= λ g. return (orGlyph o g))
+        (λ r. attempt text es false (openMark stop) i (barBody text es false (level text es false r) o i stop) >>= λ g. return (orGlyph o g))
+    bar-at stop = then-at (attempt-at (openMark stop) i o has _ (barBody-agree (suc i) R like o i stop)) λ g. ret _
 
     abbrev afterMatrix : Bool → Readers → Stop → Option Node → M Node
-    afterMatrix rem Q stop m = elim m [ some x ↦ return x | none ↦ (attempt text es rem (openMark stop) i (barBody text es rem Q o stop) >>= λ g. return (orGlyph o g)) ]
+    afterMatrix rem Q stop m = elim m [ some x ↦ return x | none ↦ (attempt text es rem (openMark stop) i (barBody text es rem Q o i stop) >>= λ g. return (orGlyph o g)) ]
 
     nextOpenCloseGroup-at : (stop : Stop) → AgreeAt i (nextOpenCloseGroup text es true R o i stop) (λ r. nextOpenCloseGroup text es false (level text es false r) o i stop)
     unfolding nextOpenCloseGroup _>>=_
@@ -587,7 +591,7 @@ module _ (text : List ℕ) (es : List Entry) where
         ]
 
     abbrev begin : State
-    begin = record { pos = zero; takes = zero; marks = replicate (3 * length es) false }
+    begin = start text es true
 
     pub trees-same : (parseEntries text es true) .0 ≡ (parseEntries text es false) .0
     unfolding parseEntries

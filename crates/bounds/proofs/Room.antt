@@ -19,8 +19,8 @@ use Rattle.bounds.proofs.Columns.{rowsOf, maskOf, both-length, cells-le
 use Rattle.bounds.proofs.Takes.{entry-inside}
 use Rattle.reading.specs.Stop.{Stop}
 use Rattle.reading.specs.Entries.{Entry, is, entries}
-use Rattle.reading.specs.Reading.{State, M, return, _>>=_, here, Mark, openMark, matrixMark, slot, Try, made, lost, nought, Readers, advance, failed, giveUp, attempt, argument, nextScript, nextScriptFunc, nextIntermediate, intermediates, Row, Rows, nextMatrixRow, rowCells, moreRows, nextMatrixRows, matrixBody, tryMatrix, nextOpenGroup, barBody, nextOpenCloseGroup, nextBracket, begun, nextSimple, step, level, parse, parseEntries, lastOf, splitColumnLines, prefixes, spaced, any, marksScript, heads, begins, if_then_else_, joinRows, keepCells, columnLines, lineCells, lineCols, unscripted, readingBy, readTokens}
-use Rattle.bounds.specs.Peak.{words, itemsWords, rowsWords, perhaps, tryWords, spaceWords, Counted, more, ran, either, answer, place, take, known, back, peak, attempt-counted, CountedReaders, argument-counted, nextScript-counted, nextScriptFunc-counted, nextIntermediate-counted, intermediates-counted, rowCells-counted, nextMatrixRow-counted, moreRows-counted, nextMatrixRows-counted, matrixBody-counted, tryMatrix-counted, nextOpenGroup-counted, barBody-counted, nextOpenCloseGroup-counted, nextBracket-counted, begun-counted, nextSimple-counted, step-counted, level-counted, parse-counted, peakOf}
+use Rattle.reading.specs.Reading.{State, M, return, _>>=_, here, current, closed, Mark, openMark, matrixMark, slot, Try, made, lost, nought, Readers, advance, failed, giveUp, attempt, argument, nextScript, nextScriptFunc, nextIntermediate, intermediates, Row, Rows, nextMatrixRow, rowCells, moreRows, nextMatrixRows, matrixBody, tryMatrix, nextOpenGroup, barBody, nextOpenCloseGroup, nextBracket, begun, nextSimple, step, level, parse, start, parseEntries, lastOf, splitColumnLines, prefixes, spaced, any, marksScript, heads, begins, if_then_else_, joinRows, keepCells, columnLines, lineCells, lineCols, unscripted, readingBy, readTokens}
+use Rattle.bounds.specs.Peak.{words, itemsWords, rowsWords, perhaps, tryWords, spaceWords, Counted, more, ran, either, answer, answerClosed, place, whole, take, known, back, peak, attempt-counted, CountedReaders, argument-counted, nextScript-counted, nextScriptFunc-counted, nextIntermediate-counted, intermediates-counted, rowCells-counted, nextMatrixRow-counted, moreRows-counted, nextMatrixRows-counted, matrixBody-counted, tryMatrix-counted, nextOpenGroup-counted, barBody-counted, nextOpenCloseGroup-counted, nextBracket-counted, begun-counted, nextSimple-counted, step-counted, level-counted, parse-counted, peakOf}
 
 ruleset lengths = (length-encode, length-encodes, length-encodeItem, length-encodeItems)
 
@@ -113,6 +113,15 @@ module _ (text : List ℕ) (es : List Entry) (rem : Bool) where
         within = λ le s low. max-le (omega arith) (omega arith);
       }
 
+  noted : {A : Type 0} {w c : ℕ} {d g : A → ℕ} (i : ℕ) (x : A) → d x + g x ≤ c → Fits c (answerClosed {w = w} {d = d} i x) g
+  unfolding closed peak
+  noted i x h =
+      record {
+        run = λ s. omega arith;
+        stays = λ s low. low;
+        within = λ le s low. max-le (omega arith) (omega arith);
+      }
+
   -- The w words stand while the reader of C is run: there is room for them and for the c₀ that it asks for.
   bind : {A B : Type 0} {w c c₀ : ℕ} {d g : A → ℕ} {e h : B → ℕ} {m : M A} {f : A → M B} {C : Counted text es rem A 0 d m}
       {K : (x : A) → Counted text es rem B (w + d x) e (f x)} → Fits c₀ C g → w + c₀ ≤ c →
@@ -145,6 +154,10 @@ module _ (text : List ℕ) (es : List Entry) (rem : Bool) where
   here-fits : Fits 0 place (λ p. 0)
   unfolding here peak
   here-fits = record { run = λ s. omega arith; stays = λ s low. low; within = λ le s low. omega arith }
+
+  whole-fits : Fits 0 whole (λ o. 0)
+  unfolding current peak
+  whole-fits = record { run = λ s. omega arith; stays = λ s low. low; within = λ le s low. omega arith }
 
   pub advance-fits : (ok : Entry → Bool) → Fits 0 (take ok) (opt 0 32)
   unfolding advance peak
@@ -184,7 +197,7 @@ module _ (text : List ℕ) (es : List Entry) (rem : Bool) where
 
   attempt-fits : {c : ℕ} (m : Mark) (i : ℕ) {body : M Try} {C : Counted text es rem Try 0 tryWords body} → Fits c C (tried c) →
       Fits c (attempt-counted text es rem m i C) (opt c 0)
-  unfolding attempt attempt-counted failed _>>=_ here peak
+  unfolding attempt attempt-counted failed _>>=_ current peak
   attempt-fits {c} m i {body} {C} h =
       record {
         run = λ s. known-run s (rem && getD (s .marks) (slot m i) false);
@@ -192,36 +205,36 @@ module _ (text : List ℕ) (es : List Entry) (rem : Bool) where
         within = λ le s low. max-le (omega arith) (max-le (omega arith) (known-within s low (rem && getD (s .marks) (slot m i) false)));
       }
     where
-      settle : ℕ → Try → M (Option Node)
+      settle : State → Try → M (Option Node)
       settle p t = elim t [ made x ↦ return (some x) | lost ↦ giveUp text es rem m i p | nought ↦ return none ]
 
       Covers : State → Option Node × State → Type 0
       Covers s r = perhaps words (r .0) + opt c 0 (r .0) + 32 * s .pos ≤ c + 32 * r .1 .pos
 
-      done : (s : State) (t : Try) → (body s) .0 ≡ t → Covers s (settle (s .pos) t ((body s) .1))
+      done : (s : State) (t : Try) → (body s) .0 ≡ t → Covers s (settle s t ((body s) .1))
       done s (made x) e = unfold return in omega (arith, h .run s, ap (tried c) e, ap tryWords e)
       done s lost e = unfold giveUp in omega arith
       done s nought e = unfold return in omega (arith, h .run s, ap (tried c) e)
 
-      stay : (s : State) → s .pos ≤ length es → (t : Try) → (settle (s .pos) t ((body s) .1)) .1 .pos ≤ length es
+      stay : (s : State) → s .pos ≤ length es → (t : Try) → (settle s t ((body s) .1)) .1 .pos ≤ length es
       stay s low (made x) = unfold return in h .stays s low
       stay s low lost = unfold giveUp in low
       stay s low nought = unfold return in h .stays s low
 
       stay-known : (s : State) → s .pos ≤ length es → (x : Bool) →
-          ((if x then return none else (body >>= settle (s .pos))) s) .1 .pos ≤ length es
+          ((if x then return none else (body >>= settle s)) s) .1 .pos ≤ length es
       stay-known s low true = unfold if_then_else_ return in low
       stay-known s low false = unfold if_then_else_ in stay s low ((body s) .0)
 
-      known-run : (s : State) (x : Bool) → Covers s ((if x then return none else (body >>= settle (s .pos))) s)
+      known-run : (s : State) (x : Bool) → Covers s ((if x then return none else (body >>= settle s)) s)
       known-run s true = unfold if_then_else_ return in omega arith
       known-run s false = unfold if_then_else_ in done s ((body s) .0) refl
 
-      settled : (p : ℕ) (t : Try) → Counted text es rem (Option Node) (0 + tryWords t) (perhaps words) (settle p t)
+      settled : (p : State) (t : Try) → Counted text es rem (Option Node) (0 + tryWords t) (perhaps words) (settle p t)
       settled p t = elim t [ made x ↦ answer _ | lost ↦ back m i p | nought ↦ answer _ ]
 
       settled-within : (s : State) → s .pos ≤ length es → (t : Try) → (body s) .0 ≡ t →
-          peak text es rem (settled (s .pos) t) ((body s) .1) ≤ c + 32 * (length es - s .pos)
+          peak text es rem (settled s t) ((body s) .1) ≤ c + 32 * (length es - s .pos)
       settled-within s low (made x) e =
           let fits : words x ≤ c + 32 * (length es - s .pos) = omega (arith, h .run s, h .stays s low, ap tryWords e) in
           max-le (omega arith) fits
@@ -229,7 +242,7 @@ module _ (text : List ℕ) (es : List Entry) (rem : Bool) where
       settled-within s low nought e = omega arith
 
       known-within : (s : State) → s .pos ≤ length es → (b : Bool) →
-          peak text es rem (either b (answer none) (ran C (settled (s .pos)))) s ≤ c + 32 * (length es - s .pos)
+          peak text es rem (either b (answer none) (ran C (settled s))) s ≤ c + 32 * (length es - s .pos)
       known-within s low true = omega arith
       known-within s low false = max-le (omega (arith, h .within (omega arith) s low)) (settled-within s low ((body s) .0) refl)
 
@@ -333,10 +346,10 @@ module _ (text : List ℕ) (es : List Entry) (rem : Bool) where
     pub nextMatrixRow-fits : Fits 0 (nextMatrixRow-counted text es rem R counted) (perhaps (λ r. count (r .cells)))
     unfolding nextMatrixRow nextMatrixRow-counted
     nextMatrixRow-fits =
-        bind (advance-fits any) (omega arith) λ t. elim t [
+        bind here-fits (omega arith) λ i. bind (advance-fits any) (omega arith) λ t. elim t [
           | none ↦ ret _ (omega arith)
           | some o ↦ both-ways _
-              (bind (rowCells-fits _) (omega arith) λ q. elim q [ none ↦ ret _ (omega arith) | some m ↦ ret _ (omega arith) ])
+              (bind (rowCells-fits _) (omega arith) λ q. elim q [ none ↦ ret _ (omega arith) | some m ↦ noted i _ (omega arith) ])
               (ret _ (omega arith))
         ]
 
@@ -373,13 +386,13 @@ module _ (text : List ℕ) (es : List Entry) (rem : Bool) where
           | some r ↦ putting (omega arith) (bind here-fits (omega arith) λ p.
               both-ways _ (bind (advance-fits any) (omega arith) λ t. elim t [
                 | none ↦ ret _ (omega arith)
-                | some c ↦ ret _ (omega (arith, matrix-words r (o .span) (c .span)))
+                | some c ↦ noted i _ (omega (arith, matrix-words r (o .span) (c .span)))
               ]) (ret _ (omega arith)))
         ])
 
-    barBody-fits : (o : Entry) (stop : Stop) → Fits 13 (barBody-counted text es rem R counted o stop) (tried 13)
+    barBody-fits : (o : Entry) (i : ℕ) (stop : Stop) → Fits 13 (barBody-counted text es rem R counted o i stop) (tried 13)
     unfolding barBody barBody-counted size
-    barBody-fits o stop =
+    barBody-fits o i stop =
         putting (omega arith) (bind (nextIntermediate-fits stop true) (omega arith) λ a. elim a [
           | none ↦ ret _ (omega arith)
           | some x ↦
@@ -388,18 +401,18 @@ module _ (text : List ℕ) (es : List Entry) (rem : Bool) where
               both-ways _
               (bind (advance-fits any) (omega arith) λ t. elim t [
                 | none ↦ ret _ (omega arith)
-                | some c ↦ ret _ (simp lengths (omega arith))
+                | some c ↦ noted i _ (simp lengths (omega arith))
               ])
               (ret _ (omega arith))
         ])
 
-    nextOpenGroup-fits : (o : Entry) → Fits 13 (nextOpenGroup-counted text es rem R counted o) (λ a. 0)
+    nextOpenGroup-fits : (o : Entry) (i : ℕ) → Fits 13 (nextOpenGroup-counted text es rem R counted o i) (λ a. 0)
     unfolding nextOpenGroup nextOpenGroup-counted size
-    nextOpenGroup-fits o =
+    nextOpenGroup-fits o i =
         putting (omega arith) (bind (intermediates-fits _ none Stop.none none) (omega arith) λ l.
         bind (advance-fits (is token.CloseBracket)) (omega arith) λ t. elim t [
           | none ↦ ret _ (simp lengths (omega arith))
-          | some c ↦ ret _ (simp lengths (omega arith))
+          | some c ↦ noted i _ (simp lengths (omega arith))
         ])
 
     tryMatrix-fits : (o : Entry) (i : ℕ) → Fits 13 (tryMatrix-counted text es rem R counted o i) (opt 13 0)
@@ -411,7 +424,7 @@ module _ (text : List ℕ) (es : List Entry) (rem : Bool) where
     nextBracket-fits o i =
         bind (tryMatrix-fits o i) (omega arith) λ m. elim m [
           | some x ↦ ret _ (omega arith)
-          | none ↦ spare (nextOpenGroup-fits o) (omega arith) (omega arith)
+          | none ↦ spare (nextOpenGroup-fits o i) (omega arith) (omega arith)
         ]
 
     nextOpenCloseGroup-fits : (o : Entry) (i : ℕ) (stop : Stop) →
@@ -420,7 +433,7 @@ module _ (text : List ℕ) (es : List Entry) (rem : Bool) where
     nextOpenCloseGroup-fits o i stop =
         bind (tryMatrix-fits o i) (omega arith) λ m. elim m [
           | some x ↦ ret _ (omega arith)
-          | none ↦ bind (attempt-fits (openMark stop) i (barBody-fits o stop)) (omega arith) λ g. elim g [
+          | none ↦ bind (attempt-fits (openMark stop) i (barBody-fits o i stop)) (omega arith) λ g. elim g [
             | none ↦ ret _ (simp lengths (omega arith))
             | some x ↦ ret _ (omega arith)
           ]
@@ -508,20 +521,24 @@ module _ (text : List ℕ) (es : List Entry) (rem : Bool) where
   peak-start (either true C D) s = peak-start C s
   peak-start (either false C D) s = peak-start D s
   peak-start (answer x) s = le-max-left _ _
+  peak-start (answerClosed i x) s = le-max-left _ _
   peak-start place s = omega arith
+  peak-start whole s = omega arith
   peak-start (take ok) s = omega arith
   peak-start (known m i) s = omega arith
   peak-start (back m i p) s = omega arith
 
   pub peak-answer : {A : Type 0} {w : ℕ} {d : A → ℕ} {m : M A} (C : Counted text es rem A w d m) (s : State) →
       d ((m s) .0) ≤ peak text es rem C s
-  unfolding peak _>>=_ if_then_else_ return giveUp
+  unfolding peak _>>=_ if_then_else_ return closed giveUp
   peak-answer (more n C) s = peak-answer C s
   peak-answer (ran {m} C K) s = le-trans (peak-answer (K ((m s) .0)) ((m s) .1)) (le-max-right _ _)
   peak-answer (either true C D) s = peak-answer C s
   peak-answer (either false C D) s = peak-answer D s
   peak-answer (answer x) s = le-max-right _ _
+  peak-answer (answerClosed i x) s = le-max-right _ _
   peak-answer place s = omega arith
+  peak-answer whole s = omega arith
   peak-answer (take ok) s = omega arith
   peak-answer (known m i) s = omega arith
   peak-answer (back m i p) s = le-refl _
@@ -534,7 +551,7 @@ partial-room text ts =
     omega (
       arith,
       parse-fits text es true 0 (suc (length es)) 256 end refl .within (omega arith)
-          (record { pos = zero; takes = zero; marks = replicate (3 * length es) false }) (omega arith),
+          (start text es true) (omega arith),
     )
 
 pub room : (text : List ℕ) (ts : List Lexeme) → length (encodeItems (readTokens text ts .tree)) ≤ peakOf text ts

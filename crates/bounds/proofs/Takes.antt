@@ -14,7 +14,7 @@ use Rattle.tokens.specs.declared.token.Token.the-variants as token
 use Rattle.tree.specs.Tree.{Node, Nodes, end}
 use Rattle.reading.specs.Stop.{Stop}
 use Rattle.reading.specs.Entries.{Entry, is}
-use Rattle.reading.specs.Reading.{State, M, return, _>>=_, here, Mark, openMark, matrixMark, slot, Try, made, lost, nought, Readers, isAt, advance, failed, giveUp, attempt, argument, nextScript, nextScriptFunc, nextIntermediate, intermediates, Row, nextMatrixRow, rowCells, moreRows, nextMatrixRows, matrixBody, tryMatrix, nextOpenGroup, barBody, nextOpenCloseGroup, nextBracket, begun, nextSimple, step, level, parse, parseEntries, couldBeMatrix, prefixes, any, marksScript, heads, begins, if_then_else_}
+use Rattle.reading.specs.Reading.{State, M, return, _>>=_, here, current, closed, Mark, openMark, matrixMark, slot, Try, made, lost, nought, Readers, isAt, advance, failed, giveUp, attempt, argument, nextScript, nextScriptFunc, nextIntermediate, intermediates, Row, nextMatrixRow, rowCells, moreRows, nextMatrixRows, matrixBody, tryMatrix, nextOpenGroup, barBody, nextOpenCloseGroup, nextBracket, begun, nextSimple, step, level, parse, start, parseEntries, couldBeMatrix, prefixes, any, marksScript, heads, begins, if_then_else_}
 
 -- The takes are bounded: every reader pays for what it takes. Nothing is assumed.
 
@@ -97,6 +97,10 @@ module _ (text : List ℕ) (es : List Entry) (price : ℕ) (fee : (m : Mark) (i 
   unfolding return
   ret {c} {d} x h = record { run = λ s ok base. record { ok = ok; base = base; kept = λ j l. refl; cost = omega (arith, leb→le (d x) c h) } }
 
+  noted : {A : Type 0} {a b c : ℕ} {d : A → ℕ} (i : ℕ) (x : A) → T (leb (d x) c) → Pays a b c (closed i x) d
+  unfolding closed
+  noted {c} {d} i x h = record { run = λ s ok base. record { ok = record { inside = ok .inside; long = ok .long }; base = base; kept = λ j l. refl; cost = omega (arith, leb→le (d x) c h) } }
+
   bind : {A B : Type 0} {a b c c₀ : ℕ} {m : M A} {f : A → M B} {d : A → ℕ} {e : B → ℕ} → Pays a b c₀ m d → T (leb c₀ c) → ((x : A) → Pays a b (d x + (c - c₀)) (f x) e) → Pays a b c (m >>= f) e
   unfolding _>>=_
   bind {c} {c₀} {m} {f} {d} {e} h le k = record {
@@ -156,11 +160,11 @@ module _ (text : List ℕ) (es : List Entry) (price : ℕ) (fee : (m : Mark) (i 
   tries z lost = 0
   tries z nought = z
 
-  abbrev settle : Mark → ℕ → ℕ → Try → M (Option Node)
+  abbrev settle : Mark → ℕ → State → Try → M (Option Node)
   settle m i p t = elim t [ made x ↦ return (some x) | lost ↦ giveUp text es true m i p | nought ↦ return none ]
 
   module _ (m : Mark) (i b z : ℕ) (below : b ≤ i) (within : i < length es) (small : z ≤ 7) (dear : 7 * length es + 7 ≤ price) (body : M Try) (pays : Pays (suc i) (suc i) 7 body (tries z)) (s : State) (o : Ok s) (base : suc i ≤ s .pos) where
-    settled : (t : Try) → (body s) .0 ≡ t → getD (s .marks) (slot m i) false ≡ false → Paid (suc i) b 7 z s ((settle m i (s .pos) t ((body s) .1)) .1)
+    settled : (t : Try) → (body s) .0 ≡ t → getD (s .marks) (slot m i) false ≡ false → Paid (suc i) b 7 z s ((settle m i s t ((body s) .1)) .1)
     unfolding return giveUp
     settled (made x) e u =
         let p = pays .run s o base in
@@ -178,13 +182,13 @@ module _ (text : List ℕ) (es : List Entry) (price : ℕ) (fee : (m : Mark) (i 
           cost = omega (arith, p .cost, p .ok .inside, bank-set price ((body s) .1 .marks) (slot m i) short (p .kept (slot m i) (slot-below m i) ∙ u));
         }
 
-    known : (x : Bool) → getD (s .marks) (slot m i) false ≡ x → Paid (suc i) b 7 z s (((if x then return none else (body >>= settle m i (s .pos))) s) .1)
+    known : (x : Bool) → getD (s .marks) (slot m i) false ≡ x → Paid (suc i) b 7 z s (((if x then return none else (body >>= settle m i s)) s) .1)
     unfolding if_then_else_ _>>=_ return
     known true e = record { ok = o; base = base; kept = λ j l. refl; cost = omega arith }
     known false e = settled ((body s) .0) refl e
 
   attempt-pays : {b z : ℕ} (m : Mark) (i : ℕ) {body : M Try} → b ≤ i → i < length es → z ≤ 7 → 7 * length es + 7 ≤ price → Pays (suc i) (suc i) 7 body (tries z) → Pays (suc i) b 7 (attempt text es true m i body) (λ x. z)
-  unfolding attempt failed _>>=_ here
+  unfolding attempt failed _>>=_ current
   attempt-pays {b} {z} m i {body} below within small dear pays = record { run = λ s o base. known m i b z below within small dear body pays s o base (getD (s .marks) (slot m i) false) refl }
 
   record Good (R : Readers) : Type 0 where
@@ -257,9 +261,9 @@ module _ (text : List ℕ) (es : List Entry) (price : ℕ) (fee : (m : Mark) (i 
     nextMatrixRow-pays : {b : ℕ} → Pays b b 1 (nextMatrixRow text es true R) (opt 7)
     unfolding nextMatrixRow
     nextMatrixRow-pays =
-        bind (advance-pays any) tt λ t. elim t [
+        bind here-pays tt λ i. bind (advance-pays any) tt λ t. elim t [
           | none ↦ ret _ tt
-          | some o ↦ both-ways _ (bind (rowCells-pays _) tt λ q. elim q [ none ↦ ret _ tt | some m ↦ ret _ tt ]) (ret _ tt)
+          | some o ↦ both-ways _ (bind (rowCells-pays _) tt λ q. elim q [ none ↦ ret _ tt | some m ↦ noted i _ tt ]) (ret _ tt)
         ]
 
     moreRows-pays : {b : ℕ} (f : ℕ) (h : Row) → Pays b b 2 (moreRows text es true R f h) (opt 2)
@@ -288,23 +292,23 @@ module _ (text : List ℕ) (es : List Entry) (price : ℕ) (fee : (m : Mark) (i 
         bind nextMatrixRows-pays tt λ q. elim q [
           | none ↦ ret _ tt
           | some r ↦ bind here-pays tt λ p.
-              both-ways _ (bind (advance-pays any) tt λ t. elim t [ none ↦ ret _ tt | some c ↦ ret _ tt ]) (ret _ tt)
+              both-ways _ (bind (advance-pays any) tt λ t. elim t [ none ↦ ret _ tt | some c ↦ noted i _ tt ]) (ret _ tt)
         ]
 
-    barBody-pays : {b : ℕ} (o : Entry) (stop : Stop) → Pays b b 7 (barBody text es true R o stop) (tries 4)
+    barBody-pays : {b : ℕ} (o : Entry) (i : ℕ) (stop : Stop) → Pays b b 7 (barBody text es true R o i stop) (tries 4)
     unfolding barBody
-    barBody-pays o stop =
+    barBody-pays o i stop =
         bind (nextIntermediate-pays stop true) tt λ a. elim a [
           | none ↦ ret _ tt
           | some x ↦ bind (intermediates-pays _ (some o) stop (some x)) tt λ l. bind here-pays tt λ p.
-              both-ways _ (bind (advance-pays any) tt λ t. elim t [ none ↦ ret _ tt | some c ↦ ret _ tt ]) (ret _ tt)
+              both-ways _ (bind (advance-pays any) tt λ t. elim t [ none ↦ ret _ tt | some c ↦ noted i _ tt ]) (ret _ tt)
         ]
 
-    nextOpenGroup-pays : {b : ℕ} (o : Entry) → Pays b b 7 (nextOpenGroup text es true R o) (λ x. 4)
+    nextOpenGroup-pays : {b : ℕ} (o : Entry) (i : ℕ) → Pays b b 7 (nextOpenGroup text es true R o i) (λ x. 4)
     unfolding nextOpenGroup
-    nextOpenGroup-pays o =
+    nextOpenGroup-pays o i =
         bind (intermediates-pays _ none Stop.none none) tt λ l.
-        bind (advance-pays (is token.CloseBracket)) tt λ t. elim t [ none ↦ ret _ tt | some c ↦ ret _ tt ]
+        bind (advance-pays (is token.CloseBracket)) tt λ t. elim t [ none ↦ ret _ tt | some c ↦ noted i _ tt ]
 
     module _ (i b : ℕ) (below : b ≤ i) (within : i < length es) (o : Entry) (has : getElem? es i ≡ some o) where
       tryMatrix-pays : Opener o → Pays (suc i) b 7 (tryMatrix text es true R o i) (λ x. 7)
@@ -316,7 +320,7 @@ module _ (text : List ℕ) (es : List Entry) (price : ℕ) (fee : (m : Mark) (i 
       nextBracket-pays k =
           bind (tryMatrix-pays (opens k)) tt λ m. elim m [
             | some x ↦ ret _ tt
-            | none ↦ lower (omega arith) (nextOpenGroup-pays o)
+            | none ↦ lower (omega arith) (nextOpenGroup-pays o i)
           ]
 
       nextOpenCloseGroup-pays : (stop : Stop) → o .token ≡ token.OpenCloseBracket → Pays (suc i) b 7 (nextOpenCloseGroup text es true R o i stop) (λ x. 4)
@@ -324,7 +328,7 @@ module _ (text : List ℕ) (es : List Entry) (price : ℕ) (fee : (m : Mark) (i 
       nextOpenCloseGroup-pays stop bar =
           bind (tryMatrix-pays (bars bar)) tt λ m. elim m [
             | some x ↦ ret _ tt
-            | none ↦ bind (attempt-pays (openMark stop) i below within (omega arith) (fee (openMark stop) i (o, has, bar)) (barBody-pays o stop)) tt λ g. ret _ tt
+            | none ↦ bind (attempt-pays (openMark stop) i below within (omega arith) (fee (openMark stop) i (o, has, bar)) (barBody-pays o i stop)) tt λ g. ret _ tt
           ]
 
       begun-pays : (k : Token) → o .token ≡ k → (stop : Stop) (sg : Bool) → Pays (suc i) b 7 (begun text es true R k o i stop sg) (opt 4)
@@ -403,7 +407,7 @@ pub takes-bound : (text : List ℕ) (es : List Entry) →
 unfolding parseEntries
 takes-bound text es =
     let n = length es in
-    let p = parse-pays text es (7 * n + 7) (omega arith) {b = 0} (suc n) 256 end .run (record { pos = zero; takes = zero; marks = replicate (3 * n) false })
+    let p = parse-pays text es (7 * n + 7) (omega arith) {b = 0} (suc n) 256 end .run (start text es true)
     (record { inside = omega arith; long = length-replicate (3 * n) false }) (omega arith) in
     omega (arith, p .cost, p .ok .inside, bank-full n (3 * n), mul-assoc 3 n (suc n))
 
@@ -414,7 +418,7 @@ pub plain-bound : (text : List ℕ) (es : List Entry) → ((i : ℕ) (e : Entry)
 unfolding parseEntries bank
 plain-bound text es nobar noadj =
     let n = length es in
-    let p = parse-pays text es 0 never {b = 0} (suc n) 256 end .run (record { pos = zero; takes = zero; marks = replicate (3 * n) false })
+    let p = parse-pays text es 0 never {b = 0} (suc n) 256 end .run (start text es true)
     (record { inside = omega arith; long = length-replicate (3 * n) false }) (omega arith) in
     omega (arith, p .cost, p .ok .inside, bank-none (3 * n))
   where

@@ -20,7 +20,7 @@ use Rattle.tree.proofs.Decode.{decode-encode}
 use Rattle.bounds.proofs.Columns.{rowsOf, maskOf, both-length, cells-length, split-either}
 use Rattle.reading.specs.Stop.{Stop}
 use Rattle.reading.specs.Entries.{Entry, entries}
-use Rattle.reading.specs.Reading.{State, M, return, _>>=_, Mark, openMark, matrixMark, Try, made, lost, nought, Readers, isAt, giveUp, attempt, argument, nextScript, nextScriptFunc, nextIntermediate, intermediates, Row, Rows, nextMatrixRow, rowCells, moreRows, nextMatrixRows, matrixBody, tryMatrix, nextOpenGroup, barBody, nextOpenCloseGroup, nextBracket, begun, nextSimple, step, level, parse, parseEntries, lastOf, unscripted, alike, splitColumnLines, lineCells, prefixes, spaced, if_then_else_, makesMatrix, joinRows, keepCells, keptCols, columnLines, lineCols, closes, isByte, sameText, readingBy, readTokens}
+use Rattle.reading.specs.Reading.{State, M, return, _>>=_, closed, Mark, openMark, matrixMark, Try, made, lost, nought, Readers, isAt, giveUp, attempt, argument, nextScript, nextScriptFunc, nextIntermediate, intermediates, Row, Rows, nextMatrixRow, rowCells, moreRows, nextMatrixRows, matrixBody, tryMatrix, nextOpenGroup, barBody, nextOpenCloseGroup, nextBracket, begun, nextSimple, step, level, parse, parseEntries, lastOf, unscripted, alike, splitColumnLines, lineCells, prefixes, spaced, if_then_else_, makesMatrix, joinRows, keepCells, keptCols, columnLines, lineCols, closes, isByte, sameText, readingBy, readTokens}
 
 both : (x y : Bool) → x && y ≡ true → (x ≡ true) × (y ≡ true)
 both true y e = (refl, e)
@@ -180,6 +180,10 @@ module _ (text : List ℕ) (es : List Entry) where
     unfolding return
     ret x h = record { run = λ s. h }
 
+    noted : {A : Type 0} {P : A → Type 0} (i : ℕ) (x : A) → P x → Gives (closed i x) P
+    unfolding closed
+    noted i x h = record { run = λ s. h }
+
     bind : {A B : Type 0} {m : M A} {f : A → M B} {P : A → Type 0} {Q : B → Type 0} → Gives m P →
         ((x : A) → P x → Gives (f x) Q) → Gives (m >>= f) Q
     unfolding _>>=_
@@ -302,10 +306,10 @@ module _ (text : List ℕ) (es : List Entry) where
       nextMatrixRow-gives : Gives (nextMatrixRow text es rem R) (Any (λ r. Cells (r .cells)))
       unfolding nextMatrixRow
       nextMatrixRow-gives =
-          bind any-answer λ t u. elim t [
+          bind any-answer λ i z. bind any-answer λ t u. elim t [
             | none ↦ ret _ tt
             | some o ↦ both-ways _
-                (bind (rowCells-gives _) λ q. elim q [ none ↦ λ v. ret _ tt | some m ↦ λ v. ret _ v ])
+                (bind (rowCells-gives _) λ q. elim q [ none ↦ λ v. ret _ tt | some m ↦ λ v. noted i _ v ])
                 (ret _ tt)
           ]
 
@@ -347,7 +351,7 @@ module _ (text : List ℕ) (es : List Entry) where
             | some r ↦ λ w. bind any-answer λ p u. where-true _
                 (λ e. bind any-answer λ t v. elim t [
                   | none ↦ ret _ tt
-                  | some c ↦ ret _ (matrix-simple r w (two-cells o i r p e) (o .span) (c .span))
+                  | some c ↦ noted i _ (matrix-simple r w (two-cells o i r p e) (o .span) (c .span))
                 ])
                 (ret _ tt)
           ]
@@ -356,21 +360,21 @@ module _ (text : List ℕ) (es : List Entry) where
       unfolding tryMatrix
       tryMatrix-gives o i = both-ways _ (attempt-gives matrixMark i (matrixBody-gives o i)) (ret _ tt)
 
-      nextOpenGroup-gives : (o : Entry) → Gives (nextOpenGroup text es rem R o) Simple
+      nextOpenGroup-gives : (o : Entry) (i : ℕ) → Gives (nextOpenGroup text es rem R o i) Simple
       unfolding nextOpenGroup
-      nextOpenGroup-gives o =
+      nextOpenGroup-gives o i =
           bind (intermediates-gives _ none Stop.none none) λ l w.
-          bind any-answer λ t u. elim t [ none ↦ ret _ (Simple.group w) | some c ↦ ret _ (Simple.group w) ]
+          bind any-answer λ t u. elim t [ none ↦ ret _ (Simple.group w) | some c ↦ noted i _ (Simple.group w) ]
 
-      barBody-gives : (o : Entry) (stop : Stop) → Gives (barBody text es rem R o stop) Tried
+      barBody-gives : (o : Entry) (i : ℕ) (stop : Stop) → Gives (barBody text es rem R o i stop) Tried
       unfolding barBody
-      barBody-gives o stop =
+      barBody-gives o i stop =
           bind (nextIntermediate-gives stop true) λ a. elim a [
             | none ↦ λ w. ret _ tt
             | some x ↦ λ w. bind (intermediates-gives _ (some o) stop (some x)) λ l v. bind any-answer λ p u.
                 both-ways _ (bind any-answer λ t z. elim t [
                   | none ↦ ret _ tt
-                  | some c ↦ ret _ (Simple.group (Expression.items w v))
+                  | some c ↦ noted i _ (Simple.group (Expression.items w v))
                 ]) (ret _ tt)
           ]
 
@@ -379,7 +383,7 @@ module _ (text : List ℕ) (es : List Entry) where
       nextOpenCloseGroup-gives o i stop =
           bind (tryMatrix-gives o i) λ m. elim m [
             | some x ↦ λ w. ret _ w
-            | none ↦ λ w. bind (attempt-gives (openMark stop) i (barBody-gives o stop)) λ g. elim g [
+            | none ↦ λ w. bind (attempt-gives (openMark stop) i (barBody-gives o i stop)) λ g. elim g [
               | none ↦ λ v. ret _ (Simple.atom refl)
               | some x ↦ λ v. ret _ v
             ]
@@ -388,7 +392,7 @@ module _ (text : List ℕ) (es : List Entry) where
       nextBracket-gives : (o : Entry) (i : ℕ) → Gives (nextBracket text es rem R o i) Simple
       unfolding nextBracket
       nextBracket-gives o i =
-          bind (tryMatrix-gives o i) λ m. elim m [ some x ↦ λ w. ret _ w | none ↦ λ w. nextOpenGroup-gives o ]
+          bind (tryMatrix-gives o i) λ m. elim m [ some x ↦ λ w. ret _ w | none ↦ λ w. nextOpenGroup-gives o i ]
 
       begun-gives : (k : Token) (e : Entry) (i : ℕ) (stop : Stop) (sg : Bool) →
           Gives (begun text es rem R k e i stop sg) (Any Simple)

@@ -7,7 +7,7 @@ use Prim.Native.Nat.{ℕ, zero, suc, _+_, _*_, max}
 use mathlib.Core.List.{List, [], _∷_}
 use mathlib.Core.Option.{Option, none, some}
 use mathlib.Core.Bool.{Bool, true, false}
-use lib.ListN.{length, replicate}
+use lib.ListN.{length}
 use Rattle.tokens.specs.declared.token.Token.{Token}
 use Rattle.tokens.specs.declared.token.Token.the-variants as token
 use Rattle.tokens.specs.Lexeme.{Lexeme}
@@ -15,7 +15,7 @@ use Rattle.tree.specs.Tree.{nowhere, Node, Nodes, end, count}
 use Rattle.tree.specs.Words.{encode, encodes, encodeItem, encodeItems}
 use Rattle.reading.specs.Stop.{Stop}
 use Rattle.reading.specs.Entries.{Entry, entries}
-use Rattle.reading.specs.Reading.{State, M, return, _>>=_, if_then_else_, here, Mark, openMark, matrixMark, Try, made, lost, nought, Readers, Scripted, Row, Rows, entryAt, advance, failed, giveUp, attempt, argument, nextScript, nextScriptFunc, nextIntermediate, intermediates, rowCells, nextMatrixRow, moreRows, nextMatrixRows, matrixBody, tryMatrix, nextOpenGroup, barBody, nextOpenCloseGroup, nextBracket, begun, nextSimple, step, level, parse}
+use Rattle.reading.specs.Reading.{State, M, return, _>>=_, if_then_else_, here, current, closed, Mark, openMark, matrixMark, Try, made, lost, nought, Readers, Scripted, Row, Rows, entryAt, advance, failed, giveUp, attempt, argument, nextScript, nextScriptFunc, nextIntermediate, intermediates, rowCells, nextMatrixRow, moreRows, nextMatrixRows, matrixBody, tryMatrix, nextOpenGroup, barBody, nextOpenCloseGroup, nextBracket, begun, nextSimple, step, level, parse, start}
 
 -- How many words an answer has. One without a node has none: what was read for it is given back.
 abbrev pub words : Node → ℕ
@@ -66,11 +66,13 @@ module _ (text : List ℕ) (es : List Entry) (remember : Bool) where
         Counted A w d m → Counted A w d n → Counted A w d (if b then m else n)
     -- the words that stood, or those of the answer, whichever are more
     answer : {A : Type 0} {w : ℕ} {d : A → ℕ} (x : A) → Counted A w d (return x)
+    answerClosed : {A : Type 0} {w : ℕ} {d : A → ℕ} (i : ℕ) (x : A) → Counted A w d (closed i x)
     -- the steps that put no words
     place : Counted ℕ 0 no-words here
+    whole : Counted State 0 no-words current
     take : (ok : Entry → Bool) → Counted (Option Entry) 0 no-words (advance text es ok)
     known : (m : Mark) (i : ℕ) → Counted Bool 0 no-words (failed text es remember m i)
-    back : {d : Option Node → ℕ} (m : Mark) (i p : ℕ) → Counted (Option Node) 0 d (giveUp text es remember m i p)
+    back : {d : Option Node → ℕ} (m : Mark) (i : ℕ) (o : State) → Counted (Option Node) 0 d (giveUp text es remember m i o)
 
   -- the first two as functions: their m and f are then found from the reader that is counted
   abbrev pub put : {A : Type 0} {w : ℕ} {d : A → ℕ} {m : M A} (n : ℕ) → Counted A (w + n) d m → Counted A w d m
@@ -87,18 +89,20 @@ module _ (text : List ℕ) (es : List Entry) (remember : Bool) where
   peak (ran {w} {m} c k) s = max (w + peak c s) (peak (k ((m s) .0)) ((m s) .1))
   peak (either b c k) s = elim b [ true ↦ peak c s | false ↦ peak k s ]
   peak (answer {w} {d} x) s = max w (d x)
+  peak (answerClosed {w} {d} i x) s = max w (d x)
   peak place s = 0
+  peak whole s = 0
   peak (take ok) s = 0
   peak (known m i) s = 0
-  peak (back {d} m i p) s = d none
+  peak (back {d} m i o) s = d none
 
   unfoldable pub attempt-counted : (m : Mark) (i : ℕ) {body : M Try} → Counted Try 0 tryWords body →
       Counted (Option Node) 0 (perhaps words) (attempt text es remember m i body)
   unfolding attempt
   attempt-counted m i body =
-      run place λ p.
+      run whole λ o.
       run (known m i) λ failed.
-      either _ (answer _) (run body λ t. elim t [ made x ↦ answer _ | lost ↦ back m i p | nought ↦ answer _ ])
+      either _ (answer _) (run body λ t. elim t [ made x ↦ answer _ | lost ↦ back m i o | nought ↦ answer _ ])
 
   pub record CountedReaders (R : Readers) : Type 1 where
     pub simple : (stop : Stop) (sg : Bool) → Counted (Option Node) 0 (perhaps words) (R .simple stop sg)
@@ -177,9 +181,9 @@ module _ (text : List ℕ) (es : List Entry) (remember : Bool) where
         Counted (Option Row) 0 (perhaps (λ r. allWords (r .cells))) (nextMatrixRow text es remember R)
     unfolding nextMatrixRow
     nextMatrixRow-counted =
-        run (take _) λ t. elim t [
+        run place λ i. run (take _) λ t. elim t [
           | none ↦ answer _
-          | some o ↦ either _ (run (rowCells-counted _) λ q. elim q [ none ↦ answer _ | some m ↦ answer _ ]) (answer _)
+          | some o ↦ either _ (run (rowCells-counted _) λ q. elim q [ none ↦ answer _ | some m ↦ answerClosed i _ ]) (answer _)
         ]
 
     unfoldable pub moreRows-counted : (f : ℕ) (h : Row) →
@@ -211,7 +215,7 @@ module _ (text : List ℕ) (es : List Entry) (remember : Bool) where
         put 8 (run nextMatrixRows-counted λ q. elim q [
           | none ↦ answer _
           | some r ↦ put (count (r .head .cells)) (run place λ p.
-              either _ (run (take _) λ t. elim t [ none ↦ answer _ | some c ↦ answer _ ]) (answer _))
+              either _ (run (take _) λ t. elim t [ none ↦ answer _ | some c ↦ answerClosed i _ ]) (answer _))
         ])
 
     unfoldable pub tryMatrix-counted : (o : Entry) (i : ℕ) →
@@ -220,22 +224,22 @@ module _ (text : List ℕ) (es : List Entry) (remember : Bool) where
     tryMatrix-counted o i = either _ (attempt-counted matrixMark i (matrixBody-counted o i)) (answer _)
 
     -- a group's own words
-    unfoldable pub nextOpenGroup-counted : (o : Entry) → Counted Node 0 words (nextOpenGroup text es remember R o)
+    unfoldable pub nextOpenGroup-counted : (o : Entry) (i : ℕ) → Counted Node 0 words (nextOpenGroup text es remember R o i)
     unfolding nextOpenGroup
-    nextOpenGroup-counted o =
+    nextOpenGroup-counted o i =
         put 6 (run (intermediates-counted _ none Stop.none none) λ l. run (take _) λ t. elim t [
           | none ↦ answer _
-          | some c ↦ answer _
+          | some c ↦ answerClosed i _
         ])
 
-    unfoldable pub barBody-counted : (o : Entry) (stop : Stop) → Counted Try 0 tryWords (barBody text es remember R o stop)
+    unfoldable pub barBody-counted : (o : Entry) (i : ℕ) (stop : Stop) → Counted Try 0 tryWords (barBody text es remember R o i stop)
     unfolding barBody
-    barBody-counted o stop =
+    barBody-counted o i stop =
         put 6 (run (nextIntermediate-counted stop true) λ a. elim a [
           | none ↦ answer _
           | some x ↦ run (intermediates-counted _ (some o) stop (some x)) λ l.
               run place λ p.
-              either _ (run (take _) λ t. elim t [ none ↦ answer _ | some c ↦ answer _ ]) (answer _)
+              either _ (run (take _) λ t. elim t [ none ↦ answer _ | some c ↦ answerClosed i _ ]) (answer _)
         ])
 
     unfoldable pub nextOpenCloseGroup-counted : (o : Entry) (i : ℕ) (stop : Stop) →
@@ -244,7 +248,7 @@ module _ (text : List ℕ) (es : List Entry) (remember : Bool) where
     nextOpenCloseGroup-counted o i stop =
         run (tryMatrix-counted o i) λ m. elim m [
           | some x ↦ answer _
-          | none ↦ run (attempt-counted (openMark stop) i (barBody-counted o stop)) λ g. answer _
+          | none ↦ run (attempt-counted (openMark stop) i (barBody-counted o i stop)) λ g. answer _
         ]
 
     unfoldable pub nextBracket-counted : (o : Entry) (i : ℕ) → Counted Node 0 words (nextBracket text es remember R o i)
@@ -252,7 +256,7 @@ module _ (text : List ℕ) (es : List Entry) (remember : Bool) where
     nextBracket-counted o i =
         run (tryMatrix-counted o i) λ m. elim m [
           | some x ↦ answer _
-          | none ↦ nextOpenGroup-counted o
+          | none ↦ nextOpenGroup-counted o i
         ]
 
     -- the own words of a node with arguments
@@ -314,4 +318,4 @@ unfoldable pub peakOf : List ℕ → List Lexeme → ℕ
 peakOf text ts =
     let es = entries nowhere ts in
     peak text es true (parse-counted text es true 0 (suc (length es)) 256 end)
-    (record { pos = zero; takes = zero; marks = replicate (3 * length es) false })
+    (start text es true)

@@ -1,6 +1,6 @@
 -- What the readers ask of brackets and bars, by their words and their texts. X is the text, t are the words of the token table, K
 -- the work words, n the number of entries.
-use Prim.Native.Nat.{ℕ, _+_}
+use Prim.Native.Nat.{ℕ, zero, suc, _+_}
 use mathlib.Core.List.{List}
 use mathlib.Core.Bool.{Bool, true, false, cond}
 use lib.Dec.{eqb, ltb}
@@ -34,3 +34,15 @@ setAt X t K l p = cond (byteAt X t K l 40) (byteAt X t K p 125) false
 unfoldable pub makesAt : List ℕ → List ℕ → List ℕ → ℕ → ℕ → ℕ → ℕ → ℕ → Bool
 makesAt X t K n i l k p =
     cond (ltb p n) (cond (setAt X t K l p) false (cond (ltb 1 k) (closesAt X t K n i p) false)) false
+
+-- an attempt may be made at the entry i: it is a bar, or a bracket that may begin a matrix
+unfoldable pub triesAt : List ℕ → List ℕ → List ℕ → ℕ → ℕ → Bool
+triesAt X t K n i = cond (eqb (kindOf t K i) 22) true (cond (eqb (kindOf t K i) 20) (couldBeMatrixAt X t K n i) false)
+
+-- at one of the k entries from i on, and at one of all n
+unfoldable pub attemptsFrom : List ℕ → List ℕ → List ℕ → ℕ → ℕ → ℕ → Bool
+attemptsFrom X t K n i zero = false
+attemptsFrom X t K n i (suc k) = cond (triesAt X t K n i) true (attemptsFrom X t K n (suc i) k)
+
+abbrev pub hasAttempts : List ℕ → List ℕ → List ℕ → ℕ → Bool
+hasAttempts X t K n = attemptsFrom X t K n 0 n

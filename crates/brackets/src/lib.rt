@@ -9,7 +9,7 @@ use tokens::kinds::OPEN_BRACKET;
 use tokens::kinds::OPEN_CLOSE_BRACKET;
 use tokens::kinds::SEP;
 ghost use mathlib.Core.Path.{_≡_};
-ghost use Rattle.brackets.specs.Brackets.{barAt, closesAt, couldBeMatrixAt, setAt, makesAt};
+ghost use Rattle.brackets.specs.Brackets.{barAt, closesAt, couldBeMatrixAt, setAt, makesAt, triesAt, hasAttempts};
 
 // The entry at j is a bar with the text of the entry i, if both are there.
 pub fn bar_at(text: &[u8], tok: &[u32], work: &[u32], n: usize, i: usize, j: usize) -> bool
@@ -97,4 +97,32 @@ pub fn makes_matrix(
     } else {
         false
     }
+}
+
+// An attempt may be made at the entry i: it is a bar, or a bracket that may begin a matrix.
+fn tries_at(text: &[u8], tok: &[u32], work: &[u32], n: usize, i: usize) -> bool
+    ensures { λ r. ⌜ r ≡ triesAt (now (text .entry)) (now (tok .entry)) (now (work .entry)) n i ⌝ }
+{
+    let k = kind_at(tok, work, i);
+    if k == OPEN_CLOSE_BRACKET {
+        return true;
+    }
+    if k == OPEN_BRACKET {
+        return could_be_matrix(text, tok, work, n, i);
+    }
+    false
+}
+
+// An attempt may be made at one of the n entries.
+pub fn has_attempts(text: &[u8], tok: &[u32], work: &[u32], n: usize) -> bool
+    ensures { λ r. ⌜ r ≡ hasAttempts (now (text .entry)) (now (tok .entry)) (now (work .entry)) n ⌝ }
+{
+    let mut i: usize = 0;
+    while i < n {
+        if tries_at(text, tok, work, n, i) {
+            return true;
+        }
+        i += 1;
+    }
+    false
 }

@@ -9,7 +9,8 @@ use lib.ListN.{length, drop, getD, set, length-drop, length-set, length-map, Lis
 use lib.Seq.{length-take-le, drop-cons, getD-take, getD-drop, drop-set-lt, getD-set-other}
 use lib.Dec.{eqb}
 use Rattle.reading.specs.Reading.{keptCols, columnLines}
-use Rattle.columns.specs.Steps.{Wrote, flags, bit, bits, Lines}
+use Rattle.tokens.specs.Refusals.{bit}
+use Rattle.columns.specs.Steps.{Wrote, flags, bits, Lines}
 use Rattle.columns.proofs.Buffer.{Same, seq, wrote-none, wrote-one}
 
 pub one-most : (b : Bool) → cond b 1 0 ≤ 1

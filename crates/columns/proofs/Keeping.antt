@@ -8,7 +8,8 @@ use lib.ListN.{length, take, drop, getD, length-append, length-drop}
 use lib.Seq.{paste, drop-paste, length-paste}
 use lib.Dec.{eqb}
 use Rattle.columns.specs.Columns.{cellLen, cellsEnd, cellsFrom, otherCells, joinWords, next}
-use Rattle.columns.specs.Steps.{Wrote, flags, bit, bits, CellsStand, KeptCells}
+use Rattle.tokens.specs.Refusals.{bit}
+use Rattle.columns.specs.Steps.{Wrote, flags, bits, CellsStand, KeptCells}
 use Rattle.columns.proofs.Buffer.{same-drop, drop-more, seq, wrote-none, wrote-moved}
 use Rattle.columns.proofs.Cells.{cells-le, next-below}
 use Rattle.columns.proofs.Boundaries.{flag-at, one-most}

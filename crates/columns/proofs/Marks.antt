@@ -9,7 +9,8 @@ use lib.Seq.{paste, take-all, length-paste, drop-paste, take-set-le, take-set-lt
 use lib.Dec.{eqb, leb}
 use borrow.Author.Tests.{leb-true, leb-false, ne-eqb, eqb-true}
 use Rattle.columns.specs.Columns.{cellLen, cellsEnd, cellsFrom, isLine, onlyLines, next, mask}
-use Rattle.columns.specs.Steps.{flags, bit, bits, Beside, Marked}
+use Rattle.tokens.specs.Refusals.{bit}
+use Rattle.columns.specs.Steps.{flags, bits, Beside, Marked}
 use Rattle.columns.proofs.Buffer.{Same, same-take, front-paste, part-paste, part-same}
 use Rattle.columns.proofs.Cells.{cells-le, from-same, ends-same, next-below}
 

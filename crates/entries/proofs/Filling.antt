@@ -20,12 +20,12 @@ use Rattle.tokens.proofs.Numbers.{number-of-token}
 use Rattle.tokens.proofs.TokenList.{kind-space, kind-other, count-space, count-other, tokenAt, tokensFrom, tokens-all, tokens-none, tokens-next, others-same, others-more}
 use Rattle.tree.specs.Tree.{nowhere}
 use Rattle.reading.specs.Entries.{Entry, is, entries, closeAfter, hasSep}
-use Rattle.records.specs.Record.{recordWords, InHalf, placeOf, afterClose, sepOf, marksOf, recordOf, Whole, withRecord}
-use Rattle.records.proofs.Halves.{Same, words-same, same-drop, length-record, drop-record, first-place, first-close, first-sep, first-marks}
-use Rattle.stores.proofs.Stores.{record-length, record-other, record-beyond, record-place, record-close, record-sep, record-marks}
+use Rattle.records.specs.Record.{recordWords, InHalf, placeOf, afterClose, sepOf, marksOf, closerOf, recordOf, Whole, withRecord}
+use Rattle.records.proofs.Same.{Same, words-same, same-drop, length-record, drop-record, first-place, first-close, first-sep, first-marks, first-closer}
+use Rattle.stores.proofs.Stores.{record-length, record-other, record-beyond, record-place, record-close, record-sep, record-marks, record-closer}
 use Rattle.entries.specs.Prepared.{places, closeFrom, ofBracket, records, workWords}
 use Rattle.entries.specs.Open.{Link, Filled, clearAll}
-use Rattle.entries.proofs.Words.{Stored, stored-close, stored-sep, unstored, close-stored, close-kept, sep-kept, sep-stored, sep-beside, close-beside, length-clear, clear-place, clear-sep, clear-marks, clear-beyond, clear-close}
+use Rattle.entries.proofs.Words.{Stored, stored-close, stored-sep, unstored, close-stored, close-kept, sep-kept, sep-stored, sep-beside, close-beside, length-clear, clear-place, clear-sep, clear-marks, clear-closer, clear-beyond, clear-close}
 use Rattle.entries.proofs.Matching.{comes, comes-same, closing, parting, pick-same, up-to, chain-top, Matching, matching-none, matching-kept, opened, alone, closed, parted, passed}
 
 -- one token more of the definition
@@ -71,6 +71,7 @@ pub record Filling (count : ℕ) (table J K : List ℕ) (n top i : ℕ) : Type 0
       (entries space (tokensFrom count table i))
   pub place : (j : ℕ) → j < n → placeOf (workWords (tokenList count table)) j ≡ placeOf K j
   pub marks : (j : ℕ) → j < n → marksOf (workWords (tokenList count table)) j ≡ marksOf K j
+  pub closer : (j : ℕ) → j < n → closerOf (workWords (tokenList count table)) j ≡ closerOf K j
   pub beyond : (x : ℕ) → recordWords n ≤ x → getD K x 0 ≡ getD J x 0
 
 module _ (count : ℕ) (table J : List ℕ) where
@@ -87,6 +88,7 @@ module _ (count : ℕ) (table J : List ℕ) where
         matching = matching-none _ _ _ _ _;
         place = λ j l. absurd (omega arith);
         marks = λ j l. absurd (omega arith);
+        closer = λ j l. absurd (omega arith);
         beyond = λ x l. refl;
       }
 
@@ -108,6 +110,7 @@ module _ (count : ℕ) (table J : List ℕ) where
           matching = rw e at (f .matching);
           place = f .place;
           marks = f .marks;
+          closer = f .closer;
           beyond = f .beyond;
         }
 
@@ -139,24 +142,27 @@ module _ (count : ℕ) (table J : List ℕ) where
             ∙ places-other i (f .space) (tokenAt table i) behind (kind-other (getD table (3 * i + 2) 0) k)
             ∙ ap (λ (j : ℕ). i ∷ places j behind) (sym (add-one i))
 
-        row : drop (recordWords n) words ≡ recordOf i (ofBracket entry (closeFrom zero (suc n) later)) (ofBracket entry (cond (hasSep zero later) 1 0)) 0 (records (suc n) (places (i + 1) behind) later)
+        row : drop (recordWords n) words ≡ recordOf i (ofBracket entry (closeFrom zero (suc n) later)) (ofBracket entry (cond (hasSep zero later) 1 0)) (records (suc n) (places (i + 1) behind) later)
         unfolding records
         row = f .rest ∙ rw (places-now, entries-now)
 
-        first : Same (recordOf i (ofBracket entry (closeFrom zero (suc n) later)) (ofBracket entry (cond (hasSep zero later) 1 0)) 0 (records (suc n) (places (i + 1) behind) later)) 0 words n
+        first : Same (recordOf i (ofBracket entry (closeFrom zero (suc n) later)) (ofBracket entry (cond (hasSep zero later) 1 0)) (records (suc n) (places (i + 1) behind) later)) 0 words n
         first = rw (row, add-zero n) at (same-drop words n 0)
 
         place-is : placeOf words n ≡ i
-        place-is = sym (first .place) ∙ first-place i _ _ _ _ (omega arith)
+        place-is = sym (first .place) ∙ first-place i _ _ _ (omega arith)
 
         close-is : afterClose words n ≡ ofBracket entry (closeFrom zero (suc n) later)
-        close-is = sym (first .close) ∙ first-close i _ _ _ _ (omega arith)
+        close-is = sym (first .close) ∙ first-close i _ _ _ (omega arith)
 
         sep-is : sepOf words n ≡ ofBracket entry (cond (hasSep zero later) 1 0)
-        sep-is = sym (first .sep) ∙ first-sep i _ _ _ _ (sep-small entry (hasSep zero later))
+        sep-is = sym (first .sep) ∙ first-sep i _ _ _ (sep-small entry (hasSep zero later))
 
         marks-are : marksOf words n ≡ 0
-        marks-are = sym (first .marks) ∙ first-marks i _ _ _ _ (sep-small entry (hasSep zero later))
+        marks-are = sym (first .marks) ∙ first-marks i _ _ _ (sep-small entry (hasSep zero later))
+
+        closer-is : closerOf words n ≡ 0
+        closer-is = sym (first .closer) ∙ first-closer i _ _ _ (sep-small entry (hasSep zero later))
 
         fits : Whole K n
         fits = omega (arith, f .counted, f .long, others-more count table i h k)
@@ -178,6 +184,9 @@ module _ (count : ℕ) (table J : List ℕ) where
 
         marks-new : marksOf K₁ n ≡ 0
         marks-new = rw made (record-marks K n i fits)
+
+        closer-new : closerOf K₁ n ≡ 0
+        closer-new = rw made (record-closer K n i fits)
 
         matching-now : Matching (afterClose words) (sepOf words) (afterClose K₁) (sepOf K₁) n top (entry ∷ later)
         matching-now =
@@ -249,10 +258,11 @@ module _ (count : ℕ) (table J : List ℕ) where
               long = m .1 .long ∙ put-length ∙ f .long;
               counted = omega (arith, f .counted, others-more count table i h k);
               space = nowhere;
-              rest = ap (λ (x : ℕ). drop x words) more ∙ sym (drop-drop (recordWords 1) (recordWords n) words) ∙ ap (drop (recordWords 1)) row ∙ drop-record i _ _ _ _ ∙ rw (add-one n);
+              rest = ap (λ (x : ℕ). drop x words) more ∙ sym (drop-drop (recordWords 1) (recordWords n) words) ∙ ap (drop (recordWords 1)) row ∙ drop-record i _ _ _ ∙ rw (add-one n);
               matching = m .0;
               place = λ j l. up-to (λ j. placeOf words j ≡ placeOf L j) n (λ j b. f .place j b ∙ sym (m .1 .place j ∙ before j b .place)) (place-is ∙ sym (m .1 .place n ∙ place-new)) j (omega arith);
               marks = λ j l. up-to (λ j. marksOf words j ≡ marksOf L j) n (λ j b. f .marks j b ∙ sym (m .1 .marks j ∙ before j b .marks)) (marks-are ∙ sym (m .1 .marks n ∙ marks-new)) j (omega arith);
+              closer = λ j l. up-to (λ j. closerOf words j ≡ closerOf L j) n (λ j b. f .closer j b ∙ sym (m .1 .closer j ∙ before j b .closer)) (closer-is ∙ sym (m .1 .closer n ∙ closer-new)) j (omega arith);
               beyond = λ x l. m .1 .beyond x (omega arith) ∙ rw made (record-beyond K n i x (omega arith)) ∙ f .beyond x (omega arith);
             }
 
@@ -263,7 +273,7 @@ module _ (i j : ℕ) (g : Span) (t : Lexeme) (ts : List Lexeme) where
 
   records-other : (numberOf (t .token) ≡ 23 → ⊥) → length (records i (places j (t ∷ ts)) (entries g (t ∷ ts))) ≡ recordWords 1 + length (records (suc i) (places (suc j) ts) (entries nowhere ts))
   unfolding records
-  records-other z = rw (places-other j g t ts z, entries-other j g t ts z) (length-record _ _ _ _ _)
+  records-other z = rw (places-other j g t ts z, entries-other j g t ts z) (length-record _ _ _ _)
 
 length-records : (i j : ℕ) (g : Span) (ts : List Lexeme) → length (records i (places j ts) (entries g ts)) ≡ recordWords (countOthers ts)
 unfolding records places entries countOthers
@@ -318,6 +328,7 @@ module _ (count : ℕ) (table J K : List ℕ) (n top i : ℕ) (f : Filling count
             clear-sep j (matched .stack) K
             ∙ sym (matched .sep j l ∙ comes-word (parting []) 0 j (sepOf K j) (matched .stack) (λ d. refl));
         marks = clear-marks j (matched .stack) K ∙ sym (f .marks j l);
+        closer = clear-closer j (matched .stack) K ∙ sym (f .closer j l);
       }
 
   same-word : (x : ℕ) → x < length cleared → getD cleared x 0 ≡ getD (whole ++ drop (recordWords n) J) x 0

@@ -5,3 +5,4 @@ mod Filling
 mod Answers
 pub mod Recorded
 pub mod Example
+pub mod Accepted

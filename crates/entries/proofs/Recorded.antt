@@ -18,9 +18,9 @@ use Rattle.tokens.proofs.TokenList.{kind-space, kind-other, count-space, count-
 use Rattle.tree.specs.Tree.{nowhere}
 use Rattle.reading.specs.Entries.{Entry, is, entries, closeAfter, hasSep}
 use Rattle.reading.specs.Reading.{closeOf}
-use Rattle.records.specs.Record.{InHalf, placeOf, afterClose, sepOf, marksOf, isPlaced, kindOf, startOf, lenOf, spaceWord, spaceStart, spaceLen}
+use Rattle.records.specs.Record.{InHalf, placeOf, afterClose, sepOf, marksOf, closerOf, isPlaced, kindOf, startOf, lenOf, spaceWord, spaceStart, spaceLen}
 use Rattle.entries.specs.Prepared.{places, closeFrom, ofBracket, records, workWords}
-use Rattle.records.proofs.Halves.{Same, same-append, next-record, first-place, first-close, first-sep, first-marks}
+use Rattle.records.proofs.Same.{Same, same-append, next-record, first-place, first-close, first-sep, first-marks, first-closer}
 use Rattle.records.proofs.Places.{is-placed, space-first, space-there, space-absent}
 use Rattle.entries.proofs.Filling.{places-space, entries-space, places-other, entries-other, sep-small, length-work}
 
@@ -32,6 +32,7 @@ record Fields (L : List ℕ) (i j : ℕ) (ps : List ℕ) (es : List Entry) : Typ
   close : afterClose L i ≡ ofBracket entry (closeFrom zero (suc (j + i)) (drop (suc i) es))
   sep : sepOf L i ≡ ofBracket entry (cond (hasSep zero (drop (suc i) es)) 1 0)
   marks : marksOf L i ≡ 0
+  closer : closerOf L i ≡ 0
 
 fields : (j i : ℕ) (ps : List ℕ) (es : List Entry) → ((k : ℕ) → k < length ps → InHalf (getD ps k 0)) → i < length ps → i < length es → Fields (records j ps es) i j ps es
 unfolding records
@@ -41,16 +42,17 @@ fields j zero (p ∷ ps) (e ∷ es) s h l =
     record {
       entry = e;
       there = refl;
-      place = first-place p _ _ _ _ (s 0 h);
-      close = first-close p _ _ _ _ (s 0 h) ∙ rw (add-zero j);
-      sep = first-sep p _ _ _ _ (sep-small e (hasSep zero es));
-      marks = first-marks p _ _ _ _ (sep-small e (hasSep zero es));
+      place = first-place p _ _ _ (s 0 h);
+      close = first-close p _ _ _ (s 0 h) ∙ rw (add-zero j);
+      sep = first-sep p _ _ _ (sep-small e (hasSep zero es));
+      marks = first-marks p _ _ _ (sep-small e (hasSep zero es));
+      closer = first-closer p _ _ _ (sep-small e (hasSep zero es));
     }
 fields j (suc i) (p ∷ ps) (e ∷ es) s h l =
     let f = fields (suc j) i ps es (λ k b. s (suc k) (omega arith)) (omega arith) (omega arith) in
-    let r = next-record p (ofBracket e (closeFrom zero (suc j) es)) (ofBracket e (cond (hasSep zero es) 1 0)) 0 (records (suc j) ps es) i in
+    let r = next-record p (ofBracket e (closeFrom zero (suc j) es)) (ofBracket e (cond (hasSep zero es) 1 0)) (records (suc j) ps es) i in
     let k : suc (j + suc i) ≡ suc (suc j + i) = omega arith in
-    record { entry = f .entry; there = f .there; place = r .place ∙ f .place; close = r .close ∙ rw k (f .close); sep = r .sep ∙ f .sep; marks = r .marks ∙ f .marks }
+    record { entry = f .entry; there = f .there; place = r .place ∙ f .place; close = r .close ∙ rw k (f .close); sep = r .sep ∙ f .sep; marks = r .marks ∙ f .marks; closer = r .closer ∙ f .closer }
 
 length-places : (j : ℕ) (ts : List Lexeme) → length (places j ts) ≡ countOthers ts
 unfolding places countOthers
@@ -109,6 +111,7 @@ pub record Recorded (count : ℕ) (table K : List ℕ) (es : List Entry) (i : �
   pub sep : is token.OpenBracket entry ≡ true → sepOf K i ≡ cond (hasSep zero (drop (suc i) es)) 1 0
   pub other : is token.OpenBracket entry ≡ false → (afterClose K i ≡ 0) × (sepOf K i ≡ 0)
   pub marks : marksOf K i ≡ 0
+  pub closer : closerOf K i ≡ 0
 
 -- the entries are those of the tokens at these places, which are in the table
 record Placed (count : ℕ) (table ps : List ℕ) (es : List Entry) : Type 0 where
@@ -200,4 +203,5 @@ module _ (count : ℕ) (table : List ℕ) (kinds : (j : ℕ) → j < count → g
           sep = λ o. sep-is ∙ rw o;
           other = λ o. (close-is ∙ rw o, sep-is ∙ rw o);
           marks = same .marks ∙ row .marks;
+          closer = same .closer ∙ row .closer;
         }

@@ -6,8 +6,8 @@ use native.Mathlib.Omega.{arith}
 use lib.ListN.{length, getD}
 use borrow.Author.Tests.{eq-eqb, ne-eqb}
 use Rattle.tokens.proofs.Cases.{by-eq}
-use Rattle.records.specs.Record.{recordWords, InHalf, placeOf, afterClose, sepOf, marksOf, Whole, withClose, withSep}
-use Rattle.stores.proofs.Stores.{close-length, close-same, close-other, place-of-close, sep-of-close, marks-of-close, close-beyond, sep-length, sep-same, sep-other, place-of-sep, close-of-sep, marks-of-sep, sep-beyond}
+use Rattle.records.specs.Record.{recordWords, InHalf, placeOf, afterClose, sepOf, marksOf, closerOf, Whole, withClose, withSep}
+use Rattle.stores.proofs.Stores.{close-length, close-same, close-other, place-of-close, sep-of-close, marks-of-close, closer-of-close, close-beyond, sep-length, sep-same, sep-other, place-of-sep, close-of-sep, marks-of-sep, closer-of-sep, sep-beyond}
 use Rattle.entries.specs.Open.{Chain, clearAll}
 use Rattle.entries.proofs.Matching.{comes}
 
@@ -16,6 +16,7 @@ pub record Stored (n : ℕ) (K L : List ℕ) : Type 0 where
   pub long : length L ≡ length K
   pub place : (j : ℕ) → placeOf L j ≡ placeOf K j
   pub marks : (j : ℕ) → marksOf L j ≡ marksOf K j
+  pub closer : (j : ℕ) → closerOf L j ≡ closerOf K j
   pub beyond : (x : ℕ) → recordWords (n + 1) ≤ x → getD L x 0 ≡ getD K x 0
 
 pub stored-close : {n : ℕ} {K L : List ℕ} (j v : ℕ) → j ≤ n → L ≡ withClose K j v → Stored n K L
@@ -25,6 +26,7 @@ stored-close {n} {K} j v h e =
       long = close-length K j v;
       place = place-of-close K j v;
       marks = marks-of-close K j v;
+      closer = closer-of-close K j v;
       beyond = λ x l. close-beyond K j v x (omega arith);
     }
 
@@ -35,6 +37,7 @@ stored-sep {n} {K} j v h e =
       long = sep-length K j v;
       place = place-of-sep K j v;
       marks = marks-of-sep K j v;
+      closer = closer-of-sep K j v;
       beyond = λ x l. sep-beyond K j v x (omega arith);
     }
 
@@ -60,7 +63,7 @@ module _ (K L : List ℕ) (j v : ℕ) where
     close-beside x = rw a (close-of-sep K j v x)
 
 pub unstored : {n : ℕ} {K L : List ℕ} → L ≡ K → Stored n K L
-unstored e = rw e record { long = refl; place = λ i. refl; marks = λ i. refl; beyond = λ x l. refl }
+unstored e = rw e record { long = refl; place = λ i. refl; marks = λ i. refl; closer = λ i. refl; beyond = λ x l. refl }
 
 -- the open brackets cleared: only their close fields are others
 pub length-clear : (st K : List ℕ) → length (clearAll st K) ≡ length K
@@ -79,6 +82,10 @@ module _ (j : ℕ) where
   pub clear-marks : (st K : List ℕ) → marksOf (clearAll st K) j ≡ marksOf K j
   clear-marks [] K = refl
   clear-marks (s ∷ st) K = clear-marks st (withClose K s 0) ∙ marks-of-close K s 0 j
+
+  pub clear-closer : (st K : List ℕ) → closerOf (clearAll st K) j ≡ closerOf K j
+  clear-closer [] K = refl
+  clear-closer (s ∷ st) K = clear-closer st (withClose K s 0) ∙ closer-of-close K s 0 j
 
 abbrev nought : ℕ → ℕ → ℕ
 nought d w = 0

@@ -35,7 +35,7 @@ unfoldable pub records : ℕ → List ℕ → List Entry → List ℕ
 records i [] es = []
 records i (p ∷ ps) [] = []
 records i (p ∷ ps) (e ∷ es) =
-    recordOf p (ofBracket e (closeFrom zero (suc i) es)) (ofBracket e (cond (hasSep zero es) 1 0)) 0 (records (suc i) ps es)
+    recordOf p (ofBracket e (closeFrom zero (suc i) es)) (ofBracket e (cond (hasSep zero es) 1 0)) (records (suc i) ps es)
 
 unfoldable pub workWords : List Lexeme → List ℕ
 workWords ts = records zero (places zero ts) (entries nowhere ts)

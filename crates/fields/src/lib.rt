@@ -1,11 +1,11 @@
-// The fields of a record beside its token's place: the closing bracket, the Sep and the marks.
+// The fields of a record beside its token's place: the closing bracket, the Sep, the marks and the closer.
 use records::RECORD_WORDS;
-use records::half::Half;
-use records::half::half_of;
+use records::bits::Bits;
+use records::bits::bits_of;
 ghost use mathlib.Core.Path.{_≡_};
 ghost use Prim.Native.Nat.{_+_, _*_, _<_};
 ghost use lib.ListN.{getD};
-ghost use Rattle.records.specs.Record.{afterClose, sepOf, marksOf};
+ghost use Rattle.records.specs.Record.{afterClose, sepOf, marksOf, closerOf};
 
 // The word k of the record i, or 0 past the end.
 fn word(work: &[u32], i: usize, k: usize) -> u32
@@ -24,19 +24,26 @@ fn word(work: &[u32], i: usize, k: usize) -> u32
 pub fn after_close(work: &[u32], i: usize) -> usize
     ensures { λ r. ⌜ r ≡ afterClose (now (work .entry)) i ⌝ }
 {
-    half_of(Half::High, word(work, i, 0)) as usize
+    bits_of(Bits::High, word(work, i, 0)) as usize
 }
 
 // 1 if a Sep stands directly in the bracket at i, or 0; or what the reading noted there.
 pub fn sep_of(work: &[u32], i: usize) -> u32
     ensures { λ r. ⌜ r ≡ sepOf (now (work .entry)) i ⌝ }
 {
-    half_of(Half::Low, word(work, i, 1))
+    bits_of(Bits::Low, word(work, i, 1))
 }
 
 // The marks of the entry i, see the crate `marks`.
 pub fn marks_of(work: &[u32], i: usize) -> u32
     ensures { λ r. ⌜ r ≡ marksOf (now (work .entry)) i ⌝ }
 {
-    half_of(Half::High, word(work, i, 1))
+    bits_of(Bits::Marks, word(work, i, 1))
+}
+
+// How far before the end of the entries the closer of the entry i stands, or 0.
+pub fn closer_of(work: &[u32], i: usize) -> u32
+    ensures { λ r. ⌜ r ≡ closerOf (now (work .entry)) i ⌝ }
+{
+    bits_of(Bits::Closer, word(work, i, 1))
 }

@@ -23,7 +23,7 @@ use Rattle.grammar.proofs.Derived.{lexemeOf, entryOf, entries-others, T
 use Rattle.grammar.proofs.Derived.{stand-cut, stand-up, stand-all, Plain, bearing, plain-as, constant-plain, open-plain}
 use Rattle.grammar.proofs.Derived.{close-plain, unary-plain, binary-plain, First, S-first, I-first, E-first, NoSep}
 use Rattle.grammar.proofs.Derived.{E-sep, gate-shut}
-use Rattle.grammar.proofs.Steps.{Comes, Is, Marks, comes, strip-one, strip-two, strip-spaced, From, answer, give}
+use Rattle.grammar.proofs.Steps.{Comes, Is, Marks, comes, strip-one, strip-two, strip-spaced, From, answer, give, note}
 use Rattle.grammar.proofs.Steps.{to, on-true, on-false, call, given, call-node, at-here}
 
 past-end : (es : List Entry) → getElem? es (length es) ≡ none
@@ -42,7 +42,7 @@ module _ (text : List ℕ) (es : List Entry) (remember : Bool) where
   takes ok h k = record {
     run = λ s p.
         let e : getElem? es (s .pos) ≡ some (h .entry) = ap (getElem? es) p ∙ h .there in
-        let t : State = record { pos = suc (s .pos); takes = suc (s .takes); marks = s .marks } in
+        let t : State = record { pos = suc (s .pos); takes = suc (s .takes); marks = s .marks; closers = s .closers } in
         (some (h .entry), t, rw (e, advance, k), ap suc p, refl);
   }
 
@@ -55,7 +55,7 @@ module _ (text : List ℕ) (es : List Entry) (remember : Bool) where
       go s p none e = (none, s, rw (e, advance), p, refl)
       go s p (some y) e =
           let k : ok y ≡ false = rw (← p, e, isAt) at h in
-          let t : State = record { pos = s .pos; takes = suc (s .takes); marks = s .marks } in
+          let t : State = record { pos = s .pos; takes = suc (s .takes); marks = s .marks; closers = s .closers } in
           (none, t, rw (e, advance, k), p, refl)
 
   -- What does not stand at a position: marks and heads; at a CloseBracket and at the end also the beginning of an item.
@@ -159,10 +159,10 @@ module _ (text : List ℕ) (es : List Entry) (remember : Bool) where
           (call (given _ (on-false _ (gate-shut text es free (o .entry) i) (give none refl)) group) λ n d.
           give _ (n, refl, d))
         where
-          group : From (suc i) (nextOpenGroup text es remember R (o .entry)) (suc j) (Comes (node (Head.group l r) m))
+          group : From (suc i) (nextOpenGroup text es remember R (o .entry) i) (suc j) (Comes (node (Head.group l r) m))
           group =
               call g λ x e. given _ (takes (is token.CloseBracket) c (rw (c .kind)))
-              (give _ (comes (rw (o .place, c .place)) refl e))
+              (note i _ (comes (rw (o .place, c .place)) refl e))
 
       -- a scripted part
       scripted : {i j k : ℕ} {a : Node} {sc : Script} {l : Nodes} → Unmarked i → From i (R .simple Stop.none sg) j (Is a) →
@@ -421,7 +421,7 @@ settled-tree text ts d short =
     let es = entries nowhere ts in
     let of = entries-others nowhere ts in
     let len = length-map es lexemeOf in
-    let s : State = record { pos = zero; takes = zero; marks = replicate (3 * length es) false } in
+    let s : State = record { pos = zero; takes = zero; marks = replicate (3 * length es) false; closers = replicate (length es) (length es) } in
     answer (parse-E text es true (sep-free es of d) d (stands es of) (omega (arith, ap length of))) s refl
 
 -- What document 01 says of the lists that it settles.
@@ -444,7 +444,7 @@ one-tree {ts} d e = sym (read d) ∙ read e
     items = intermediates [] es true (level [] es true (suc (length es))) (suc (length es)) none Stop.none none
 
     start : State
-    start = record { pos = 0; takes = 0; marks = [] }
+    start = record { pos = 0; takes = 0; marks = []; closers = [] }
 
     read : (d : E ts) → strip ((items start) .0) ≡ treeE d
     read d =

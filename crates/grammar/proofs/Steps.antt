@@ -1,12 +1,13 @@
 -- Readers step by step: from a position to a position, with what is answered; and nodes without their Space items.
-use Prim.Native.Nat.{ℕ, zero, suc}
+use Prim.Native.Nat.{ℕ, zero, suc, _-_}
+use lib.ListN.{set}
 use mathlib.Core.Path.{_≡_, refl, sym, ap, _∙_, subst}
 use mathlib.Core.Bool.{Bool, true, false}
 use mathlib.Core.Option.{Option, none, some}
 use Rattle.tree.specs.Tree.{Script, Head, Atom, Node, node, Nodes, end, _▸_, leaf}
 use Rattle.reading.specs.Entries.{Entry}
 use Rattle.grammar.specs.Strip.{isSpaceItem, strip}
-use Rattle.reading.specs.Reading.{State, M, return, _>>=_, here, if_then_else_, Scripted, spaced}
+use Rattle.reading.specs.Reading.{State, M, return, _>>=_, here, closed, if_then_else_, Scripted, spaced}
 
 -- The node n without its Space items is a, which is none itself.
 pub record Comes (a n : Node) : Type 0 where
@@ -60,6 +61,10 @@ module _ {A : Type 0} {P : A → Type 0} where
   pub give : {j : ℕ} (x : A) → P x → From j (return x) j P
   unfolding return
   give x h = record { run = λ s p. (x, s, refl, p, h) }
+
+  pub note : {j : ℕ} (k : ℕ) (x : A) → P x → From j (closed k x) j P
+  unfolding closed
+  note k x h = record { run = λ s p. (x, record { pos = s .pos; takes = s .takes; marks = s .marks; closers = set (s .closers) k (s .pos - 1) }, refl, p, h) }
 
   pub on-true : {i j : ℕ} {x : Bool} {m : M A} (n : M A) → x ≡ true → From i m j P → From i (if x then m else n) j P
   unfolding if_then_else_

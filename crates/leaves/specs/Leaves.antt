@@ -4,6 +4,7 @@ use mathlib.Core.List.{List, [], _∷_}
 use mathlib.Core.Bool.{Bool, true, false, cond}
 use lib.Dec.{eqb, ltb}
 use Rattle.records.specs.Record.{startOf, lenOf}
+use Rattle.spans.specs.Spans.{byteAt}
 
 -- a node of the entry i, of this kind and with this word
 abbrev pub nodeWords : List ℕ → List ℕ → ℕ → ℕ → ℕ → List ℕ
@@ -28,3 +29,7 @@ leafWords t K i k = nodeWords t K i (leafKind k) (leafClass k)
 -- the item that is this leaf alone, in a simple part without script
 abbrev pub plainWords : List ℕ → List ℕ → ℕ → ℕ → List ℕ
 plainWords t K i k = 0 ∷ 13 ∷ 0 ∷ 0 ∷ 0 ∷ 0 ∷ 0 ∷ leafWords t K i k
+
+-- the leaf of the entry i, of kind k, is a symbol with the text `|`
+unfoldable pub leafBar : List ℕ → List ℕ → List ℕ → ℕ → ℕ → Bool
+leafBar X t K i k = cond (eqb (leafKind k) 7) (byteAt X t K i 124) false

@@ -3,6 +3,7 @@ use buffer::fits;
 use buffer::put6;
 use records::record::len_at;
 use records::record::start_at;
+use spans::is_byte;
 use tokens::kinds::NUMBER;
 use tokens::kinds::OPEN_CLOSE_BRACKET;
 use tokens::kinds::OPERATOR;
@@ -14,7 +15,7 @@ use tree::kinds::NODE_SIMPLE;
 use tree::kinds::NODE_SYMBOL;
 ghost use mathlib.Core.Path.{_≡_};
 ghost use Rattle.buffer.specs.Buffer.{stored};
-ghost use Rattle.leaves.specs.Leaves.{nodeWords, leafKind, leafClass, leafEnds, leafWords, plainWords};
+ghost use Rattle.leaves.specs.Leaves.{nodeWords, leafKind, leafClass, leafEnds, leafWords, plainWords, leafBar};
 
 // A node of the entry i: its kind, its span and one word more.
 pub fn put_node(
@@ -34,7 +35,7 @@ pub fn put_node(
 }
 
 // A leaf's node kind, its class, and whether it ends an operand, by the kind of its token.
-fn leaf_kind(k: u32) -> u32
+pub fn leaf_kind(k: u32) -> u32
     ensures { λ r. ⌜ r ≡ leafKind k ⌝ }
 {
     if k < NUMBER {
@@ -110,4 +111,14 @@ pub fn put_plain(tok: &[u32], work: &[u32], tree: &mut [u32], e: usize, i: usize
         put6(tree, e + 1, NODE_SIMPLE, 0, 0, 0, 0, 0);
         put_leaf(tok, work, tree, e + 7, i, k);
     }
+}
+
+// The leaf of the entry i, of kind k, is a symbol with the text `|`.
+pub fn leaf_bar(text: &[u8], tok: &[u32], work: &[u32], i: usize, k: u32) -> bool
+    ensures { λ r. ⌜ r ≡ leafBar (now (text .entry)) (now (tok .entry)) (now (work .entry)) i k ⌝ }
+{
+    if leaf_kind(k) == NODE_SYMBOL {
+        return is_byte(text, tok, work, i, b'|');
+    }
+    false
 }

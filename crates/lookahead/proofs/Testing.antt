@@ -1,13 +1,15 @@
 -- What a test of an entry by its kind says.
-use Prim.Native.Nat.{ℕ, _<_}
+use Prim.Native.Nat.{ℕ, _≤_, _<_}
 use mathlib.Core.Path.{_≡_, refl, sym, ap, _∙_}
 use mathlib.Core.Bool.{Bool, true, false, not, _&&_, _||_, cond, and-false, and-true}
 use mathlib.Core.List.{List}
 use lib.Dec.{eqb, ltb}
 use native.Mathlib.Omega.{arith}
-use borrow.Author.Tests.{ltb-true, ne-eqb}
+use borrow.Author.Tests.{ltb-true, ltb-false, ne-eqb}
 use Rattle.records.specs.Record.{kindOf}
-use Rattle.lookahead.specs.Tests.{nextKind, testAt, headsKind, marksKind, beginsKind}
+use Rattle.lookahead.specs.declared.tests.Look.{Look}
+use Rattle.lookahead.specs.declared.tests.Look.the-variants.{Plain, Over, Other}
+use Rattle.lookahead.specs.Tests.{nextKind, testAt, headsKind, marksKind, beginsKind, leafOnly, plainAt, overAt, lookAt}
 
 -- A test that holds says that the entry is there.
 pub test-below : (t K : List ℕ) (n : ℕ) (f : ℕ → Bool) (i : ℕ) → testAt t K n f i ≡ true → i < n
@@ -61,3 +63,42 @@ module _ (stop : Bool) (k : ℕ) where
 
   pub at-other : (k ≡ 21 → ⊥) → (k ≡ 3 → ⊥) → not (eqb k 23) ≡ beginsKind stop k
   at-other h l = rw (ne-eqb k 21 h, ne-eqb k 3 l) (ap not (sym (either (eqb k 23) stop)))
+
+-- where a leaf stands, an item begins
+leaf-kind : (k : ℕ) (stop : Bool) → leafOnly k ≡ true → beginsKind stop k ≡ true
+leaf-kind k stop h = go (ltb k 4) refl h
+  where
+    go : (b : Bool) → ltb k 4 ≡ b → cond b false (ltb k 16) ≡ true → beginsKind stop k ≡ true
+    go true e h = let z : _≡_ {A = ℕ} 0 1 = cc in absurd (omega arith)
+    go false e h =
+        let low : 4 ≤ k = ltb-false k 4 e in
+        let high : k < 16 = ltb-true k 16 h in
+        rw (ne-eqb k 21 (λ z. omega arith), ne-eqb k 23 (λ z. omega arith), ne-eqb k 3 (λ z. omega arith), and-false stop)
+
+pub leaf-begins : (t K : List ℕ) (n : ℕ) (stop : Bool) (i : ℕ) → testAt t K n leafOnly i ≡ true → testAt t K n (beginsKind stop) i ≡ true
+unfolding testAt
+leaf-begins t K n stop i h = go (ltb i n) refl h
+  where
+    go : (b : Bool) → ltb i n ≡ b → cond b (leafOnly (kindOf t K i)) false ≡ true → cond (ltb i n) (beginsKind stop (kindOf t K i)) false ≡ true
+    go true e h = rw e (leaf-kind (kindOf t K i) stop h)
+    go false e h = let z : _≡_ {A = ℕ} 0 1 = cc in absurd (omega arith)
+
+-- what a first look has found
+module _ (t K : List ℕ) (n d : ℕ) (stop : Bool) (i : ℕ) where
+  pub look-plain : lookAt t K n d stop i ≡ Plain → plainAt t K n d i ≡ true
+  unfolding lookAt
+  look-plain h = go (plainAt t K n d i) refl (overAt t K n d stop i) h
+    where
+      go : (a : Bool) → plainAt t K n d i ≡ a → (b : Bool) → cond a Plain (cond b Over Other) ≡ Plain → plainAt t K n d i ≡ true
+      go true e b h = e
+      go false e true h = let z : _≡_ {A = ℕ} 0 1 = cc in absurd (omega arith)
+      go false e false h = let z : _≡_ {A = ℕ} 0 1 = cc in absurd (omega arith)
+
+  pub look-over : lookAt t K n d stop i ≡ Over → overAt t K n d stop i ≡ true
+  unfolding lookAt
+  look-over h = go (plainAt t K n d i) (overAt t K n d stop i) refl h
+    where
+      go : (a b : Bool) → overAt t K n d stop i ≡ b → cond a Plain (cond b Over Other) ≡ Over → overAt t K n d stop i ≡ true
+      go true b e h = let z : _≡_ {A = ℕ} 0 1 = cc in absurd (omega arith)
+      go false true e h = e
+      go false false e h = let z : _≡_ {A = ℕ} 0 1 = cc in absurd (omega arith)

@@ -1,8 +1,10 @@
 -- What the readers ask of an entry by its kind. t are the words of the token table, K the work words, n the number of entries.
 use Prim.Native.Nat.{ℕ, _+_}
 use mathlib.Core.List.{List}
-use mathlib.Core.Bool.{Bool, false, not, _&&_, _||_, cond}
+use mathlib.Core.Bool.{Bool, true, false, not, _&&_, _||_, cond}
 use lib.Dec.{eqb, ltb}
+use Rattle.lookahead.specs.declared.tests.Look.{Look}
+use Rattle.lookahead.specs.declared.tests.Look.the-variants.{Plain, Over, Other}
 use Rattle.records.specs.Record.{kindOf}
 
 -- the entry at i is there, and its kind passes the test
@@ -45,3 +47,19 @@ plainAt t K n d i = cond (ltb d 255) (cond (testAt t K n leafOnly i) (not (testA
 -- no item begins at i, and no reader is too deep to see it
 unfoldable pub overAt : List ℕ → List ℕ → ℕ → ℕ → Bool → ℕ → Bool
 overAt t K n d stop i = cond (ltb d 255) (not (testAt t K n (beginsKind stop) i)) false
+
+-- how an item begins at i: it is one leaf, none begins, or the readers have to see
+unfoldable pub lookAt : List ℕ → List ℕ → ℕ → ℕ → Bool → ℕ → Look
+lookAt t K n d stop i = cond (plainAt t K n d i) Plain (cond (overAt t K n d stop i) Over Other)
+
+-- the kinds of token that open a group: a bracket or a bar
+abbrev pub opening : ℕ → Bool
+opening k = cond (eqb k 20) true (eqb k 22)
+
+-- whether the one argument of a token of kind k ends at a separator: a sign's does where the sign's own reader does
+abbrev pub prefixStop : ℕ → Bool → Bool
+prefixStop k stop = cond (eqb k 16) stop false
+
+-- the kinds of token that take one argument: a unary operation, a function, a sign that prefixes
+abbrev pub takesOne : ℕ → Bool → Bool
+takesOne k sign = cond (eqb k 18) true (cond (eqb k 17) true (cond (eqb k 16) sign false))

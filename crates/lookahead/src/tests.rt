@@ -4,15 +4,18 @@ use records::record::kind_at;
 use tokens::kinds::CLOSE_BRACKET;
 use tokens::kinds::FUNCTION;
 use tokens::kinds::NUMBER;
+use tokens::kinds::OPEN_BRACKET;
+use tokens::kinds::OPEN_CLOSE_BRACKET;
 use tokens::kinds::SEP;
 use tokens::kinds::SIGN;
 use tokens::kinds::SPACE;
 use tokens::kinds::SUB;
 use tokens::kinds::SUPER;
+use tokens::kinds::UNARY;
 ghost use mathlib.Core.Path.{_≡_};
 ghost use mathlib.Core.Bool.{false, not, cond};
 ghost use Prim.Native.Nat.{_+_};
-ghost use Rattle.lookahead.specs.Tests.{nextKind, testAt, isKind, headsKind, marksKind, beginsKind, leafOnly, joinsKind, plainAt, overAt};
+ghost use Rattle.lookahead.specs.Tests.{nextKind, testAt, isKind, headsKind, marksKind, beginsKind, leafOnly, joinsKind, plainAt, overAt, lookAt, opening, prefixStop, takesOne};
 
 // The entry at i is there and of kind k.
 pub fn is_at(tok: &[u32], work: &[u32], n: usize, i: usize, k: u32) -> bool
@@ -109,4 +112,65 @@ pub fn is_over(tok: &[u32], work: &[u32], n: usize, depth: usize, stop: bool, i:
         return false;
     }
     !begins_at(tok, work, n, i, stop)
+}
+
+// How an item begins: it is one leaf, none begins, or the readers have to see.
+pub enum Look {
+    Plain,
+    Over,
+    Other,
+}
+
+// The same as `is_plain` and `is_over`, by one look at the entry's kind.
+pub fn first_look(tok: &[u32], work: &[u32], n: usize, depth: usize, stop: bool, i: usize) -> Look
+    ensures { λ r. ⌜ r ≡ lookAt (now (tok .entry)) (now (work .entry)) n depth stop i ⌝ }
+{
+    if depth >= MAX_ITEM_DEPTH {
+        return Look::Other;
+    }
+    let k = next_kind(tok, work, n, i);
+    if is_leaf(k) {
+        if next_kind(tok, work, n, i + 1) < SEP {
+            return Look::Other;
+        }
+        return Look::Plain;
+    }
+    if begins(k, stop) {
+        return Look::Other;
+    }
+    Look::Over
+}
+
+// A token of kind k opens a group: a bracket or a bar.
+pub fn opens(k: u32) -> bool
+    ensures { λ r. ⌜ r ≡ opening k ⌝ }
+{
+    if k == OPEN_BRACKET {
+        true
+    } else {
+        k == OPEN_CLOSE_BRACKET
+    }
+}
+
+// Whether the one argument of a token of kind k ends at a separator: a sign's does where the sign's own reader does.
+pub fn prefix_stop(k: u32, stop: bool) -> bool
+    ensures { λ r. ⌜ r ≡ prefixStop k stop ⌝ }
+{
+    if k == SIGN { stop } else { false }
+}
+
+// A token of kind k takes one argument. `sign`: a sign here prefixes.
+pub fn takes_one(k: u32, sign: bool) -> bool
+    ensures { λ r. ⌜ r ≡ takesOne k sign ⌝ }
+{
+    if k == UNARY {
+        return true;
+    }
+    if k == FUNCTION {
+        return true;
+    }
+    if k == SIGN {
+        return sign;
+    }
+    false
 }

@@ -17,10 +17,12 @@ use Rattle.parse.specs.declared.cursor.Part.{Part}
 use Rattle.parse.specs.Buffer.{Wrote}
 use Rattle.lookahead.specs.Tests.{testAt, isKind, marksKind}
 use Rattle.leaves.specs.Leaves.{nodeWords}
-use Rattle.parse.specs.Meet.{Known, Simple, ScriptFunc, Argument, Operand, Scripts, Unary, Binary, prefixOf, onward, seen}
+use Rattle.parse.specs.Meet.{Simple, ScriptFunc, Argument, Operand, Scripts, Unary, Binary, prefixOf, onward, seen}
 use Rattle.parse.proofs.Buffer.{push, fill, seq, wrote-none}
 use Rattle.lookahead.proofs.Testing.{test-below}
-use Rattle.parse.proofs.Kit.{bind, ret, if-true, if-false, tick, at-tick, row-of, kept-refl, kept-trans, took, passed, same-is, same-marks, kind-is}
+use Rattle.reading_words.specs.Meet.{Known}
+use Rattle.stores.proofs.Stores.{kept-refl, kept-trans}
+use Rattle.reading_words.proofs.Kit.{bind, ret, if-true, if-false, tick, at-tick, row-of, took, passed, same-is, same-marks, kind-is}
 
 abbrev zeros : List ℕ
 zeros = 0 ∷ 0 ∷ 0 ∷ 0 ∷ 0 ∷ 0 ∷ []

@@ -12,28 +12,29 @@ use lib.Seq.{sets, length-sets}
 use Rattle.tree.specs.Tree.{Head, Node, node, Nodes, end, _▸_, count}
 use Rattle.tree.specs.Words.{encode, encodeItems}
 use Rattle.reading.specs.Entries.{Entry}
-use Rattle.reading.specs.Reading.{State, M, Try, made, lost, nought, return, _>>=_, if_then_else_, here, advance, any, openMark, slot, isAt, isBar, barBody, tryMatrix, nextOpenCloseGroup, nextBracket, glyphOf, endsOperand, look, atomEnds, prefixes}
+use Rattle.reading.specs.Reading.{State, M, Try, made, lost, nought, return, _>>=_, if_then_else_, here, closed, advance, any, openMark, slot, isAt, isBar, barBody, tryMatrix, nextOpenCloseGroup, nextBracket, glyphOf, endsOperand, look, atomEnds, prefixes}
 use Rattle.parse.specs.declared.cursor.Cursor.{Cursor}
 use Rattle.parse.specs.declared.cursor.Step.the-variants.{Found, Nothing}
 use Rattle.parse.specs.declared.cursor.Part.{Part}
 use Rattle.parse.specs.declared.cursor.Items.{Items}
 use Rattle.parse.specs.Buffer.{Wrote}
-use Rattle.records.specs.Record.{marksOf, Whole, withMarks}
+use Rattle.records.specs.Record.{marksOf, Whole, withMarks, Kept}
 use Rattle.lookahead.specs.Tests.{testAt, isKind}
 use Rattle.spans.specs.Spans.{sameAt}
 use Rattle.brackets.specs.Brackets.{barAt}
 use Rattle.marks.specs.Marks.{isMarked, withMark}
 use Rattle.leaves.specs.Leaves.{leafEnds, leafWords}
 use Rattle.nodes.specs.Nodes.{groupWords}
-use Rattle.parse.specs.Entry.{Kept}
 use Rattle.marks.specs.Marks as entry
-use Rattle.parse.specs.Meet.{Input, Row, At, Known, readers, Intermediates, OpenGroup, Bracket, TryMatrix, Bars, stopOf, intermediateAt, itemsAt, itemsFrom, bracketAt, onward, rewound}
+use Rattle.parse.specs.Meet.{Intermediates, OpenGroup, Bracket, TryMatrix, Bars, onward, rewound}
 use Rattle.parse.proofs.Buffer.{push, fill, seq, back}
 use Rattle.lookahead.proofs.Testing.{test-below}
-use Rattle.parse.proofs.Kit.{bind, ret, at-here, if-true, if-false, tick, at-tick, row-of, kept-refl, kept-trans, advance-took}
-use Rattle.parse.proofs.Attempts.{markNumber, mark-is, marks-kept, marked, at-lost, known-lost, attempt-known, attempt-made, attempt-lost, attempt-nought}
 use Rattle.parse.proofs.Loop.{bar-is}
 use Rattle.parse.proofs.Scripting.{closed-words, group-size}
+use Rattle.reading_words.specs.Meet.{Input, Row, At, Known, readers, stopOf, intermediateAt, itemsAt, itemsFrom, bracketAt}
+use Rattle.stores.proofs.Stores.{kept-refl, kept-trans, marks-kept}
+use Rattle.reading_words.proofs.Kit.{shut, ret-closed, at-shut, bind, ret, at-here, if-true, if-false, tick, at-tick, row-of, advance-took}
+use Rattle.reading_words.proofs.Attempts.{markNumber, mark-is, at-lost, known-lost, attempt-known, attempt-made, attempt-lost, attempt-nought, marked}
 
 number-open : (stop : Bool) → markNumber (openMark (stopOf stop)) ≡ entry.openMark stop
 number-open true = refl
@@ -65,30 +66,30 @@ unfolding endsOperand look atomEnds
 glyph-ends en = refl
 
 -- The body of a bar's attempt, by the items that the code reads.
-abbrev barEnd : Input → Entry → Nodes → M Try
-barEnd I o end = return nought
-barEnd I o (x ▸ l) =
+abbrev barEnd : Input → ℕ → Entry → Nodes → M Try
+barEnd I i o end = return nought
+barEnd I i o (x ▸ l) =
     here >>= λ p.
     if isAt (I .text) (I .es) (isBar (I .text) (I .es) o) p
     then (advance (I .text) (I .es) any >>= λ t. elim t [
       | none ↦ return lost
-      | some c ↦ return (made (node (Head.group (o .span) (c .span)) (x ▸ l)))
+      | some c ↦ closed i (made (node (Head.group (o .span) (c .span)) (x ▸ l)))
     ])
     else return lost
 
-bar-body : (I : Input) (d : ℕ) (o : Entry) (stop : Bool) (s : State) {l : Nodes} {u : State} → itemsFrom d (suc (length (I .es))) (some o) stop none I s ≡ (l, u)
-    → barBody (I .text) (I .es) true (readers d I) o (stopOf stop) s ≡ barEnd I o l u
+bar-body : (I : Input) (d i : ℕ) (o : Entry) (stop : Bool) (s : State) {l : Nodes} {u : State} → itemsFrom d (suc (length (I .es))) (some o) stop none I s ≡ (l, u)
+    → barBody (I .text) (I .es) true (readers d I) o i (stopOf stop) s ≡ barEnd I i o l u
 unfolding barBody
-bar-body I d o stop s {l} {u} h = go (intermediateAt d stop true I s) refl
+bar-body I d i o stop s {l} {u} h = go (intermediateAt d stop true I s) refl
   where
-    go : (r : Option Node × State) → intermediateAt d stop true I s ≡ r → barBody (I .text) (I .es) true (readers d I) o (stopOf stop) s ≡ barEnd I o l u
+    go : (r : Option Node × State) → intermediateAt d stop true I s ≡ r → barBody (I .text) (I .es) true (readers d I) o i (stopOf stop) s ≡ barEnd I i o l u
     go (none, v) k =
         let same : _≡_ {A = Nodes × State} (end, v) (l, u) = sym (bind _ _ s k ∙ ret _ _) ∙ h in
-        bind _ _ s k ∙ ap (λ (w : Nodes × State). barEnd I o (w .0) (w .1)) same
+        bind _ _ s k ∙ ap (λ (w : Nodes × State). barEnd I i o (w .0) (w .1)) same
     go (some x, v) k =
         let r = itemsAt d (suc (length (I .es))) (some o) stop (some x) I v in
         let same : _≡_ {A = Nodes × State} (x ▸ r .0, r .1) (l, u) = sym (bind _ _ s k ∙ bind _ _ v refl ∙ ret _ _) ∙ h in
-        bind _ _ s k ∙ bind _ _ v refl ∙ ap (λ (w : Nodes × State). barEnd I o (w .0) (w .1)) same
+        bind _ _ s k ∙ bind _ _ v refl ∙ ap (λ (w : Nodes × State). barEnd I i o (w .0) (w .1)) same
 
 count-none : (l : Nodes) → count l ≡ 0 → l ≡ end
 count-none end h = refl
@@ -127,7 +128,7 @@ module _ {X t : List ℕ} {n : ℕ} {K : List ℕ} (i : ℕ) (stop : Bool) {c : 
       means = λ I s at en there.
           let q = p .means I s at (suc (length (I .es))) (omega (arith, at .given .size)) (some en) (inside, there) none refl refl in
           let r = row-of (q .at .given) inside there in
-          let body : barBody (I .text) (I .es) true (readers (c .depth) I) en (stopOf stop) s ≡ (nought, q .state) = bar-body I (c .depth) en stop s (q .runs) ∙ ap (λ (l : Nodes). barEnd I en l (q .state)) (count-none (q .answer) (sym (q .besides .0) ∙ hc)) ∙ ret _ _ in
+          let body : barBody (I .text) (I .es) true (readers (c .depth) I) en i (stopOf stop) s ≡ (nought, q .state) = bar-body I (c .depth) i en stop s (q .runs) ∙ ap (λ (l : Nodes). barEnd I i en l (q .state)) (count-none (q .answer) (sym (q .besides .0) ∙ hc)) ∙ ret _ _ in
           record {
             answer = glyphOf en;
             state = q .state;
@@ -153,13 +154,13 @@ module _ {X t : List ℕ} {n : ℕ} {K : List ℕ} (i : ℕ) (stop : Bool) {c : 
                 let st = q .at .given .stands (g .cur .pos) l in
                 let m : isAt (I .text) (I .es) (isBar (I .text) (I .es) en) (q .state .pos) ≡ true = ap (isAt (I .text) (I .es) (isBar (I .text) (I .es) en)) (sym (q .at .pos)) ∙ bar-is i (g .cur .pos) en (q .at .given) inside there ∙ hm in
                 let adv = advance-took (I .text) (I .es) any (q .state) (st .entry) (ap (λ (k : ℕ). getElem? (I .es) k) (sym (q .at .pos)) ∙ st .there) refl in
-                let body : barBody (I .text) (I .es) true (readers (c .depth) I) en (stopOf stop) s ≡ (made (node (Head.group (en .span) (st .entry .span)) (k .head ▸ k .rest)), tick (q .state)) =
-                bar-body I (c .depth) en stop s (q .runs) ∙ ap (λ (l : Nodes). barEnd I en l (q .state)) (k .is) ∙ bind _ _ _ (at-here (q .state)) ∙ if-true _ _ _ m ∙ bind _ _ _ adv ∙ ret _ _ in
+                let body : barBody (I .text) (I .es) true (readers (c .depth) I) en i (stopOf stop) s ≡ (made (node (Head.group (en .span) (st .entry .span)) (k .head ▸ k .rest)), shut i (tick (q .state))) =
+                bar-body I (c .depth) i en stop s (q .runs) ∙ ap (λ (l : Nodes). barEnd I i en l (q .state)) (k .is) ∙ bind _ _ _ (at-here (q .state)) ∙ if-true _ _ _ m ∙ bind _ _ _ adv ∙ ret-closed _ _ _ in
                 record {
                   answer = node (Head.group (en .span) (st .entry .span)) (k .head ▸ k .rest);
-                  state = tick (q .state);
+                  state = shut i (tick (q .state));
                   runs = bind _ _ s (attempt-made (I .text) (I .es) (openMark (stopOf stop)) i _ s (open-known i stop false at inside h) (node (Head.group (en .span) (st .entry .span)) (k .head ▸ k .rest)) body) ∙ ret _ _;
-                  at = at-tick (q .at);
+                  at = at-shut i (at-tick (q .at));
                   tree = rw hw (subst (λ (ws : List ℕ). Wrote x e (sets z e (groupWords t J n i (g .cur .pos) (g .count))) (g .end) ws) (sym (closed-words (k .head ▸ k .rest) (row-of (q .at .given) inside there) (st .row) l (q .besides .0 ∙ ap count (k .is)))) (fill e (groupWords t J n i (g .cur .pos) (g .count)) (subst (λ (m : Nodes). Wrote x (e + 6) z (g .end) (encodeItems m)) (k .is) (q .tree)) (omega (arith, size)) (omega (arith, p .moves .room))));
                   besides = refl;
                 };
@@ -178,11 +179,11 @@ module _ {X t : List ℕ} {n : ℕ} {K : List ℕ} (i : ℕ) (stop : Bool) {c : 
                 let k = count-some (q .answer) (λ w0. hc (q .besides .0 ∙ w0)) in
                 let m : isAt (I .text) (I .es) (isBar (I .text) (I .es) en) (q .state .pos) ≡ false = ap (isAt (I .text) (I .es) (isBar (I .text) (I .es) en)) (sym (q .at .pos)) ∙ bar-is i (g .cur .pos) en (q .at .given) inside there ∙ hm in
                 let at2 = at-lost (openMark (stopOf stop)) i (q .at) at inside fit hn2 in
-                let body : barBody (I .text) (I .es) true (readers (c .depth) I) en (stopOf stop) s ≡ (lost, q .state) =
-                bar-body I (c .depth) en stop s (q .runs) ∙ ap (λ (l : Nodes). barEnd I en l (q .state)) (k .is) ∙ bind _ _ _ (at-here (q .state)) ∙ if-false _ _ _ m ∙ ret _ _ in
+                let body : barBody (I .text) (I .es) true (readers (c .depth) I) en i (stopOf stop) s ≡ (lost, q .state) =
+                bar-body I (c .depth) i en stop s (q .runs) ∙ ap (λ (l : Nodes). barEnd I i en l (q .state)) (k .is) ∙ bind _ _ _ (at-here (q .state)) ∙ if-false _ _ _ m ∙ ret _ _ in
                 record {
                   answer = glyphOf en;
-                  state = record { pos = s .pos; takes = q .state .takes; marks = set (q .state .marks) (slot (openMark (stopOf stop)) i) true };
+                  state = record { pos = s .pos; takes = q .state .takes; marks = set (q .state .marks) (slot (openMark (stopOf stop)) i) true; closers = s .closers };
                   runs = bind _ _ s (attempt-lost (I .text) (I .es) (openMark (stopOf stop)) i _ s (open-known i stop false at inside h) body) ∙ ret _ _;
                   at = at2;
                   tree = rw (glyph-words (row-of (at2 .given) inside there)) (seq (back e (q .tree) (omega arith) (omega (arith, p .moves .room))) (push z e (leafWords t N i 22) (e + 6) refl (omega (arith, p .moves .long))));

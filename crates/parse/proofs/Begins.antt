@@ -23,14 +23,16 @@ use Rattle.parse.specs.declared.cursor.Step.the-variants.{Found, Nothing
 use Rattle.parse.specs.declared.cursor.Part.{Part}
 use Rattle.parse.specs.Buffer.{Wrote}
 use Rattle.records.specs.Record.{kindOf}
-use Rattle.lookahead.specs.Tests.{testAt, beginsKind}
+use Rattle.lookahead.specs.Tests.{testAt, beginsKind, opening}
 use Rattle.leaves.specs.Leaves.{leafKind, leafClass, leafEnds, leafWords}
-use Rattle.parse.specs.Meet.{Input, Known, readers, Began, Simple, Begun, Bracket, Unary, Binary, opening, stopOf, onward, seen, inner, atDepth}
+use Rattle.parse.specs.Meet.{Began, Simple, Begun, Bracket, Unary, Binary, onward, seen, inner, atDepth}
 use Rattle.parse.proofs.Buffer.{push, wrote-none}
 use Rattle.lookahead.proofs.Testing.{test-below}
-use Rattle.parse.proofs.Kit.{bind, ret, at-here, tick, at-tick, row-of, kept-refl, took, passed, test-kind, same-begins, level-simple}
-use Rattle.parse.proofs.Sorts.{is-Sign, is-Function, is-Unary, is-Binary, is-OpenBracket, is-OpenCloseBracket, leaf-of}
 use Rattle.parse.proofs.Scripting.{found-of}
+use Rattle.reading_words.specs.Meet.{Input, Known, readers, stopOf}
+use Rattle.stores.proofs.Stores.{kept-refl}
+use Rattle.reading_words.proofs.Kit.{bind, ret, at-here, tick, at-tick, row-of, took, passed, test-kind, same-begins, level-simple}
+use Rattle.reading_words.proofs.Sorts.{is-Sign, is-Function, is-Unary, is-Binary, is-OpenBracket, is-OpenCloseBracket, leaf-of}
 
 module _ {X t : List ℕ} {n : ℕ} {K : List ℕ} (stop sg : Bool) {c : Cursor} {e : ℕ} {x : List ℕ} (deep : c .depth < 256) where
   pub simple-nothing : testAt t K n (beginsKind stop) (c .pos) ≡ false → c .pos ≤ n → Known X t n K → Simple X t n K K stop sg c e x x (Nothing (seen n c))

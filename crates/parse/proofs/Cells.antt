@@ -14,16 +14,15 @@ use Rattle.tree.specs.Tree.{Head, node, Nodes, end, _▸_, _⧺_, count, one}
 use Rattle.tree.specs.Words.{encode, encodes, encodeItems}
 use Rattle.reading.specs.Stop.{Stop}
 use Rattle.reading.specs.Entries.{Entry, is}
-use Rattle.reading.specs.Reading.{State, M, return, advance, any, Readers, intermediates, prefixes, rowCells, nextMatrixRow}
+use Rattle.reading.specs.Reading.{State, M, return, closed, advance, any, Readers, intermediates, prefixes, rowCells, nextMatrixRow}
 use Rattle.parse.specs.declared.cursor.Cursor.{Cursor}
 use Rattle.parse.specs.declared.cursor.Items.{Items}
 use Rattle.parse.specs.Buffer.{Wrote}
 use Rattle.lookahead.specs.Tests.{testAt, isKind}
-use Rattle.parse.specs.Meet.{Input, Row, Stands, At, Known, readers, Each, Intermediates, onward, passing}
+use Rattle.parse.specs.Meet.{Each, Intermediates, onward, passing}
 use Rattle.parse.proofs.Buffer.{fill, seq, back, wrote-none}
 use Rattle.lookahead.proofs.Testing.{test-below}
 use Rattle.parse.proofs.Whole.{whole-items}
-use Rattle.parse.proofs.Kit.{bind, ret, if-true, if-false, tick, at-tick, kept-refl, kept-trans, kind-is, advance-took, advance-end, past}
 use Rattle.reading.specs.Reading as reading
 use Rattle.parse.specs.declared.cursor.Close.{Close}
 use Rattle.parse.specs.declared.cursor.Close.the-variants as close
@@ -32,6 +31,9 @@ use Rattle.columns.specs.Rows as columns
 use Rattle.parse.specs.Matrix.{Filled, Fails, cellsAt, RowCells, rowAt, MatrixRow}
 use Rattle.parse.proofs.Loop.{nodes-assoc}
 use Rattle.parse.proofs.Scripting.{encodes-append, count-append}
+use Rattle.reading_words.specs.Meet.{Input, Row, Stands, At, Known, readers}
+use Rattle.stores.proofs.Stores.{kept-refl, kept-trans}
+use Rattle.reading_words.proofs.Kit.{shut, ret-closed, at-shut, at-here, bind, ret, if-true, if-false, tick, at-tick, kind-is, advance-took, advance-end, past}
 
 -- one token passed, if there is one
 pub passing-in : (n : ℕ) (c : Cursor) → c .pos < n → passing n c ≡ onward c
@@ -263,9 +265,9 @@ module _ {X t : List ℕ} {n : ℕ} {K : List ℕ} (c : Cursor) (e : ℕ) (x : L
 
 row-taken : (I : Input) (R : Readers) (s u : State) (o : Entry) (q : Option (Nodes × Entry)) (v : State) → advance (I .text) (I .es) any s ≡ (some o, u) → is token.OpenBracket o ≡ true
     → rowCells (I .text) (I .es) true R (suc (length (I .es))) u ≡ (q, v)
-    → nextMatrixRow (I .text) (I .es) true R s ≡ elim q as (λ _. M (Option reading.Row)) [ none ↦ return none | some m ↦ return (some (record { left = o; right = m .1; cells = m .0 })) ] v
+    → nextMatrixRow (I .text) (I .es) true R s ≡ elim q as (λ _. M (Option reading.Row)) [ none ↦ return none | some m ↦ closed (s .pos) (some (record { left = o; right = m .1; cells = m .0 })) ] v
 unfolding nextMatrixRow
-row-taken I R s u o q v h k r = bind _ _ s h ∙ if-true _ _ u k ∙ bind _ _ u r
+row-taken I R s u o q v h k r = bind _ _ s (at-here s) ∙ bind _ _ s h ∙ if-true _ _ u k ∙ bind _ _ u r
 
 -- a row: its bracket and its cells
 module _ (X t : List ℕ) (n : ℕ) (K : List ℕ) (c : Cursor) (e : ℕ) (x : List ℕ) where
@@ -282,9 +284,9 @@ module _ (X t : List ℕ) (n : ℕ) (K : List ℕ) (c : Cursor) (e : ℕ) (x : L
             let w = p .3 I (tick s) (at-tick at) in
             record {
               row = record { left = v .0 .entry; right = w .right; cells = w .cells };
-              state = w .state;
-              runs = row-taken I (readers (c .depth) I) s (tick s) (v .0 .entry) (some (w .cells, w .right)) (w .state) (v .1) (kind-is token.OpenBracket true (v .0 .row) b h) (w .runs) ∙ ret _ _;
-              at = w .at;
+              state = shut (s .pos) (w .state);
+              runs = row-taken I (readers (c .depth) I) s (tick s) (v .0 .entry) (some (w .cells, w .right)) (w .state) (v .1) (kind-is token.OpenBracket true (v .0 .row) b h) (w .runs) ∙ ret-closed _ _ _;
+              at = at-shut (s .pos) (w .at);
               left = v .0 .there;
               right = w .there;
               number = w .number;
@@ -317,7 +319,7 @@ module _ (X t : List ℕ) (n : ℕ) (K : List ℕ) (c : Cursor) (e : ℕ) (x : L
       go I s at true eq =
           let b : c .pos < n = ltb-true (c .pos) n eq in
           let v = took-any at b in
-          rw (passing-in n c b) (record { state = tick s; runs = bind _ _ s (v .1) ∙ if-false _ _ _ (kind-is token.OpenBracket false (v .0 .row) b h) ∙ ret _ _; at = at-tick at; tree = wrote-none x e })
+          rw (passing-in n c b) (record { state = tick s; runs = bind _ _ s (at-here s) ∙ bind _ _ s (v .1) ∙ if-false _ _ _ (kind-is token.OpenBracket false (v .0 .row) b h) ∙ ret _ _; at = at-tick at; tree = wrote-none x e })
       go I s at false eq =
           let b : n ≤ c .pos = ltb-false (c .pos) n eq in
-          rw (passing-out n c b) (record { state = s; runs = bind _ _ s (end-any at b) ∙ ret _ _; at = at; tree = wrote-none x e })
+          rw (passing-out n c b) (record { state = s; runs = bind _ _ s (at-here s) ∙ bind _ _ s (end-any at b) ∙ ret _ _; at = at; tree = wrote-none x e })

@@ -19,11 +19,11 @@ use Rattle.parse.specs.declared.cursor.Why.{Why}
 use Rattle.parse.specs.declared.cursor.Why.the-variants as why
 use Rattle.parse.proofs.cursor.Why.{the-type}
 use Rattle.records.specs.Record.{kindOf}
-use Rattle.lookahead.specs.Tests.{testAt, isKind}
+use Rattle.lookahead.specs.Tests.{testAt, isKind, prefixStop}
 use Rattle.nodes.specs.Nodes.{groupWords}
 use Rattle.parse.specs.Meet.{Each, Intermediates, OpenGroup, Begun, Unary, prefixOf, onward, seen}
 use Rattle.parse.specs.Matrix.{Broke, Fails, rowsAt, MatrixRows′}
-use Rattle.parse.specs.Choices.{prefixNumber, prefixStop}
+use Rattle.parse.specs.Choices.{prefixNumber}
 use Rattle.parse.proofs.Begins.{begun-unary, begun-function, begun-sign}
 use Rattle.parse.proofs.Scripting.{group-shut, group-open}
 

@@ -22,10 +22,12 @@ use Rattle.lookahead.specs.Tests.{testAt, isKind}
 use Rattle.spans.specs.Spans.{sameAt}
 use Rattle.brackets.specs.Brackets.{barAt}
 use Rattle.nodes.specs.Nodes.{gapLen, gapWords, gapItems}
-use Rattle.parse.specs.Meet.{Input, Row, Stands, Given, At, Known, readers, Moves, Each, Intermediate, Intermediates, Gapped, Until, lastAfter, isNone, stopOf, itemsAt, itemsFrom}
+use Rattle.parse.specs.Meet.{Moves, Each, Intermediate, Intermediates, Gapped}
 use Rattle.parse.proofs.Buffer.{seq, back, wrote-none}
-use Rattle.parse.proofs.Kit.{bind, ret, at-here, if-true, if-false, row-of, kept-refl, kept-trans, test-in, test-out, same-is, past, at-some, at-none}
 use Rattle.parse.proofs.Scripting.{count-append}
+use Rattle.reading_words.specs.Meet.{Input, Row, Stands, Given, At, Known, readers, Until, lastAfter, isNone, stopOf, itemsAt, itemsFrom}
+use Rattle.stores.proofs.Stores.{kept-refl, kept-trans}
+use Rattle.reading_words.proofs.Kit.{bind, ret, at-here, if-true, if-false, row-of, test-in, test-out, same-is, past, at-some, at-none}
 
 pub encodeItems-append : (l m : Nodes) → encodeItems (l ⧺ m) ≡ encodeItems l ++ encodeItems m
 unfolding encodeItems

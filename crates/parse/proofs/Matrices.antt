@@ -17,28 +17,30 @@ use Rattle.reading.specs.Reading.{State, M, matrixMark, made, lost, isAt, isByt
 use Rattle.parse.specs.declared.cursor.Cursor.{Cursor}
 use Rattle.parse.specs.declared.cursor.Step.the-variants.{Found, Nothing}
 use Rattle.parse.specs.Buffer.{Wrote}
-use Rattle.records.specs.Record.{afterClose, sepOf, marksOf, kindOf, Whole}
+use Rattle.records.specs.Record.{afterClose, sepOf, marksOf, kindOf, Whole, Kept}
 use Rattle.lookahead.specs.Tests.{testAt, isKind}
 use Rattle.spans.specs.Spans.{byteAt}
 use Rattle.brackets.specs.Brackets.{barAt, closesAt, couldBeMatrixAt, setAt, makesAt}
 use Rattle.marks.specs.Marks.{isMarked}
 use Rattle.nodes.specs.Nodes.{matrixWords}
-use Rattle.parse.specs.Entry.{Kept, bit}
-use Rattle.parse.specs.Meet.{Input, Row, linkNumber, Given, At, Known, readers, Moves, Misses, Each, TryMatrix, onward, rewound}
+use Rattle.parse.specs.Meet.{Moves, Misses, Each, TryMatrix, onward, rewound}
 use Rattle.parse.proofs.Buffer.{fill, back, wrote-none}
 use Rattle.lookahead.proofs.Testing.{test-below}
-use Rattle.parse.proofs.Kit.{bind, ret, at-here, if-true, if-false, tick, at-tick, row-of, kept-refl, kept-trans, test-kind, same-is, past, at-some, at-none}
 use Rattle.parse.specs.declared.cursor.Cells.{Cells}
 use Rattle.columns.specs.declared.Split.{Split}
 use Rattle.columns.specs.Columns.{cellsEnd}
 use Rattle.columns.specs.Rows as columns
 use Rattle.parse.specs.Columns.{SplitReady, MatrixAt, Splits}
 use Rattle.parse.specs.Matrix.{Broke, Filled, Fails, HasMatrix, rowsAt}
-use Rattle.parse.proofs.Attempts.{mark-is, marks-kept, marked, at-lost, known-lost, attempt-known, attempt-made, attempt-lost}
 use Rattle.parse.proofs.Cells.{took-any, cell-words}
 use Rattle.parse.proofs.Loop.{bar-is}
 use Rattle.parse.proofs.Rows.{is-at-is, byte-at}
 use Rattle.parse.proofs.Scripting.{count-append}
+use Rattle.tokens.specs.Refusals.{bit}
+use Rattle.reading_words.specs.Meet.{Input, Row, linkNumber, Given, At, Known, readers}
+use Rattle.stores.proofs.Stores.{kept-refl, kept-trans, marks-kept}
+use Rattle.reading_words.proofs.Kit.{shut, ret-closed, at-shut, bind, ret, at-here, if-true, if-false, tick, at-tick, row-of, test-kind, same-is, past, at-some, at-none}
+use Rattle.reading_words.proofs.Attempts.{mark-is, at-lost, known-lost, attempt-known, attempt-made, attempt-lost, marked}
 
 -- the words of the cells chain by their headers
 after : {x₀ x v : List ℕ} {e E : ℕ} (u : List ℕ) → Wrote x₀ e x E (u ++ v) → E ≤ length x → Wrote x (e + length u) x E v
@@ -294,10 +296,10 @@ module _ {X t : List ℕ} {n : ℕ} {K : List ℕ} (i : ℕ) (c : Cursor) (e : �
                   let mn : (splitColumnLines (I .text) (I .es) (q .rows)) .0 (en .span) (u .0 .entry .span) ≡ node (Head.matrix (en .span) (u .0 .entry .span) (sp .cols) (v .mat .lines)) (v .mat .cells) = v .mat .made (en .span) (u .0 .entry .span) in
                   record {
                     node = node (Head.matrix (en .span) (u .0 .entry .span) (sp .cols) (v .mat .lines)) (v .mat .cells);
-                    state = tick (q .state);
+                    state = shut i (tick (q .state));
                     runs = if-true _ _ s (gate-is (at .given) inside there ∙ gate) ∙ attempt-made (I .text) (I .es) matrixMark i _ s (sym (mark-is matrixMark i (at .marks) inside) ∙ new) _
-                        (bind _ _ s (q .runs) ∙ bind _ _ _ (at-here (q .state)) ∙ if-true _ _ _ m ∙ bind _ _ _ (u .1) ∙ ret _ _ ∙ ap (λ (x : Node). (made x, tick (q .state))) mn);
-                    at = at-tick (q .at);
+                        (bind _ _ s (q .runs) ∙ bind _ _ _ (at-here (q .state)) ∙ if-true _ _ _ m ∙ bind _ _ _ (u .1) ∙ ret-closed _ _ _ ∙ ap (λ (x : Node). (made x, shut i (tick (q .state)))) mn);
+                    at = at-shut i (at-tick (q .at));
                     tree = rw (hw, matrix-encoded (sp .cols) (sp .lines) (v .mat .lines) (v .mat .cells) (row-of (q .at .given) inside there) (u .0 .row) (v .mat .kept) (v .mat .bars)) (fill e (matrixWords t L i (d .pos) (sp .cells) (sp .cols) (sp .lines)) (v .mat .wrote) refl (omega (arith, f .room, sl .within)));
                     besides = refl;
                   },

@@ -21,10 +21,9 @@ use Rattle.parse.specs.Buffer.{Wrote}
 use Rattle.lookahead.specs.Tests.{testAt, isKind}
 use Rattle.spans.specs.Spans.{sameAt, byteAt}
 use Rattle.rows.specs.Rows as entry
-use Rattle.parse.specs.Meet.{Input, Row, Given, At, Known, readers, Each, onward}
+use Rattle.parse.specs.Meet.{Each, onward}
 use Rattle.parse.proofs.Buffer.{seq, back, wrote-none}
 use Rattle.lookahead.proofs.Testing.{test-below}
-use Rattle.parse.proofs.Kit.{bind, ret, at-here, if-true, if-false, tick, at-tick, row-of, kept-refl, kept-trans, test-in, test-out, same-is, past, at-some, at-none}
 use Rattle.reading.specs.Reading as reading
 use Rattle.parse.specs.declared.cursor.Close.the-variants as close
 use Rattle.parse.specs.declared.cursor.Cells.{Cells}
@@ -36,6 +35,9 @@ use Rattle.parse.specs.Matrix.{Broke, Filled, Fails, HasRow, rowAt, Matr
 use Rattle.parse.proofs.Cells.{took-any}
 use Rattle.parse.proofs.Loop.{nodes-assoc, nodes-nil, same-text}
 use Rattle.parse.proofs.Scripting.{encodes-append, count-append}
+use Rattle.reading_words.specs.Meet.{Input, Row, Given, At, Known, readers}
+use Rattle.stores.proofs.Stores.{kept-refl, kept-trans}
+use Rattle.reading_words.proofs.Kit.{bind, ret, at-here, if-true, if-false, tick, at-tick, row-of, test-in, test-out, same-is, past, at-some, at-none}
 
 -- The code's tests, as the definition's.
 pub is-at-is : {X t : List ℕ} {n : ℕ} {K : List ℕ} {I : Input} (k : Token) (p : ℕ) → Given X t n K I → isAt (I .text) (I .es) (is k) p ≡ testAt t K n (isKind (numberOf k)) p

@@ -26,11 +26,13 @@ use Rattle.records.specs.Record.{startOf, lenOf}
 use Rattle.lookahead.specs.Tests.{testAt, isKind, headsKind}
 use Rattle.leaves.specs.Leaves.{nodeWords}
 use Rattle.nodes.specs.Nodes.{groupWords}
-use Rattle.parse.specs.Meet.{Input, Row, At, Known, readers, Finds, Simple, ScriptFunc, Term, Intermediate, Operand, Scripts, Intermediates, Headed, OpenGroup, With, wordsOf, stopOf, scriptFuncAt, onward, seen, inner, atDepth, stepAt}
+use Rattle.parse.specs.Meet.{Finds, Simple, ScriptFunc, Term, Intermediate, Operand, Scripts, Intermediates, Headed, OpenGroup, With, wordsOf, onward, seen, inner, atDepth, stepAt}
 use Rattle.parse.proofs.Buffer.{fill, seq, back, wrote-none}
 use Rattle.parse.proofs.Whole.{whole-items}
 use Rattle.lookahead.proofs.Testing.{test-below}
-use Rattle.parse.proofs.Kit.{bind, ret, if-true, if-false, tick, at-tick, row-of, kept-refl, kept-trans, took, passed, same-is, same-heads, kind-is, level-scriptFunc, deep-simple, deep-scriptFunc}
+use Rattle.reading_words.specs.Meet.{Input, Row, At, Known, readers, stopOf, scriptFuncAt}
+use Rattle.stores.proofs.Stores.{kept-refl, kept-trans}
+use Rattle.reading_words.proofs.Kit.{shut, ret-closed, at-shut, bind, ret, if-true, if-false, tick, at-tick, row-of, took, passed, same-is, same-heads, kind-is, level-scriptFunc, deep-simple, deep-scriptFunc}
 
 pub encodes-append : (l m : Nodes) → encodes (l ⧺ m) ≡ encodes l ++ encodes m
 unfolding encodes
@@ -269,9 +271,9 @@ module _ {X t : List ℕ} {n : ℕ} {K L : List ℕ} (i : ℕ) {c : Cursor} {e :
             let r = row-of (q .at .given) inside there in
             record {
               answer = node (Head.group (en .span) (u .0 .entry .span)) (q .answer);
-              state = tick (q .state);
-              runs = bind _ _ s (q .runs) ∙ bind _ _ _ (u .1) ∙ ret _ _;
-              at = at-tick (q .at);
+              state = shut i (tick (q .state));
+              runs = bind _ _ s (q .runs) ∙ bind _ _ _ (u .1) ∙ ret-closed _ _ _;
+              at = at-shut i (at-tick (q .at));
               tree = rw (hz, closed-words (q .answer) r (u .0 .row) b (q .besides .0)) (fill e (groupWords t L n i (g .cur .pos) (g .count)) (q .tree) (omega (arith, size)) (omega (arith, p .moves .room)));
               besides = refl;
             };

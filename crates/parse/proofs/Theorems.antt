@@ -7,18 +7,17 @@ use lib.ListN.{length}
 use Rattle.tokens.specs.Lexeme.{Lexeme}
 use Rattle.lexing.specs.Rules.{tokens}
 use Rattle.tokens.specs.Table.{tokenList}
-use Rattle.tokens.specs.Refusals.{Answer, accepted, refused, entryWords}
-use Rattle.tokens.proofs.Cases.{by-option}
+use Rattle.tokens.specs.Refusals.{Answer, accepted, refused, entryWords, bit}
+use Rattle.tokens.proofs.Cases.{by-option, apart}
 use Rattle.tree.specs.Tree.{count}
 use Rattle.tree.specs.Decode.{decode}
 use Rattle.reading.specs.Reading.{readTokens, blank}
 use Rattle.grammar.specs.Strip.{strip}
 use Rattle.bounds.proofs.Theorems.{bounds}
 use Rattle.grammar.proofs.Settled as grammar
-use Rattle.parse.specs.Entry.{bit}
 use Rattle.parse.specs.Call.{parseRefusal, parseTokensRefusal, values, treeAfter, parsedText, parsedTokens}
 use Rattle.parse.specs.Answers.{Answered}
-use Rattle.parse.proofs.Calls.{apart, text-when-refused, text-read, list-when-refused, list-taken}
+use Rattle.parse.proofs.Calls.{text-when-refused, text-read, list-when-refused, list-taken}
 
 module _ (text : List ℕ) (ts : List Lexeme) (takes items blankness len : ℕ) (words : List ℕ)
     (v : takes ∷ items ∷ blankness ∷ [] ≡ values text ts) (w : words ≡ treeAfter text ts len) where

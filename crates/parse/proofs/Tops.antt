@@ -5,7 +5,7 @@ use mathlib.Core.List.{List, [], _∷_, _++_, append-nil, append-assoc}
 use mathlib.Core.Option.{Option, none, some}
 use mathlib.Core.Bool.{Bool, true, false}
 use native.Mathlib.Omega.{arith}
-use lib.ListN.{length, getD, take, replicate, length-replicate}
+use lib.ListN.{length, take, replicate}
 use borrow.Author.Tests.{eqb-true}
 use Rattle.tokens.specs.declared.token.Token.the-variants as token
 use Rattle.tokens.specs.Lexeme.{Span}
@@ -13,20 +13,21 @@ use Rattle.tree.specs.Tree.{nowhere, Head, Node, node, Nodes, end, _▸_, _⧺_
 use Rattle.tree.specs.Words.{encode, encodes, encodeItem, encodeItems}
 use Rattle.reading.specs.Stop.{Stop}
 use Rattle.reading.specs.Entries.{Entry, is}
-use Rattle.reading.specs.Reading.{State, advance, level, intermediates, unscripted, endsOperand, endsFirst, look, prefixes, parse, parseEntries, lastOf}
+use Rattle.reading.specs.Reading.{State, advance, level, intermediates, unscripted, endsOperand, endsFirst, look, prefixes, parse, lastOf}
 use Rattle.parse.specs.declared.cursor.Cursor.{Cursor}
 use Rattle.parse.specs.declared.cursor.Items.{Items}
-use Rattle.records.specs.Record.{afterClose, sepOf, marksOf, kindOf, startOf, lenOf, InHalf, Whole, withClose, withSep}
+use Rattle.records.specs.Record.{afterClose, sepOf, marksOf, kindOf, startOf, lenOf, InHalf, Whole, withClose, withSep, Kept}
 use Rattle.lookahead.specs.Tests.{testAt, isKind}
-use Rattle.parse.specs.Entry.{Safe, Kept}
-use Rattle.parse.specs.Meet.{Input, Row, Given, Marks, At, Known, Intermediates, lastAfter, isNone, onward, seen}
+use Rattle.parse.specs.Meet.{Intermediates, onward, seen}
 use Rattle.lookahead.proofs.Testing.{test-below}
 use Rattle.stores.proofs.Stores.{close-length, close-same, close-other, place-of-close, sep-of-close, marks-of-close, sep-length, sep-same, sep-other, place-of-sep, close-of-sep, marks-of-sep}
 use Rattle.parse.proofs.Whole.{whole-items}
-use Rattle.parse.proofs.Kit.{bind, ret, tick, at-tick, same-kind, same-start, same-len, same-row, Places, safe-same, safe-kept, took, passed, test-kind, same-is}
-use Rattle.parse.specs.Top.{Wrap, Chained, wrapWords, wrapsWords, TopReady, Topped}
+use Rattle.parse.specs.Top.{Wrap, Chained, wrapWords, wrapsWords, readFrom, TopReady, Topped}
 use Rattle.parse.proofs.Scripting.{count-append}
 use Rattle.parse.proofs.Loop.{encodeItems-append, last-append}
+use Rattle.reading_words.specs.Entry.{Safe}
+use Rattle.reading_words.specs.Meet.{Input, Row, Given, Marks, At, Known, lastAfter, isNone}
+use Rattle.reading_words.proofs.Kit.{bind, ret, tick, at-tick, same-kind, same-start, same-len, same-row, Places, safe-same, safe-kept, took, passed, test-kind, same-is}
 
 -- A wrap noted: only two fields of its closing bracket change.
 module _ (K : List ℕ) (i a k : ℕ) where
@@ -162,11 +163,11 @@ absurd-bool : {A : Type 0} → true ≡ false → A
 absurd-bool h = let z : _≡_ {A = ℕ} 0 1 = cc in absurd (omega arith)
 
 -- At the loop's head.
-pub record Topping (X t : List ℕ) (n : ℕ) (K : List ℕ) (ws : List Wrap) (I : Input) (y : List ℕ) (cur : Cursor) (stp num : ℕ) (first sign : Bool) (wraps : ℕ) : Type 0 where
+pub record Topping (X t : List ℕ) (n : ℕ) (K : List ℕ) (ws : List Wrap) (I : Input) (m : List Bool) (y : List ℕ) (cur : Cursor) (stp num : ℕ) (first sign : Bool) (wraps : ℕ) : Type 0 where
   pub left : ℕ
   pub acc : Nodes
   pub state : State
-  pub whole : parseEntries (I .text) (I .es) true ≡ parse (I .text) (I .es) true (suc left) (256 - wraps) acc state
+  pub whole : readFrom I m ≡ parse (I .text) (I .es) true (suc left) (256 - wraps) acc state
   pub enough : n - cur .pos ≤ left
   pub at : At X t n K (cur .pos) (cur .takes) I state
   pub words : encodeItems acc ≡ wrapsWords t K ws ++ take stp y
@@ -189,19 +190,11 @@ pub record Round (X t : List ℕ) (n : ℕ) (K₀ K x y : List ℕ) (cur : Curso
   pub list : List Wrap
   pub size : length list ≡ wraps
   pub chain : Chained K (cur .pos) last list
-  pub along : (I : Input) → Given X t n K₀ I → Topping X t n K list I y cur stp num first sign wraps
-
-get-false : (k j : ℕ) → getD (replicate k false) j false ≡ false
-get-false zero j = refl
-get-false (suc k) zero = refl
-get-false (suc k) (suc j) = get-false k j
-
-blank-marks : {n : ℕ} {K : List ℕ} (m : ℕ) → ((i : ℕ) → i < n → marksOf K i ≡ 0) → m ≡ n → Marks n K (replicate (3 * m) false)
-blank-marks m h e = record { held = length-replicate (3 * m) false ∙ ap (λ (k : ℕ). 3 * k) e; words = λ i l. h i l ∙ sym (rw (get-false (3 * m) (3 * i), get-false (3 * m) (3 * i + 1), get-false (3 * m) (3 * i + 2))) }
+  pub along : (I : Input) → Given X t n K₀ I → (m : List Bool) → Marks n K₀ m → Topping X t n K list I m y cur stp num first sign wraps
 
 module _ (X t : List ℕ) (n : ℕ) {K : List ℕ} (x : List ℕ) (r : TopReady n X t K x) where
   pub round-none : Round X t n K K x x (record { pos = 0; depth = 0; takes = 0 }) 0 0 true true 0 0
-  unfolding encodeItems prefixes lastOf parseEntries wrapsWords
+  unfolding encodeItems prefixes lastOf wrapsWords
   round-none = record {
     within = omega arith;
     depth = refl;
@@ -213,17 +206,17 @@ module _ (X t : List ℕ) (n : ℕ) {K : List ℕ} (x : List ℕ) (r : TopReady 
     small = omega arith;
     started = λ z. refl;
     safe = r .safe;
-    known = record { input = r .input; marked = replicate (3 * n) false; given = r .given; marks = blank-marks n (r .blank) refl };
+    known = record { input = r .input; marked = r .marked; given = r .given; marks = r .marks };
     list = [];
     size = refl;
     chain = tt;
-    along = λ I g. record {
+    along = λ I g m mk. record {
       left = length (I .es);
       acc = end;
-      state = record { pos = zero; takes = zero; marks = replicate (3 * length (I .es)) false };
+      state = record { pos = zero; takes = zero; marks = m; closers = replicate (length (I .es)) (length (I .es)) };
       whole = refl;
       enough = omega (arith, g .size);
-      at = record { given = g; marks = blank-marks (length (I .es)) (r .blank) (g .size); pos = refl; takes = refl };
+      at = record { given = g; marks = mk; pos = refl; takes = refl };
       words = refl;
       number = refl;
       isFirst = refl;
@@ -233,7 +226,7 @@ module _ (X t : List ℕ) (n : ℕ) {K : List ℕ} (x : List ℕ) (r : TopReady 
 
 module _ {X t : List ℕ} {n : ℕ} {K₀ K L x y y2 : List ℕ} {cur : Cursor} {stp num : ℕ} {first sign : Bool} {wraps last : ℕ} {g : Items}
     (i : Round X t n K₀ K x y cur stp num first sign wraps last) (p : Intermediates X t n K L n false first sign cur stp y y2 g) (space : 32 * (n + 1) ≤ length x) where
-  record Turn (I : Input) (a : Topping X t n K (i .list) I y cur stp num first sign wraps) : Type 0 where
+  record Turn (I : Input) {m : List Bool} (a : Topping X t n K (i .list) I m y cur stp num first sign wraps) : Type 0 where
     pub l : Nodes
     pub u : State
     pub run : intermediates (I .text) (I .es) true (level (I .text) (I .es) true 256) (suc (length (I .es))) none Stop.none (lastOf (a .acc)) (a .state) ≡ (l, u)
@@ -242,7 +235,7 @@ module _ {X t : List ℕ} {n : ℕ} {K₀ K L x y y2 : List ℕ} {cur : Cursor} 
     pub number : num + g .count ≡ count (a .acc ⧺ l)
     pub isSign : g .sign ≡ prefixes (lastOf (a .acc ⧺ l))
 
-  turn : (I : Input) (a : Topping X t n K (i .list) I y cur stp num first sign wraps) → Turn I a
+  turn : (I : Input) {m : List Bool} (a : Topping X t n K (i .list) I m y cur stp num first sign wraps) → Turn I a
   turn I a =
       let q = rw (i .depth) at (whole-items p (omega arith) I (a .state) (a .at) (lastOf (a .acc)) (a .isFirst) (a .isSign)) in
       record {
@@ -261,12 +254,12 @@ module _ {X t : List ℕ} {n : ℕ} {K₀ K L x y y2 : List ℕ} {cur : Cursor} 
     noted = record { list = i .list; number = i .size; chain = chained-wider L (cur .pos) n last (i .list) (i .within) (chained-kept (cur .pos) last (i .list) (p .moves .kept) (i .chain)); placed = safe-kept (p .moves .kept) (i .safe) .placed };
     few = i .most;
     fits = omega (arith, p .moves .room, p .moves .on, p .moves .long, i .room, i .long);
-    means = λ I g₀.
-        let a = i .along I g₀ in
+    means = λ I g₀ m mk.
+        let a = i .along I g₀ m mk in
         let q = turn I a in
         let v = passed (isKind 21) (q .at) (same-is token.CloseBracket) h in
-        let w : parseEntries (I .text) (I .es) true ≡ (a .acc ⧺ q .l, v .state) = a .whole ∙ parse-open (I .text) (I .es) (a .left) (a .acc) (q .l) (a .state) (q .u) (v .state) (q .run) (256 - wraps) (v .runs) in
-        record { words = rw w (q .words); number = rw w (q .number); takes = rw w (v .at .takes) };
+        let w : readFrom I m ≡ (a .acc ⧺ q .l, v .state) = a .whole ∙ parse-open (I .text) (I .es) (a .left) (a .acc) (q .l) (a .state) (q .u) (v .state) (q .run) (256 - wraps) (v .runs) in
+        record { words = rw w (q .words); number = rw w (q .number); takes = rw w (v .at .takes); marks = rw w (v .at .marks) };
   }
 
   module _ (h : testAt t L n (isKind 21) (g .cur .pos) ≡ true) where
@@ -291,8 +284,8 @@ module _ {X t : List ℕ} {n : ℕ} {K₀ K L x y y2 : List ℕ} {cur : Cursor} 
           list = i .list;
           size = i .size;
           chain = chained-wider L (cur .pos) (g .cur .pos + 1) last (i .list) (omega (arith, p .moves .on)) (chained-kept (cur .pos) last (i .list) (p .moves .kept) (i .chain));
-          along = λ I g₀.
-              let a = i .along I g₀ in
+          along = λ I g₀ m mk.
+              let a = i .along I g₀ m mk in
               let q = turn I a in
               let v = took (isKind 21) (q .at) (same-is token.CloseBracket) h in
               let z : 256 - wraps ≡ zero = omega arith in
@@ -341,8 +334,8 @@ module _ {X t : List ℕ} {n : ℕ} {K₀ K L x y y2 : List ℕ} {cur : Cursor} 
           list = record { closer = at₀; items = c₀ } ∷ i .list;
           size = omega (arith, i .size);
           chain = chained-more L at₀ last c₀ (sl .placed at₀ b .fit) (omega (arith, i .small, i .safe .few)) (omega (arith, i .few, p .few, i .safe .few)) (cur .pos) (i .list) (omega (arith, p .moves .on)) (chained-kept (cur .pos) last (i .list) (p .moves .kept) (i .chain));
-          along = λ I g₀.
-              let a = i .along I g₀ in
+          along = λ I g₀ m mk.
+              let a = i .along I g₀ m mk in
               let q = turn I a in
               let v = took (isKind 21) (q .at) (same-is token.CloseBracket) h in
               let z : 256 - wraps ≡ suc (256 - (wraps + 1)) = omega arith in

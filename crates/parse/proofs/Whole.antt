@@ -11,8 +11,9 @@ use Rattle.tree.specs.Words.{encodeItems}
 use Rattle.reading.specs.Reading.{State, atOpenClose, intermediates, prefixes, spaced}
 use Rattle.parse.specs.declared.cursor.Cursor.{Cursor}
 use Rattle.parse.specs.declared.cursor.Items.{Items}
-use Rattle.parse.specs.Meet.{Input, At, Gives, Intermediates, lastAfter, isNone, itemsAt, itemsFrom}
-use Rattle.parse.proofs.Kit.{bind, at-here, if-false}
+use Rattle.parse.specs.Meet.{Gives, Intermediates}
+use Rattle.reading_words.specs.Meet.{Input, At, lastAfter, isNone, itemsAt, itemsFrom}
+use Rattle.reading_words.proofs.Kit.{bind, at-here, if-false}
 
 -- without a bar the first item is no other
 from-start : (I : Input) (d f : ℕ) (stop : Bool) (before : Option Node) (s : State) → itemsAt d (suc f) none stop before I s ≡ itemsFrom d f none stop before I s

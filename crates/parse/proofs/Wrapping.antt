@@ -2,7 +2,7 @@
 use Prim.Native.Nat.{ℕ, suc, _+_, _*_, _-_, _%_, _^_, _≤_, _<_}
 use mathlib.Core.Path.{_≡_, refl, sym, ap, _∙_}
 use mathlib.Core.List.{List, [], _∷_, _++_, append-nil, append-assoc}
-use mathlib.Core.Bool.{true}
+use mathlib.Core.Bool.{Bool, true}
 use native.Mathlib.Omega.{arith}
 use lib.ListN.{length, length-append, set, take, drop, replicate}
 use lib.Seq.{sets, length-sets, paste, take-paste, take-append-le, take-at, length-take-le}
@@ -12,14 +12,14 @@ use Rattle.reading.specs.Entries.{Entry}
 use Rattle.reading.specs.Reading.{State, parseEntries}
 use Rattle.parse.specs.Buffer.{Wrote}
 use Rattle.records.specs.Record.{afterClose, sepOf, startOf, lenOf}
-use Rattle.parse.specs.Meet.{Input, Given}
 use Rattle.parse.proofs.Buffer.{fill}
 use Rattle.buffer.specs.Buffer.{shifted}
 use Rattle.buffer.proofs.Stores.{shifted-in}
 use native.Mathlib.Nat.{mod-eq-of-lt, mul-le-mul}
 use Rattle.bounds.proofs.Takes.{takes-bound}
 use Rattle.parse.specs.declared.top.Wrapped.{Wrapped}
-use Rattle.parse.specs.Top.{Wrap, Chained, wrapWords, wrapsWords, Noted, Topped, Reads}
+use Rattle.parse.specs.Top.{Wrap, Chained, wrapWords, wrapsWords, readFrom, Noted, Topped, Reads}
+use Rattle.reading_words.specs.Meet.{Input, Given, Marks}
 
 -- The items, moved on to leave room for the headers.
 pub moved-on : (x : List ℕ) (stp by : ℕ) {y : List ℕ} → y ≡ shifted x stp by → stp + by ≤ length x → Wrote y by y (by + stp) (take stp x)
@@ -142,7 +142,7 @@ wrapped-all {t = t} {K = K} {wraps = wraps} x stp {y = y} {z = z} w ly h p hz =
     rw (e, hz) (fill 0 (wrapsWords t K (p .list)) w (omega (arith, wraps-length t K (p .list), p .number)) (omega arith) .body)
 
 -- The whole reading.
-small-takes : (X : List ℕ) (es : List Entry) → length es ≤ 4096 → (parseEntries X es true) .1 .takes % 2 ^ 32 ≡ (parseEntries X es true) .1 .takes
+pub small-takes : (X : List ℕ) (es : List Entry) → length es ≤ 4096 → (parseEntries X es true) .1 .takes % 2 ^ 32 ≡ (parseEntries X es true) .1 .takes
 small-takes X es h =
     let q : suc (length es) ≤ 4097 = omega arith in
     let m : suc (length es) * suc (length es) ≤ 4097 * 4097 = mul-le-mul q q in
@@ -150,15 +150,15 @@ small-takes X es h =
 
 pub parsed : {X t : List ℕ} {n : ℕ} {K L y v : List ℕ} {g : Wrapped} {len e : ℕ} (z : List ℕ) → n ≤ 4096 → g .cur .takes < 2 ^ 32 → (p : Topped X t n K L y g) → e ≡ g .end + 13 * g .wraps
     → take (g .end + 13 * g .wraps) z ≡ wrapsWords t L (p .noted .list) ++ take (g .end) y → length y ≡ len → length z ≡ len → v ≡ take e z ++ replicate (length z - e) 0
-    → (I : Input) → Given X t n K I → Reads I len v (record { takes = g .cur .takes; end = e; items = g .count })
-parsed {g = g} {len = len} {e = e} z hn ht p he hz hy hlz hv I gv =
-    let w = p .means I gv in
-    let tree : Nodes × State = parseEntries (I .text) (I .es) true in
+    → (I : Input) → Given X t n K I → (m : List Bool) → Marks n K m → Reads I m len v (record { takes = g .cur .takes; end = e; items = g .count })
+parsed {g = g} {len = len} {e = e} z hn ht p he hz hy hlz hv I gv m mk =
+    let w = p .means I gv m mk in
+    let tree : Nodes × State = readFrom I m in
     let all : take e z ≡ encodeItems (tree .0) = ap (λ (k : ℕ). take k z) he ∙ hz ∙ sym (w .words) in
     let sz : length (take e z) ≡ e = length-take-le e z (omega (arith, p .fits)) in
     record {
       end = sym sz ∙ ap length all;
       tree = hv ∙ ap (λ (q : List ℕ). q ++ replicate (length z - e) 0) all ∙ ap (λ (k : ℕ). encodeItems (tree .0) ++ replicate (k - e) 0) hlz;
       items = w .number;
-      takes = sym (mod-eq-of-lt ht) ∙ w .takes ∙ small-takes (I .text) (I .es) (omega (arith, gv .size));
+      takes = sym (mod-eq-of-lt ht) ∙ w .takes;
     }

@@ -9,7 +9,7 @@ use Rattle.tree.specs.Decode.{decode}
 use Rattle.reading.specs.Reading.{readTokens, readPlain, blank}
 use Rattle.grammar.specs.Grammar.{Settled, treeE}
 use Rattle.grammar.specs.Strip.{strip}
-use Rattle.parse.specs.Entry.{bit}
+use Rattle.tokens.specs.Refusals.{bit}
 
 pub record Answered (text : List ℕ) (ts : List Lexeme) (takes items blankness : ℕ) (words : List ℕ) : Type 0 where
   -- "The whole reading of any list is what this definition gives for it, takes and tree."

@@ -8,7 +8,7 @@ use lib.ListN.{length, drop, replicate}
 use Rattle.tokens.specs.Lexeme.{Lexeme}
 use Rattle.lexing.specs.Rules.{tokens}
 use Rattle.tokens.specs.Table.{tableWords, tokenList, countOthers}
-use Rattle.tokens.specs.Refusals.{Answer, accepted, refused, textRefusal, listRefusal, entryWords, roomRefusalBy}
+use Rattle.tokens.specs.Refusals.{Answer, accepted, refused, textRefusal, listRefusal, entryWords, roomRefusalBy, bit}
 use Rattle.tree.specs.Tree.{count}
 use Rattle.tree.specs.Words.{encodeItems}
 use Rattle.reading.specs.Reading.{readTokens, blank}
@@ -16,7 +16,6 @@ use Rattle.parse.specs.declared.Parsed.{Parsed}
 use Rattle.parse.specs.declared.Parsed.the-variants as parsed
 use Rattle.parse.specs.declared.ParsedTokens.{ParsedTokens}
 use Rattle.parse.specs.declared.ParsedTokens.the-variants as list
-use Rattle.parse.specs.Entry.{bit}
 
 -- The code's answers in the words of document 01. Blank is 1 or 0.
 abbrev pub answerOf : Parsed → Answer

@@ -1,4 +1,3 @@
-pub mod Entry
 pub mod Buffer
 pub mod Meet
 pub mod Choices

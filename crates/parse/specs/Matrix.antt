@@ -17,9 +17,10 @@ use Rattle.parse.specs.declared.cursor.Why.{Why}
 use Rattle.parse.specs.declared.cursor.Why.the-variants as why
 use Rattle.parse.specs.declared.cursor.Rows as code
 use Rattle.parse.specs.Buffer.{Wrote}
-use Rattle.parse.specs.Entry.{Kept}
 use Rattle.columns.specs.Rows as columns
-use Rattle.parse.specs.Meet.{Input, At, Known, Each, readers}
+use Rattle.parse.specs.Meet.{Each}
+use Rattle.records.specs.Record.{Kept}
+use Rattle.reading_words.specs.Meet.{Input, At, Known, readers}
 
 -- Rows not read to their end: where the code stands, and what it leaves of the work words.
 pub record Broke (X t : List ℕ) (n : ℕ) (K L : List ℕ) (c : Cursor) (e : ℕ) (x y : List ℕ) (d : Cursor) : Type 0 where

@@ -1,20 +1,17 @@
 -- What the readers' contracts say: what a call needs, and how its answer and the tree's words meet the definition's reading. X is
 -- the text, t the words of the token table, n the number of entries; K and L are the work words before and after, x and y the
 -- tree's.
-use Prim.Native.Nat.{ℕ, zero, suc, _+_, _-_, _*_, _%_, _≤_, _<_, _^_}
+use Prim.Native.Nat.{ℕ, _+_, _-_, _*_, _≤_}
 use mathlib.Core.Path.{_≡_}
 use mathlib.Core.List.{List, [], _∷_}
 use mathlib.Core.Option.{Option, none, some}
-use mathlib.Core.Bool.{Bool, true, false, cond}
-use lib.ListN.{length, drop, getD, getElem?}
+use mathlib.Core.Bool.{Bool, true, cond}
+use lib.ListN.{length, getElem?}
 use lib.Dec.{eqb, ltb}
-use Rattle.tokens.specs.declared.token.Token.the-variants as token
-use Rattle.tokens.specs.Kinds.{numberOf}
-use Rattle.tree.specs.Tree.{Head, Prefix, Node, node, Nodes, end, _▸_, _⧺_, count, one}
+use Rattle.tree.specs.Tree.{Head, Prefix, Node, node, end, _▸_, count, one}
 use Rattle.tree.specs.Words.{encode, encodes, encodeItem, encodeItems, scriptNumber}
-use Rattle.reading.specs.Stop.{Stop}
-use Rattle.reading.specs.Entries.{Entry, is, hasSep}
-use Rattle.reading.specs.Reading.{State, M, return, _>>=_, if_then_else_, Readers, Scripted, level, closeOf, argument, nextScript, nextIntermediate, intermediates, nextOpenGroup, nextOpenCloseGroup, nextBracket, tryMatrix, begun, attempt, openMark, barBody, orMissing, orMissingPart, orGlyph, endsOperand, prefixes}
+use Rattle.reading.specs.Entries.{Entry, is}
+use Rattle.reading.specs.Reading.{State, M, return, _>>=_, if_then_else_, Scripted, argument, nextOpenGroup, tryMatrix, begun, orMissing, orMissingPart, endsOperand, prefixes}
 use Rattle.parse.specs.declared.cursor.Cursor.{Cursor}
 use Rattle.parse.specs.declared.cursor.Step.{Step}
 use Rattle.parse.specs.declared.cursor.Step.the-variants.{Found, Nothing}
@@ -23,71 +20,11 @@ use Rattle.parse.specs.declared.cursor.Scripted as code
 use Rattle.parse.specs.declared.cursor.Items.{Items}
 use Rattle.parse.specs.declared.cursor.Gap.{Gap}
 use Rattle.parse.specs.Buffer.{Wrote}
-use Rattle.records.specs.Record.{afterClose, sepOf, marksOf, kindOf, startOf, lenOf, spaceStart, spaceLen}
 use Rattle.nodes.specs.Nodes.{gapWords, gapItems}
 use Rattle.lookahead.specs.Takes.{taken, looked}
-use Rattle.parse.specs.Entry.{Safe, Kept, bit, marksWord}
-
--- What the definition reads.
-pub record Input : Type 0 where
-  pub text : List ℕ
-  pub es : List Entry
-
-abbrev pub stopOf : Bool → Stop
-stopOf true = Stop.sep
-stopOf false = Stop.none
-
--- The entry at i is the definition's.
-pub record Row (t K : List ℕ) (i : ℕ) (e : Entry) : Type 0 where
-  pub kind : kindOf t K i ≡ numberOf (e .token)
-  pub start : startOf t K i ≡ e .span .start
-  pub len : lenOf t K i ≡ e .span .len
-  pub space : spaceStart t K i ≡ e .space .start
-  pub spaceSize : spaceLen t K i ≡ e .space .len
-
-pub record Stands (t K : List ℕ) (es : List Entry) (i : ℕ) : Type 0 where
-  pub entry : Entry
-  pub there : getElem? es i ≡ some entry
-  pub row : Row t K i entry
-
--- The words of an opening bracket say where it closes, and whether it has a Sep.
-abbrev pub linkNumber : Option ℕ → ℕ
-linkNumber none = 0
-linkNumber (some k) = suc k
-
-pub record Linked (K : List ℕ) (I : Input) (i : ℕ) : Type 0 where
-  pub close : afterClose K i ≡ linkNumber (closeOf (I .text) (I .es) i)
-  pub sep : sepOf K i ≡ bit (hasSep zero (drop (suc i) (I .es)))
-
--- The words are the input's.
-pub record Given (X t : List ℕ) (n : ℕ) (K : List ℕ) (I : Input) : Type 0 where
-  pub text : I .text ≡ X
-  pub size : length (I .es) ≡ n
-  pub stands : (i : ℕ) → i < n → Stands t K (I .es) i
-  pub linked : (i : ℕ) → i < n → kindOf t K i ≡ 20 → Linked K I i
-
--- The marks in the work words are these.
-pub record Marks (n : ℕ) (K : List ℕ) (m : List Bool) : Type 0 where
-  pub held : length m ≡ 3 * n
-  pub words : (i : ℕ) → i < n → marksOf K i ≡ marksWord (getD m (3 * i) false) (getD m (3 * i + 1) false) (getD m (3 * i + 2) false)
-
--- The words and the position stand where the definition does; takes are counted round 2^32.
-pub record At (X t : List ℕ) (n : ℕ) (K : List ℕ) (p u : ℕ) (I : Input) (s : State) : Type 0 where
-  pub given : Given X t n K I
-  pub marks : Marks n K (s .marks)
-  pub pos : p ≡ s .pos
-  pub takes : u % 2 ^ 32 ≡ s .takes % 2 ^ 32
-
--- The work words stand for some input and some marks.
-pub record Known (X t : List ℕ) (n : ℕ) (K : List ℕ) : Type 0 where
-  pub input : Input
-  pub marked : List Bool
-  pub given : Given X t n K input
-  pub marks : Marks n K marked
-
--- the readers at depth d
-abbrev pub readers : ℕ → Input → Readers
-readers d I = level (I .text) (I .es) true (256 - d)
+use Rattle.records.specs.Record.{Kept}
+use Rattle.reading_words.specs.Entry.{Safe}
+use Rattle.reading_words.specs.Meet.{Input, stopOf, At, Known, readers, lastAfter, isNone, Until, simpleAt, scriptFuncAt, intermediateAt, scriptAt, itemsFrom, termAt, headedAt, barsAt, bracketAt}
 
 -- What each call needs: slack words more than 32 for each token left.
 pub record Ready (slack n : ℕ) (X t K tree : List ℕ) (c : Cursor) (e : ℕ) : Type 0 where
@@ -114,80 +51,12 @@ Ending f x = f ≡ endsOperand x
 abbrev pub Scripting : Bool → Node → Type 0
 Scripting f x = (f ≡ endsOperand x) × (encodeItem x ≡ 0 ∷ encode x)
 
--- The last item of those, or the one before them.
-abbrev pub lastAfter : Option Node → Nodes → Option Node
-lastAfter b end = b
-lastAfter b (x ▸ l) = lastAfter (some x) l
-
-abbrev pub isNone : Option Node → Bool
-isNone none = true
-isNone (some x) = false
-
--- The bar that the items end at, by its entry u; none, if no entry is there.
-abbrev pub Until : ℕ → Input → ℕ → Option Entry → Type 0
-Until n I u none = n ≤ u
-Until n I u (some o) = (u < n) × (getElem? (I .es) u ≡ some o)
-
--- The definition's readers, with the code's arguments.
-abbrev pub simpleAt : ℕ → Bool → Bool → Input → M (Option Node)
-simpleAt d stop sg I = readers d I .simple (stopOf stop) sg
-
-abbrev pub scriptFuncAt : ℕ → Bool → Bool → Input → M (Option Node)
-scriptFuncAt d stop sg I = readers d I .scriptFunc (stopOf stop) sg
-
-abbrev pub intermediateAt : ℕ → Bool → Bool → Input → M (Option Node)
-intermediateAt d stop sg I = nextIntermediate (I .text) (I .es) true (readers d I) (stopOf stop) sg
-
-abbrev pub scriptAt : ℕ → Input → M Scripted
-scriptAt d I = nextScript (I .text) (I .es) true (readers d I)
-
-abbrev pub itemsAt : ℕ → ℕ → Option Entry → Bool → Option Node → Input → M Nodes
-itemsAt d f until stop before I = intermediates (I .text) (I .es) true (readers d I) f until (stopOf stop) before
-
--- The same for the code, which looks for the bar behind an item only: with f turns behind the first item, if none stands before.
-abbrev pub itemsFrom : ℕ → ℕ → Option Entry → Bool → Option Node → Input → M Nodes
-itemsFrom d f until stop none I =
-    intermediateAt d stop true I >>= λ a. elim a [
-      | none ↦ return end
-      | some x ↦ itemsAt d f until stop (some x) I >>= λ l. return (x ▸ l)
-    ]
-itemsFrom d f until stop (some b) I = itemsAt d (suc f) until stop (some b) I
-
--- next_script_func, behind the look for a head
-abbrev pub termAt : ℕ → Bool → Bool → Input → M (Option Node)
-termAt d stop sg I =
-    simpleAt d stop sg I >>= λ a. elim a [
-      | none ↦ return none
-      | some x ↦ scriptAt d I >>= λ q. return (some (node (Head.simple (q .0)) (x ▸ q .1)))
-    ]
-
-abbrev pub headedAt : ℕ → Bool → Input → Entry → M (Option Node)
-headedAt d stop I en =
-    if is token.Function en
-    then (scriptAt d I >>= λ q. readers d I .scriptFunc Stop.none true >>= λ a.
-    return (some (node (Head.func (en .span) (q .0)) (q .1 ⧺ (orMissingPart a ▸ end)))))
-    else readers d I .scriptFunc (stopOf stop) true >>= λ a.
-    return (some (one (Head.prefix Prefix.signed (en .span)) (orMissingPart a)))
-
+-- The definition's reading of two arguments.
 abbrev pub binaryAt : ℕ → Input → Entry → M (Option Node)
 binaryAt d I en =
     argument (I .text) (I .es) true (readers d I) >>= λ a.
     argument (I .text) (I .es) true (readers d I) >>= λ b.
     return (some (node (Head.prefix Prefix.binary (en .span)) (a ▸ b ▸ end)))
-
-abbrev pub barsAt : ℕ → Bool → ℕ → Input → Entry → M Node
-barsAt d stop i I o =
-    attempt (I .text) (I .es) true (openMark (stopOf stop)) i (barBody (I .text) (I .es) true (readers d I) o (stopOf stop)) >>= λ g.
-    return (orGlyph o g)
-
--- What an opening bracket begins, or else a bar.
-abbrev pub bracketAt : Bool → ℕ → Bool → ℕ → Input → Entry → M Node
-bracketAt true d stop i I o = nextBracket (I .text) (I .es) true (readers d I) o i
-bracketAt false d stop i I o = nextOpenCloseGroup (I .text) (I .es) true (readers d I) o i (stopOf stop)
-
--- the kinds of token that open a group
-abbrev pub opening : ℕ → Bool
-opening k = cond (eqb k 20) true (eqb k 22)
 
 abbrev pub prefixOf : ℕ → Prefix
 prefixOf k = cond (eqb k 9) Prefix.ssigned (cond (eqb k 10) Prefix.unary Prefix.sfunc)
@@ -287,7 +156,7 @@ module _ (X t : List ℕ) (n : ℕ) where
   Begun K L i stop sg c e x y g = Began K L 18 i (λ I en. begun (I .text) (I .es) true (readers (c .depth) I) (en .token) en i (stopOf stop) sg) (λ en a. wordsOf a) (λ en. With Ending (g .ends)) c e x y (g .cur) (g .end)
 
   abbrev pub OpenGroup : List ℕ → List ℕ → ℕ → Cursor → ℕ → List ℕ → List ℕ → Part → Type 0
-  OpenGroup K L i c e x y g = Began K L 6 i (λ I en. nextOpenGroup (I .text) (I .es) true (readers (c .depth) I) en) (λ en. encode) (λ en a. g .ends ≡ endsOperand a) c e x y (g .cur) (g .end)
+  OpenGroup K L i c e x y g = Began K L 6 i (λ I en. nextOpenGroup (I .text) (I .es) true (readers (c .depth) I) en i) (λ en. encode) (λ en a. g .ends ≡ endsOperand a) c e x y (g .cur) (g .end)
 
   abbrev pub Bracket : List ℕ → List ℕ → ℕ → ℕ → Bool → Cursor → ℕ → List ℕ → List ℕ → Part → Type 0
   Bracket K L i k stop c e x y g = Began K L 8 i (bracketAt (eqb k 20) (c .depth) stop i) (λ en. encode) (λ en a. g .ends ≡ endsOperand a) c e x y (g .cur) (g .end)

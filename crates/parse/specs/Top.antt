@@ -1,17 +1,17 @@
 -- The whole reading: closing brackets that nothing opened, noted in their own records, and what the call gives.
-use Prim.Native.Nat.{ℕ, _+_, _-_, _*_, _%_, _≤_, _<_, _^_}
+use Prim.Native.Nat.{ℕ, suc, _+_, _-_, _*_, _%_, _≤_, _<_, _^_}
 use mathlib.Core.Path.{_≡_}
 use mathlib.Core.List.{List, [], _∷_, _++_}
-use mathlib.Core.Bool.{true}
+use mathlib.Core.Bool.{Bool, true}
 use lib.ListN.{length, take, replicate}
-use Rattle.tree.specs.Tree.{count}
+use Rattle.tree.specs.Tree.{Nodes, end, count}
 use Rattle.tree.specs.Words.{encodeItems}
-use Rattle.reading.specs.Reading.{parseEntries}
+use Rattle.reading.specs.Reading.{State, parse}
 use Rattle.parse.specs.declared.top.Wrapped.{Wrapped}
 use Rattle.parse.specs.declared.top.Reading.{Reading}
-use Rattle.records.specs.Record.{afterClose, sepOf, marksOf, startOf, lenOf}
-use Rattle.parse.specs.Entry.{Safe, Placed}
-use Rattle.parse.specs.Meet.{Input, Given}
+use Rattle.records.specs.Record.{afterClose, sepOf, startOf, lenOf}
+use Rattle.reading_words.specs.Entry.{Safe, Placed}
+use Rattle.reading_words.specs.Meet.{Input, Given, Marks}
 
 -- A wrap: the entry of its closing bracket, and its items.
 pub record Wrap : Type 0 where
@@ -38,30 +38,38 @@ pub record Noted (n : ℕ) (t K : List ℕ) (wraps last : ℕ) : Type 0 where
   pub chain : Chained K n last list
   pub placed : (i : ℕ) → i < n → Placed t K i
 
--- What the reading needs: records of an input, no mark set, and room for any tree.
+-- The reading from these marks.
+abbrev pub readFrom : Input → List Bool → Nodes × State
+readFrom I m =
+    parse (I .text) (I .es) true (suc (length (I .es))) 256 end
+    (record { pos = 0; takes = 0; marks = m; closers = replicate (length (I .es)) (length (I .es)) })
+
+-- What the reading needs: records of an input, their marks, and room for any tree.
 pub record TopReady (n : ℕ) (X t K tree : List ℕ) : Type 0 where
   pub safe : Safe n X t K
   pub input : Input
   pub given : Given X t n K input
-  pub blank : (i : ℕ) → i < n → marksOf K i ≡ 0
+  pub marked : List Bool
+  pub marks : Marks n K marked
   pub room : 32 * (n + 1) ≤ length tree
 
 -- The items are the definition's, their wraps' headers aside.
-pub record Tops (X t : List ℕ) (L : List ℕ) (ws : List Wrap) (I : Input) (y : List ℕ) (g : Wrapped) : Type 0 where
-  pub words : encodeItems ((parseEntries (I .text) (I .es) true) .0) ≡ wrapsWords t L ws ++ take (g .end) y
-  pub number : g .count ≡ count ((parseEntries (I .text) (I .es) true) .0)
-  pub takes : g .cur .takes % 2 ^ 32 ≡ (parseEntries (I .text) (I .es) true) .1 .takes % 2 ^ 32
+pub record Tops (X t : List ℕ) (n : ℕ) (L : List ℕ) (ws : List Wrap) (I : Input) (m : List Bool) (y : List ℕ) (g : Wrapped) : Type 0 where
+  pub words : encodeItems ((readFrom I m) .0) ≡ wrapsWords t L ws ++ take (g .end) y
+  pub number : g .count ≡ count ((readFrom I m) .0)
+  pub takes : g .cur .takes % 2 ^ 32 ≡ (readFrom I m) .1 .takes % 2 ^ 32
+  pub marks : Marks n L ((readFrom I m) .1 .marks)
 
 pub record Topped (X t : List ℕ) (n : ℕ) (K L y : List ℕ) (g : Wrapped) : Type 0 where
   pub noted : Noted n t L (g .wraps) (g .last)
   -- "The 257th and later unmatched closers at top level are dropped."
   pub few : g .wraps ≤ 256
   pub fits : g .end + 13 * g .wraps ≤ length y
-  pub means : (I : Input) → Given X t n K I → Tops X t L (noted .list) I y g
+  pub means : (I : Input) → Given X t n K I → (m : List Bool) → Marks n K m → Tops X t n L (noted .list) I m y g
 
 -- The words of the definition's tree, zeros behind them, and its takes.
-pub record Reads (I : Input) (len : ℕ) (y : List ℕ) (r : Reading) : Type 0 where
-  pub end : r .end ≡ length (encodeItems ((parseEntries (I .text) (I .es) true) .0))
-  pub tree : y ≡ encodeItems ((parseEntries (I .text) (I .es) true) .0) ++ replicate (len - r .end) 0
-  pub items : r .items ≡ count ((parseEntries (I .text) (I .es) true) .0)
-  pub takes : r .takes ≡ (parseEntries (I .text) (I .es) true) .1 .takes
+pub record Reads (I : Input) (m : List Bool) (len : ℕ) (y : List ℕ) (r : Reading) : Type 0 where
+  pub end : r .end ≡ length (encodeItems ((readFrom I m) .0))
+  pub tree : y ≡ encodeItems ((readFrom I m) .0) ++ replicate (len - r .end) 0
+  pub items : r .items ≡ count ((readFrom I m) .0)
+  pub takes : r .takes ≡ (readFrom I m) .1 .takes % 2 ^ 32

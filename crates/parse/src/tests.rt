@@ -2,8 +2,6 @@
 use crate::cursor::Part;
 use crate::cursor::Scripted;
 use tokens::kinds::FUNCTION;
-use tokens::kinds::OPEN_BRACKET;
-use tokens::kinds::OPEN_CLOSE_BRACKET;
 use tokens::kinds::SIGN;
 use tokens::kinds::UNARY;
 use tree::kinds::NODE_FUNC;
@@ -14,19 +12,7 @@ use tree::kinds::NODE_SSIGNED;
 use tree::kinds::NODE_UNARY;
 ghost use mathlib.Core.Path.{_≡_};
 ghost use mathlib.Core.Bool.{false, cond};
-ghost use Rattle.parse.specs.Meet.{opening};
-ghost use Rattle.parse.specs.Choices.{prefixNumber, prefixStop};
-
-// A token of kind k opens a group: a bracket or a bar.
-pub(crate) fn opens(k: u32) -> bool
-    ensures { λ r. ⌜ r ≡ opening k ⌝ }
-{
-    if k == OPEN_BRACKET {
-        true
-    } else {
-        k == OPEN_CLOSE_BRACKET
-    }
-}
+ghost use Rattle.parse.specs.Choices.{prefixNumber};
 
 // One of two entries.
 pub(crate) fn choose(first: bool, i: usize, j: usize) -> usize
@@ -65,13 +51,6 @@ pub(crate) fn prefix_kind(k: u32, sign: bool) -> u32
         }
     }
     NODE_MISSING
-}
-
-// Whether that argument ends at a separator: a sign's does where the sign's own reader does.
-pub(crate) fn prefix_stop(k: u32, stop: bool) -> bool
-    ensures { λ r. ⌜ r ≡ prefixStop k stop ⌝ }
-{
-    if k == SIGN { stop } else { false }
 }
 
 // The script of that number whose last argument was read.

@@ -3,8 +3,10 @@ use crate::cursor::Cursor;
 use crate::readers::extend;
 use crate::write::put1;
 use crate::write::put6;
+use brackets::has_attempts;
 use buffer::clear_from;
 use buffer::shift;
+use closers_pass::top::pair_entries;
 use fields::after_close;
 use fields::sep_of;
 use lookahead::tests::is_at;
@@ -16,14 +18,16 @@ use tokens::kinds::CLOSE_BRACKET;
 use tree::kinds::NODE_GROUP;
 use tree::kinds::NODE_SIMPLE;
 ghost use mathlib.Core.Path.{_≡_};
-ghost use mathlib.Core.List.{_++_};
+ghost use mathlib.Core.List.{List, _++_};
+ghost use mathlib.Core.Bool.{Bool, false};
 ghost use Prim.Native.Nat.{_+_, _*_, _≤_};
 ghost use lib.ListN.{length, take, replicate};
 ghost use lib.Seq.{sets};
 ghost use Rattle.records.specs.Record.{sepOf, startOf, lenOf, withClose, withSep};
-ghost use Rattle.parse.specs.Entry.{Placed};
-ghost use Rattle.parse.specs.Meet.{Input, Given};
+ghost use Rattle.closers_pass.specs.Top.{Blank};
 ghost use Rattle.parse.specs.Top.{Noted, wrapWords, wrapsWords, TopReady, Topped, Reads};
+ghost use Rattle.reading_words.specs.Entry.{Placed};
+ghost use Rattle.reading_words.specs.Meet.{Input, Given, Marks};
 
 pub(crate) struct Reading {
     pub takes: u64,
@@ -155,16 +159,10 @@ fn wrap_items(
     put_wraps(tok, work, n, tree, wraps, last);
 }
 
-// The whole reading of the entries: its tree's words, zeros behind them, and the work words all zero.
-pub(crate) fn parse_entries(
-    text: &[u8],
-    tok: &[u32],
-    n: usize,
-    work: &mut [u32],
-    tree: &mut [u32],
-) -> Reading
+// The second part: the tree's words, read from the marks in the records, zeros behind them, and the work words all zero.
+fn build_tree(text: &[u8], tok: &[u32], n: usize, work: &mut [u32], tree: &mut [u32]) -> Reading
     requires { ⌜ TopReady n (now text) (now tok) (now work) (now tree) ⌝ }
-    ensures { λ r. ⌜ ((I : Input) → Given (now (text .entry)) (now (tok .entry)) n (now (work .entry)) I → Reads I (length (now (tree .entry))) (now (tree .exit)) r) ⌝ }
+    ensures { λ r. ⌜ ((I : Input) → Given (now (text .entry)) (now (tok .entry)) n (now (work .entry)) I → (m : List Bool) → Marks n (now (work .entry)) m → Reads I m (length (now (tree .entry))) (now (tree .exit)) r) ⌝ }
     ensures { λ r. ⌜ now (work .exit) ≡ replicate (length (now (work .entry))) 0 ⌝ }
 {
     let run = read_items(text, tok, n, work, tree);
@@ -177,5 +175,31 @@ pub(crate) fn parse_entries(
         takes: cur.takes as u64,
         end: end,
         items: run.count,
+    }
+}
+
+// The whole reading of the entries: the bracket pass, which decides every attempt, and the second part from its marks. With no attempt
+// to make there is nothing to decide, and the second part counts the takes.
+pub(crate) fn parse_entries(
+    text: &[u8],
+    tok: &[u32],
+    n: usize,
+    work: &mut [u32],
+    tree: &mut [u32],
+) -> Reading
+    requires { ⌜ TopReady n (now text) (now tok) (now work) (now tree) ⌝ }
+    requires { ⌜ Blank n (now work) ⌝ }
+    ensures { λ r. ⌜ ((I : Input) → Given (now (text .entry)) (now (tok .entry)) n (now (work .entry)) I → Reads I (replicate (3 * n) false) (length (now (tree .entry))) (now (tree .exit)) r) ⌝ }
+    ensures { λ r. ⌜ now (work .exit) ≡ replicate (length (now (work .entry))) 0 ⌝ }
+{
+    if !has_attempts(text, tok, work, n) {
+        return build_tree(text, tok, n, work, tree);
+    }
+    let takes = pair_entries(text, tok, n, work);
+    let r = build_tree(text, tok, n, work, tree);
+    Reading {
+        takes: takes as u64,
+        end: r.end,
+        items: r.items,
     }
 }

@@ -7,13 +7,12 @@ use native.Mathlib.Omega.{arith}
 use lib.ListN.{length, drop, replicate}
 use Rattle.lexing.specs.Rules.{tokens}
 use Rattle.tokens.specs.Table.{tableWords}
-use Rattle.tokens.specs.Refusals.{Answer, accepted, refused, entryWords}
-use Rattle.tokens.proofs.Cases.{by-lt, by-option}
+use Rattle.tokens.specs.Refusals.{Answer, accepted, refused, entryWords, bit}
+use Rattle.tokens.proofs.Cases.{by-lt, by-option, apart}
 use Rattle.tree.specs.Tree.{count}
 use Rattle.tree.specs.Words.{encodeItems}
 use Rattle.reading.specs.Reading.{readText, blank}
 use Rattle.bounds.proofs.Theorems.{bounds}
-use Rattle.parse.specs.Entry.{bit}
 use Rattle.parse.specs.Call as read
 use Rattle.parse.specs.Call.{parseRefusal, parsedText, workAfter, treeAfter}
 use Rattle.parse.proofs.Calls.{text-when-refused, text-read}
@@ -28,10 +27,6 @@ Left = Answer × List ℕ × List ℕ × List ℕ
 
 abbrev pub LeftAll : Type 0
 LeftAll = Answer × List ℕ × List ℕ × List ℕ × List ℕ
-
--- two answers that are not one
-pub apart : {A : Type 0} → _≡_ {A = ℕ} 0 1 → A
-apart z = absurd (omega arith)
 
 module _ (text table work tree out : List ℕ) where
   -- What the reading answers and leaves.

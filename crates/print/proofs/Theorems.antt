@@ -5,18 +5,17 @@ use mathlib.Core.Path.{_≡_, sym, ap, _∙_}
 use mathlib.Core.List.{List, [], _∷_, _++_}
 use lib.ListN.{length, drop}
 use Rattle.lexing.specs.Rules.{tokens}
-use Rattle.tokens.specs.Refusals.{accepted, refused, entryWords}
-use Rattle.tokens.proofs.Cases.{by-lt, by-option}
+use Rattle.tokens.specs.Refusals.{accepted, refused, entryWords, bit}
+use Rattle.tokens.proofs.Cases.{by-lt, by-option, apart}
 use Rattle.tree.specs.Tree.{count}
 use Rattle.reading.specs.Reading.{readText, blank}
-use Rattle.parse.specs.Entry.{bit}
 use Rattle.parse.specs.Call as read
 use Rattle.parse.specs.Call.{parseRefusal, treeAfter}
 use Rattle.parse.specs.Answers.{Answered}
 use Rattle.parse.proofs.Calls.{text-read}
 use Rattle.parse.proofs.Theorems.{text-answered}
 use Rattle.print.specs.Call.{printOf, values, printedText}
-use Rattle.print.proofs.Calls.{LeftAll, apart, refused-so, short-so, whole-so}
+use Rattle.print.proofs.Calls.{LeftAll, refused-so, short-so, whole-so}
 
 pub print-answered : (text table work tree out : List ℕ) (len takes blankness : ℕ) (tableLeft workLeft treeLeft outLeft : List ℕ)
     → printedText text table work tree out ≡ (accepted (len ∷ takes ∷ blankness ∷ []), tableLeft, workLeft, treeLeft, outLeft)

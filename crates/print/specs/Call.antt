@@ -3,9 +3,8 @@ use mathlib.Core.List.{List, [], _∷_}
 use Prim.Native.Nat.{ℕ}
 use lib.ListN.{length}
 use Rattle.lexing.specs.Rules.{tokens}
-use Rattle.tokens.specs.Refusals.{Answer, accepted, refused, entryWords}
+use Rattle.tokens.specs.Refusals.{Answer, accepted, refused, entryWords, bit}
 use Rattle.reading.specs.Reading.{readText, blank}
-use Rattle.parse.specs.Entry.{bit}
 use Rattle.parse.specs.Call.{parsedTextBy}
 use Rattle.line.specs.Print.{printed}
 use Rattle.printer.specs.Call.{fitted}

@@ -14,7 +14,7 @@ use Rattle.lexing.specs.Rules as rules
 use Rattle.lexing.specs.Rules.{tokens}
 use Rattle.tree.specs.Tree.{nowhere, Script, Head, Atom, Prefix, Node, node, Nodes, end, _▸_, leaf, one}
 use Rattle.reading.specs.Entries.{is, entries, closeAfter, hasSep}
-use Rattle.reading.specs.Reading.{Reading, unscripted, readText, stops, any, marksScript, heads, begins, slot, return, _>>=_, if_then_else_, here, prefixes, textOf, isByte, sameText, isAt, closeOf, isBar, closes, couldBeMatrix, advance, failed, giveUp, attempt, isBarSymbol, isUnscripted, isColumnLine, lineCells, bothLines, lineCols, keptCols, columnLines, keepCells, joinRows, rowBrackets, alike, splitColumnLines, argument, nextScript, nextScriptFunc, nextIntermediate, spaced, atOpenClose, intermediates, rowCells, nextMatrixRow, moreRows, nextMatrixRows, makesMatrix, matrixBody, tryMatrix, nextOpenGroup, barBody, nextOpenCloseGroup, nextBracket, begun, nextSimple, step, level, lastOf, parse, parseEntries, readingBy, endsOperand, atomEnds, look}
+use Rattle.reading.specs.Reading.{Reading, unscripted, readText, stops, any, marksScript, heads, begins, slot, return, _>>=_, if_then_else_, here, current, closed, prefixes, textOf, isByte, sameText, isAt, closeOf, isBar, closes, couldBeMatrix, advance, failed, giveUp, attempt, isBarSymbol, isUnscripted, isColumnLine, lineCells, bothLines, lineCols, keptCols, columnLines, keepCells, joinRows, rowBrackets, alike, splitColumnLines, argument, nextScript, nextScriptFunc, nextIntermediate, spaced, atOpenClose, intermediates, rowCells, nextMatrixRow, moreRows, nextMatrixRows, makesMatrix, matrixBody, tryMatrix, nextOpenGroup, barBody, nextOpenCloseGroup, nextBracket, begun, nextSimple, step, level, lastOf, parse, parseEntries, readingBy, endsOperand, atomEnds, look}
 
 -- What a text's reading is: its tokens, and its tree and takes.
 pub record Whole : Type 0 where
@@ -162,7 +162,7 @@ unfoldable pub said : Case → Whole
 said c = record { list = c .list; reading = record { tree = c .tree; takes = c .takes } }
 
 pub starred-strings : map read starred ≡ map said starred
-unfolding read said starred rows longest.begins longest.longestOf longest.longestAt rules.run rules.runEnd rules.blank rules.digit rules.letter rules.other rules.blanksAt rules.closer rules.literalAt rules.commandAt same rules.isTextCommand rules.spellingAt rules.numberEnd rules.pastPoint rules.numberAt rules.quotationAt rules.byteAt rules.readAt rules.tokensFrom rules.tokensBy is stops any marksScript heads begins entries closeAfter hasSep slot return _>>=_ if_then_else_ here prefixes textOf isByte sameText isAt closeOf isBar closes couldBeMatrix advance failed giveUp attempt isBarSymbol isUnscripted isColumnLine lineCells bothLines lineCols keptCols columnLines keepCells joinRows rowBrackets alike splitColumnLines argument nextScript nextScriptFunc nextIntermediate spaced atOpenClose intermediates rowCells nextMatrixRow moreRows nextMatrixRows makesMatrix matrixBody tryMatrix nextOpenGroup barBody nextOpenCloseGroup nextBracket begun nextSimple step level lastOf parse parseEntries readingBy endsOperand atomEnds look
+unfolding read said starred rows longest.begins longest.longestOf longest.longestAt rules.run rules.runEnd rules.blank rules.digit rules.letter rules.other rules.blanksAt rules.closer rules.literalAt rules.commandAt same rules.isTextCommand rules.spellingAt rules.numberEnd rules.pastPoint rules.numberAt rules.quotationAt rules.byteAt rules.readAt rules.tokensFrom rules.tokensBy is stops any marksScript heads begins entries closeAfter hasSep slot return _>>=_ if_then_else_ here current closed prefixes textOf isByte sameText isAt closeOf isBar closes couldBeMatrix advance failed giveUp attempt isBarSymbol isUnscripted isColumnLine lineCells bothLines lineCols keptCols columnLines keepCells joinRows rowBrackets alike splitColumnLines argument nextScript nextScriptFunc nextIntermediate spaced atOpenClose intermediates rowCells nextMatrixRow moreRows nextMatrixRows makesMatrix matrixBody tryMatrix nextOpenGroup barBody nextOpenCloseGroup nextBracket begun nextSimple step level lastOf parse parseEntries readingBy endsOperand atomEnds look
 starred-strings = refl
 
 -- Of document 01's 'Misreadings' those that the starred strings do not show.
@@ -198,5 +198,5 @@ misread =
     []
 
 pub misreadings : map read misread ≡ map said misread
-unfolding read said misread rows longest.begins longest.longestOf longest.longestAt rules.run rules.runEnd rules.blank rules.digit rules.letter rules.other rules.blanksAt rules.closer rules.literalAt rules.commandAt same rules.isTextCommand rules.spellingAt rules.numberEnd rules.pastPoint rules.numberAt rules.quotationAt rules.byteAt rules.readAt rules.tokensFrom rules.tokensBy is stops any marksScript heads begins entries closeAfter hasSep slot return _>>=_ if_then_else_ here prefixes textOf isByte sameText isAt closeOf isBar closes couldBeMatrix advance failed giveUp attempt isBarSymbol isUnscripted isColumnLine lineCells bothLines lineCols keptCols columnLines keepCells joinRows rowBrackets alike splitColumnLines argument nextScript nextScriptFunc nextIntermediate spaced atOpenClose intermediates rowCells nextMatrixRow moreRows nextMatrixRows makesMatrix matrixBody tryMatrix nextOpenGroup barBody nextOpenCloseGroup nextBracket begun nextSimple step level lastOf parse parseEntries readingBy endsOperand atomEnds look
+unfolding read said misread rows longest.begins longest.longestOf longest.longestAt rules.run rules.runEnd rules.blank rules.digit rules.letter rules.other rules.blanksAt rules.closer rules.literalAt rules.commandAt same rules.isTextCommand rules.spellingAt rules.numberEnd rules.pastPoint rules.numberAt rules.quotationAt rules.byteAt rules.readAt rules.tokensFrom rules.tokensBy is stops any marksScript heads begins entries closeAfter hasSep slot return _>>=_ if_then_else_ here current closed prefixes textOf isByte sameText isAt closeOf isBar closes couldBeMatrix advance failed giveUp attempt isBarSymbol isUnscripted isColumnLine lineCells bothLines lineCols keptCols columnLines keepCells joinRows rowBrackets alike splitColumnLines argument nextScript nextScriptFunc nextIntermediate spaced atOpenClose intermediates rowCells nextMatrixRow moreRows nextMatrixRows makesMatrix matrixBody tryMatrix nextOpenGroup barBody nextOpenCloseGroup nextBracket begun nextSimple step level lastOf parse parseEntries readingBy endsOperand atomEnds look
 misreadings = refl

@@ -1,5 +1,5 @@
 -- The reading of a token list: parse.rs function by function, with its takes counted. Document 01, src/parse.rs.
-use Prim.Native.Nat.{ℕ, zero, suc, _+_, _*_}
+use Prim.Native.Nat.{ℕ, zero, suc, _+_, _-_, _*_}
 use mathlib.Core.List.{List, [], _∷_}
 use mathlib.Core.Option.{Option, none, some}
 use mathlib.Core.Bool.{Bool, true, false, not, _&&_, _||_}
@@ -34,12 +34,13 @@ heads prefixSign e = is token.Function e || (prefixSign && is token.Sign e)
 unfoldable pub begins : Stop → Entry → Bool
 begins stop e = not (stops stop e || is token.CloseBracket e || is token.Space e)
 
--- Where the reading is, the takes so far, and what has failed: three marks for each entry, failed_opens for each of the two
--- stops and failed_matrices.
+-- Where the reading is, the takes so far, what has failed: three marks for each entry, failed_opens for each of the two
+-- stops and failed_matrices; and for each entry the place of its closer, or the number of entries if it has none.
 pub record State : Type 0 where
   pub pos : ℕ
   pub takes : ℕ
   pub marks : List Bool
+  pub closers : List ℕ
 
 -- a mark of failed_opens, by the stop, or of failed_matrices
 pub data Mark : Type 0 where
@@ -71,6 +72,15 @@ if false then m else n = n
 -- the position
 unfoldable pub here : M ℕ
 here s = (s .pos, s)
+
+-- the state
+unfoldable pub current : M State
+current s = (s, s)
+
+-- "A token's closer is the token that ends the group, matrix or matrix row it opens": the answer a, the token just taken being
+-- the closer of the entry i.
+unfoldable pub closed : {A : Type 0} → ℕ → A → M A
+closed i a s = (a, record { pos = s .pos; takes = s .takes; marks = s .marks; closers = set (s .closers) i (s .pos - 1) })
 
 -- What an attempt comes to: a node; a failure, which is remembered; or nothing was there to attempt.
 pub data Try : Type 0 where
@@ -283,8 +293,8 @@ module _ (text : List ℕ) (es : List Entry) where
       elim (entryAt (s .pos)) [
         | none ↦ (none, s)
         | some e ↦ elim (ok e) [
-          | true ↦ (some e, record { pos = suc (s .pos); takes = suc (s .takes); marks = s .marks })
-          | false ↦ (none, record { pos = s .pos; takes = suc (s .takes); marks = s .marks })
+          | true ↦ (some e, record { pos = suc (s .pos); takes = suc (s .takes); marks = s .marks; closers = s .closers })
+          | false ↦ (none, record { pos = s .pos; takes = suc (s .takes); marks = s .marks; closers = s .closers })
         ]
       ]
 
@@ -368,22 +378,22 @@ module _ (text : List ℕ) (es : List Entry) where
 
   -- With `remember` false, every mark of failed_opens and failed_matrices is read as unset: the reading without memory.
   module _ (remember : Bool) where
-    -- An attempt behind the bracket at i: made only if it has not failed before; one that fails is marked and given back. This is
-    -- the only use of the marks.
+    -- An attempt behind the bracket at i: made only if it has not failed before; one that fails is marked and given back, to where
+    -- the reading was and the closers that it had. This is the only use of the marks.
     unfoldable pub failed : Mark → ℕ → M Bool
     failed m i s = (remember && getD (s .marks) (slot m i) false, s)
 
-    unfoldable pub giveUp : Mark → ℕ → ℕ → M (Option Node)
-    giveUp m i p s = (none, record { pos = p; takes = s .takes; marks = set (s .marks) (slot m i) true })
+    unfoldable pub giveUp : Mark → ℕ → State → M (Option Node)
+    giveUp m i o s = (none, record { pos = o .pos; takes = s .takes; marks = set (s .marks) (slot m i) true; closers = o .closers })
 
     unfoldable pub attempt : Mark → ℕ → M Try → M (Option Node)
     attempt m i body =
-        here >>= λ p.
+        current >>= λ o.
         failed m i >>= λ known.
         if known then return none
         else body >>= λ t. elim t [
           | made x ↦ return (some x)
-          | lost ↦ giveUp m i p
+          | lost ↦ giveUp m i o
           | nought ↦ return none
         ]
 
@@ -469,13 +479,13 @@ module _ (text : List ℕ) (es : List Entry) where
       -- next_matrix_row; a token that opens no row is taken too
       unfoldable pub nextMatrixRow : M (Option Row)
       nextMatrixRow =
-          advance any >>= λ t. elim t [
+          here >>= λ i. advance any >>= λ t. elim t [
             | none ↦ return none
             | some o ↦
                 if is token.OpenBracket o
                 then (rowCells fuel >>= λ q. elim q [
                   | none ↦ return none
-                  | some m ↦ return (some (record { left = o; right = m .1; cells = m .0 }))
+                  | some m ↦ closed i (some (record { left = o; right = m .1; cells = m .0 }))
                 ])
                 else return none
           ]
@@ -523,7 +533,7 @@ module _ (text : List ℕ) (es : List Entry) where
                 if makesMatrix o i r p
                 then (advance any >>= λ t. elim t [
                   | none ↦ return lost
-                  | some c ↦ return (made ((splitColumnLines r) .0 (o .span) (c .span)))
+                  | some c ↦ closed i (made ((splitColumnLines r) .0 (o .span) (c .span)))
                 ])
                 else return lost
           ]
@@ -532,17 +542,17 @@ module _ (text : List ℕ) (es : List Entry) where
       tryMatrix o i = if couldBeMatrix o i then attempt matrixMark i (matrixBody o i) else return none
 
       -- next_open_group
-      unfoldable pub nextOpenGroup : Entry → M Node
-      nextOpenGroup o =
+      unfoldable pub nextOpenGroup : Entry → ℕ → M Node
+      nextOpenGroup o i =
           nextExpression Stop.none >>= λ l.
           advance (is token.CloseBracket) >>= λ t. elim t [
             | none ↦ return (node (Head.group (o .span) nowhere) l)
-            | some c ↦ return (node (Head.group (o .span) (c .span)) l)
+            | some c ↦ closed i (node (Head.group (o .span) (c .span)) l)
           ]
 
       -- next_open_close_group: the group that the bar o opens, if such a bar closes it
-      unfoldable pub barBody : Entry → Stop → M Try
-      barBody o stop =
+      unfoldable pub barBody : Entry → ℕ → Stop → M Try
+      barBody o i stop =
           nextIntermediate stop true >>= λ a. elim a [
             | none ↦ return nought
             | some x ↦
@@ -551,7 +561,7 @@ module _ (text : List ℕ) (es : List Entry) where
                 if isAt (isBar o) p
                 then (advance any >>= λ t. elim t [
                   | none ↦ return lost
-                  | some c ↦ return (made (node (Head.group (o .span) (c .span)) (x ▸ l)))
+                  | some c ↦ closed i (made (node (Head.group (o .span) (c .span)) (x ▸ l)))
                 ])
                 else return lost
           ]
@@ -560,7 +570,7 @@ module _ (text : List ℕ) (es : List Entry) where
       nextOpenCloseGroup o i stop =
           tryMatrix o i >>= λ m. elim m [
             | some x ↦ return x
-            | none ↦ attempt (openMark stop) i (barBody o stop) >>= λ g. return (orGlyph o g)
+            | none ↦ attempt (openMark stop) i (barBody o i stop) >>= λ g. return (orGlyph o g)
           ]
 
       -- the matrix or the group that the OpenBracket o at i opens
@@ -568,7 +578,7 @@ module _ (text : List ℕ) (es : List Entry) where
       nextBracket o i =
           tryMatrix o i >>= λ m. elim m [
             | some x ↦ return x
-            | none ↦ nextOpenGroup o
+            | none ↦ nextOpenGroup o i
           ]
 
       -- next_simple: what the token e, just taken at i, begins
@@ -626,11 +636,12 @@ module _ (text : List ℕ) (es : List Entry) where
           ]
         ]
 
-    -- Parser::new(..).parse(): from the first entry, with no take and no mark
+    -- Parser::new(..).parse(): from the first entry, with no take, no mark and no closer
+    abbrev pub start : State
+    start = record { pos = zero; takes = zero; marks = replicate (3 * length es) false; closers = replicate (length es) (length es) }
+
     unfoldable pub parseEntries : Nodes × State
-    parseEntries =
-        parse (suc (length es)) 256 end
-        (record { pos = zero; takes = zero; marks = replicate (3 * length es) false })
+    parseEntries = parse (suc (length es)) 256 end start
 
 -- What a reading gives.
 pub record Reading : Type 0 where
@@ -646,6 +657,10 @@ readingBy remember text ts =
 -- list."
 abbrev pub readTokens : List ℕ → List Lexeme → Reading
 readTokens text ts = readingBy true text ts
+
+-- "for each token other than Space the place of its closer, counted from 0 among those tokens, or n for none"
+unfoldable pub closersOf : List ℕ → List Lexeme → List ℕ
+closersOf text ts = parseEntries text (entries nowhere ts) true .1 .closers
 
 abbrev pub readText : List ℕ → Reading
 readText text = readTokens text (tokens text)

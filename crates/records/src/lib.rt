@@ -1,6 +1,6 @@
 // The record of an entry, a token other than Space, in the work words: docs/LAYOUT.md. Its token, the Space before it, and the halves of
 // its words.
-pub mod half;
+pub mod bits;
 pub mod record;
 pub mod space;
 

@@ -1,7 +1,7 @@
 // The token of an entry, by its place in the record.
 use crate::RECORD_WORDS;
-use crate::half::Half;
-use crate::half::half_of;
+use crate::bits::Bits;
+use crate::bits::bits_of;
 use tokens::kinds::SPACE;
 ghost use mathlib.Core.Bool.{cond};
 ghost use mathlib.Core.Path.{_≡_};
@@ -15,7 +15,7 @@ pub(crate) fn place_at(work: &[u32], i: usize) -> usize
     ensures { λ r. ⌜ r ≡ placeOf (now (work .entry)) i ⌝ }
     ensures { λ r. ⌜ InHalf r ⌝ }
 {
-    half_of(Half::Low, work[RECORD_WORDS * i]) as usize
+    bits_of(Bits::Low, work[RECORD_WORDS * i]) as usize
 }
 
 // The word k of the entry's token, or `none` if the entry is not placed.

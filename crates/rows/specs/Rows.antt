@@ -2,6 +2,7 @@
 use Prim.Native.Nat.{ℕ}
 use mathlib.Core.List.{List}
 use mathlib.Core.Bool.{Bool, false, cond}
+use lib.Dec.{eqb}
 use Rattle.spans.specs.Spans.{sameAt, byteAt}
 
 -- "Matrix rows are `(` `)` or `[` `]` by their text, so `left(` opens no row."
@@ -12,3 +13,8 @@ rowsAt X t K l r =
 -- the brackets of a row like the first: "the row loop is left at the first row that differs from the first"
 unfoldable pub likeAt : List ℕ → List ℕ → List ℕ → ℕ → ℕ → ℕ → ℕ → Bool
 likeAt X t K l r l′ r′ = cond (sameAt X t K l l′) (sameAt X t K r r′) false
+
+-- "One cell left after that is no matrix": a number of cells that is above 1 exactly if the rows are all read and the matrix's is. With
+-- one row those that are no lines are left, or, if all are lines, all.
+abbrev pub cellsLeft : Bool → Bool → ℕ → ℕ → ℕ
+cellsLeft done more cols kept = cond done (cond more 2 (cond (eqb kept 0) cols kept)) 0

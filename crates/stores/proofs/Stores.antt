@@ -1,5 +1,5 @@
 -- What a store into a record leaves: the laws of the record, so that no proof above looks into its words.
-use Prim.Native.Nat.{ℕ, _+_, _*_, _≤_, _<_}
+use Prim.Native.Nat.{ℕ, _+_, _*_, _%_, _≤_, _<_}
 use mathlib.Core.Path.{_≡_, refl, ap, _∙_}
 use mathlib.Core.Bool.{Bool, true, false, cond}
 use mathlib.Core.List.{List}
@@ -8,14 +8,14 @@ use native.Mathlib.Decide.{ℕ-discrete}
 use lib.ListN.{length, getD, set, length-set}
 use lib.Seq.{getD-set-same, getD-set-other}
 use borrow.Author.Tests.{lt-ltb, le-ltb, ltb-true}
-use Rattle.records.specs.declared.half.Half.{Half}
-use Rattle.records.specs.declared.half.Half.the-variants.{Low, High}
-use Rattle.records.specs.Record.{recordWords, InHalf, halfOf, withHalf, field, placeOf, afterClose, sepOf, marksOf, Whole, isWhole, withRecord, withField, withClose, withSep, withMarks}
-use Rattle.records.proofs.Halves.{Same, same-words}
+use Rattle.records.specs.declared.bits.Bits.{Bits}
+use Rattle.records.specs.declared.bits.Bits.the-variants.{Low, High, Marks, Closer}
+use Rattle.records.specs.Record.{recordWords, closerSize, InHalf, InMarks, InCloser, bitsOf, withBits, field, placeOf, afterClose, sepOf, marksOf, closerOf, Whole, isWhole, withRecord, withField, withClose, withSep, withMarks, withCloser, Kept}
+use Rattle.records.proofs.Same.{Same, same-words}
 
 -- A new record.
 module _ (K : List ℕ) (i place : ℕ) where
-  pub record-whole : Whole K i → withRecord K i place ≡ set (set K (2 * i) (halfOf Low place)) (2 * i + 1) 0
+  pub record-whole : Whole K i → withRecord K i place ≡ set (set K (2 * i) (bitsOf Low place)) (2 * i + 1) 0
   unfolding withRecord
   record-whole h = rw (lt-ltb _ _ h)
 
@@ -27,7 +27,7 @@ module _ (K : List ℕ) (i place : ℕ) where
   unfolding withRecord
   record-length = go (isWhole K i)
     where
-      go : (b : Bool) → length (cond b (set (set K (2 * i) (halfOf Low place)) (2 * i + 1) 0) K) ≡ length K
+      go : (b : Bool) → length (cond b (set (set K (2 * i) (bitsOf Low place)) (2 * i + 1) 0) K) ≡ length K
       go true = simp length-set
       go false = refl
 
@@ -35,8 +35,8 @@ module _ (K : List ℕ) (i place : ℕ) where
   unfolding withRecord
   elsewhere y a b = go (isWhole K i)
     where
-      go : (c : Bool) → getD (cond c (set (set K (2 * i) (halfOf Low place)) (2 * i + 1) 0) K) y 0 ≡ getD K y 0
-      go true = getD-set-other (set K (2 * i) (halfOf Low place)) (2 * i + 1) y 0 0 b ∙ getD-set-other K (2 * i) y (halfOf Low place) 0 a
+      go : (c : Bool) → getD (cond c (set (set K (2 * i) (bitsOf Low place)) (2 * i + 1) 0) K) y 0 ≡ getD K y 0
+      go true = getD-set-other (set K (2 * i) (bitsOf Low place)) (2 * i + 1) y 0 0 b ∙ getD-set-other K (2 * i) y (bitsOf Low place) 0 a
       go false = refl
 
   pub record-other : (j : ℕ) → (j ≡ i → ⊥) → Same (withRecord K i place) j K j
@@ -47,14 +47,14 @@ module _ (K : List ℕ) (i place : ℕ) where
   record-beyond x h = elsewhere x (λ z. omega arith) (λ z. omega arith)
 
   module _ (h : Whole K i) where
-    first : getD (withRecord K i place) (2 * i + 0) 0 ≡ halfOf Low place
+    first : getD (withRecord K i place) (2 * i + 0) 0 ≡ bitsOf Low place
     first =
         let z : 2 * i + 0 ≡ 2 * i = omega arith in
         rw (z, record-whole h)
-        (getD-set-other (set K (2 * i) (halfOf Low place)) (2 * i + 1) (2 * i) 0 0 (λ z. omega arith) ∙ getD-set-same K (2 * i) (halfOf Low place) 0 (omega arith))
+        (getD-set-other (set K (2 * i) (bitsOf Low place)) (2 * i + 1) (2 * i) 0 0 (λ z. omega arith) ∙ getD-set-same K (2 * i) (bitsOf Low place) 0 (omega arith))
 
     second : getD (withRecord K i place) (2 * i + 1) 0 ≡ 0
-    second = rw (record-whole h) (getD-set-same (set K (2 * i) (halfOf Low place)) (2 * i + 1) 0 0 (simp length-set h))
+    second = rw (record-whole h) (getD-set-same (set K (2 * i) (bitsOf Low place)) (2 * i + 1) 0 0 (simp length-set h))
 
     pub record-place : InHalf place → placeOf (withRecord K i place) i ≡ place
     unfolding placeOf
@@ -72,24 +72,57 @@ module _ (K : List ℕ) (i place : ℕ) where
     unfolding marksOf
     record-marks = omega (arith, second)
 
--- A field: the half h of the word k.
-abbrev other : Half → Half
-other Low = High
-other High = Low
+    pub record-closer : closerOf (withRecord K i place) i ≡ 0
+    unfolding closerOf
+    record-closer = omega (arith, second)
 
-half-same : (h : Half) (w v : ℕ) → InHalf v → halfOf h (withHalf h w v) ≡ v
-half-same Low w v l = omega arith
-half-same High w v l = omega arith
+-- A field: the bits h of the word k. The number fits in them.
+abbrev Fits : Bits → ℕ → Type 0
+Fits Low v = InHalf v
+Fits High v = InHalf v
+Fits Marks v = InMarks v
+Fits Closer v = InCloser v
 
-half-kept : (h : Half) (w v : ℕ) → halfOf (other h) (withHalf h w v) ≡ halfOf (other h) w
-half-kept Low w v = omega arith
-half-kept High w v = omega arith
+bits-same : (h : Bits) (w v : ℕ) → Fits h v → bitsOf h (withBits h w v) ≡ v
+bits-same Low w v l = omega arith
+bits-same High w v l = omega arith
+bits-same Marks w v l = omega arith
+bits-same Closer w v l = omega arith
 
-module _ (k : ℕ) (h : Half) (K : List ℕ) (i v : ℕ) where
+-- bits that stand beside one another
+abbrev Beside : Bits → Bits → Type 0
+Beside Low High = Unit
+Beside Low Marks = Unit
+Beside Low Closer = Unit
+Beside High Low = Unit
+Beside Marks Low = Unit
+Beside Marks Closer = Unit
+Beside Closer Low = Unit
+Beside Closer Marks = Unit
+Beside Low Low = ⊥
+Beside High High = ⊥
+Beside High Marks = ⊥
+Beside High Closer = ⊥
+Beside Marks High = ⊥
+Beside Marks Marks = ⊥
+Beside Closer High = ⊥
+Beside Closer Closer = ⊥
+
+bits-kept : (h g : Bits) (w v : ℕ) → Beside h g → bitsOf g (withBits h w v) ≡ bitsOf g w
+bits-kept Low High w v b = omega arith
+bits-kept Low Marks w v b = omega arith
+bits-kept Low Closer w v b = omega arith
+bits-kept High Low w v b = omega arith
+bits-kept Marks Low w v b = omega arith
+bits-kept Marks Closer w v b = omega arith
+bits-kept Closer Low w v b = omega arith
+bits-kept Closer Marks w v b = omega arith
+
+module _ (k : ℕ) (h : Bits) (K : List ℕ) (i v : ℕ) where
   abbrev new : ℕ
-  new = withHalf h (getD K (2 * i + k) 0) v
+  new = withBits h (getD K (2 * i + k) 0) v
 
-  pub field-whole : Whole K i → withField k h K i v ≡ set K (2 * i + k) (withHalf h (getD K (2 * i + k) 0) v)
+  pub field-whole : Whole K i → withField k h K i v ≡ set K (2 * i + k) (withBits h (getD K (2 * i + k) 0) v)
   unfolding withField
   field-whole l = rw (lt-ltb _ _ l)
 
@@ -115,26 +148,26 @@ module _ (k : ℕ) (h : Half) (K : List ℕ) (i v : ℕ) where
       go false = refl
 
   -- a field in another word
-  field-other : (m : ℕ) (g : Half) (j : ℕ) → (2 * j + m ≡ 2 * i + k → ⊥) → field m g (withField k h K i v) j ≡ field m g K j
-  field-other m g j d = ap (halfOf g) (field-elsewhere (2 * j + m) d)
+  field-other : (m : ℕ) (g : Bits) (j : ℕ) → (2 * j + m ≡ 2 * i + k → ⊥) → field m g (withField k h K i v) j ≡ field m g K j
+  field-other m g j d = ap (bitsOf g) (field-elsewhere (2 * j + m) d)
 
   module _ (two : k < 2) where
-    field-same : Whole K i → InHalf v → field k h (withField k h K i v) i ≡ v
+    field-same : Whole K i → Fits h v → field k h (withField k h K i v) i ≡ v
     field-same l s =
-        rw (field-whole l, getD-set-same K (2 * i + k) new 0 (omega arith)) (half-same h (getD K (2 * i + k) 0) v s)
+        rw (field-whole l, getD-set-same K (2 * i + k) new 0 (omega arith)) (bits-same h (getD K (2 * i + k) 0) v s)
 
-    -- a field in the other half, of this word or any
-    field-beside : (m j : ℕ) → field m (other h) (withField k h K i v) j ≡ field m (other h) K j
+    -- a field in the bits beside these, of this word or any
+    field-beside : (g : Bits) → Beside h g → (m j : ℕ) → field m g (withField k h K i v) j ≡ field m g K j
     unfolding withField
-    field-beside m j = go (isWhole K i) refl (ℕ-discrete (2 * j + m) (2 * i + k))
+    field-beside g q m j = go (isWhole K i) refl (ℕ-discrete (2 * j + m) (2 * i + k))
       where
         go : (b : Bool) → isWhole K i ≡ b → Dec (2 * j + m ≡ 2 * i + k)
-            → halfOf (other h) (getD (cond b (set K (2 * i + k) new) K) (2 * j + m) 0) ≡ halfOf (other h) (getD K (2 * j + m) 0)
+            → bitsOf g (getD (cond b (set K (2 * i + k) new) K) (2 * j + m) 0) ≡ bitsOf g (getD K (2 * j + m) 0)
         go false e c = refl
         go true e (yes c) =
             let l : Whole K i = ltb-true _ _ e in
-            rw (c, getD-set-same K (2 * i + k) new 0 (omega arith)) (half-kept h (getD K (2 * i + k) 0) v)
-        go true e (no d) = ap (halfOf (other h)) (getD-set-other K (2 * i + k) (2 * j + m) new 0 d)
+            rw (c, getD-set-same K (2 * i + k) new 0 (omega arith)) (bits-kept h g (getD K (2 * i + k) 0) v q)
+        go true e (no d) = ap (bitsOf g) (getD-set-other K (2 * i + k) (2 * j + m) new 0 d)
 
     field-beyond : (x : ℕ) → recordWords (i + 1) ≤ x → getD (withField k h K i v) x 0 ≡ getD K x 0
     field-beyond x l = field-elsewhere x (λ z. omega arith)
@@ -155,15 +188,19 @@ module _ (K : List ℕ) (i v : ℕ) where
 
   pub place-of-close : (j : ℕ) → placeOf (withClose K i v) j ≡ placeOf K j
   unfolding placeOf
-  place-of-close = field-beside 0 High K i v (omega arith) 0
+  place-of-close = field-beside 0 High K i v (omega arith) Low tt 0
 
   pub sep-of-close : (j : ℕ) → sepOf (withClose K i v) j ≡ sepOf K j
   unfolding sepOf
-  sep-of-close = field-beside 0 High K i v (omega arith) 1
+  sep-of-close = field-beside 0 High K i v (omega arith) Low tt 1
 
   pub marks-of-close : (j : ℕ) → marksOf (withClose K i v) j ≡ marksOf K j
   unfolding marksOf
-  marks-of-close j = field-other 0 High K i v 1 High j (λ z. omega arith)
+  marks-of-close j = field-other 0 High K i v 1 Marks j (λ z. omega arith)
+
+  pub closer-of-close : (j : ℕ) → closerOf (withClose K i v) j ≡ closerOf K j
+  unfolding closerOf
+  closer-of-close j = field-other 0 High K i v 1 Closer j (λ z. omega arith)
 
   pub close-beyond : (x : ℕ) → recordWords (i + 1) ≤ x → getD (withClose K i v) x 0 ≡ getD K x 0
   close-beyond = field-beyond 0 High K i v (omega arith)
@@ -186,35 +223,89 @@ module _ (K : List ℕ) (i v : ℕ) where
 
   pub close-of-sep : (j : ℕ) → afterClose (withSep K i v) j ≡ afterClose K j
   unfolding afterClose
-  close-of-sep = field-beside 1 Low K i v (omega arith) 0
+  close-of-sep = field-beside 1 Low K i v (omega arith) High tt 0
 
   pub marks-of-sep : (j : ℕ) → marksOf (withSep K i v) j ≡ marksOf K j
   unfolding marksOf
-  marks-of-sep = field-beside 1 Low K i v (omega arith) 1
+  marks-of-sep = field-beside 1 Low K i v (omega arith) Marks tt 1
+
+  pub closer-of-sep : (j : ℕ) → closerOf (withSep K i v) j ≡ closerOf K j
+  unfolding closerOf
+  closer-of-sep = field-beside 1 Low K i v (omega arith) Closer tt 1
 
   pub sep-beyond : (x : ℕ) → recordWords (i + 1) ≤ x → getD (withSep K i v) x 0 ≡ getD K x 0
   sep-beyond = field-beyond 1 Low K i v (omega arith)
 
   -- Other marks.
   pub marks-length : length (withMarks K i v) ≡ length K
-  marks-length = field-length 1 High K i v
+  marks-length = field-length 1 Marks K i v
 
-  pub marks-same : Whole K i → InHalf v → marksOf (withMarks K i v) i ≡ v
+  pub marks-same : Whole K i → InMarks v → marksOf (withMarks K i v) i ≡ v
   unfolding marksOf
-  marks-same = field-same 1 High K i v (omega arith)
+  marks-same = field-same 1 Marks K i v (omega arith)
 
   pub marks-other : (j : ℕ) → (j ≡ i → ⊥) → marksOf (withMarks K i v) j ≡ marksOf K j
   unfolding marksOf
-  marks-other j d = field-other 1 High K i v 1 High j (λ z. d (omega arith))
+  marks-other j d = field-other 1 Marks K i v 1 Marks j (λ z. d (omega arith))
 
   pub place-of-marks : (j : ℕ) → placeOf (withMarks K i v) j ≡ placeOf K j
   unfolding placeOf
-  place-of-marks = field-beside 1 High K i v (omega arith) 0
+  place-of-marks = field-beside 1 Marks K i v (omega arith) Low tt 0
 
   pub close-of-marks : (j : ℕ) → afterClose (withMarks K i v) j ≡ afterClose K j
   unfolding afterClose
-  close-of-marks j = field-other 1 High K i v 0 High j (λ z. omega arith)
+  close-of-marks j = field-other 1 Marks K i v 0 High j (λ z. omega arith)
 
   pub sep-of-marks : (j : ℕ) → sepOf (withMarks K i v) j ≡ sepOf K j
   unfolding sepOf
-  sep-of-marks = field-beside 1 High K i v (omega arith) 1
+  sep-of-marks = field-beside 1 Marks K i v (omega arith) Low tt 1
+
+  pub closer-of-marks : (j : ℕ) → closerOf (withMarks K i v) j ≡ closerOf K j
+  unfolding closerOf
+  closer-of-marks = field-beside 1 Marks K i v (omega arith) Closer tt 1
+
+  -- Another closer.
+  pub closer-length : length (withCloser K i v) ≡ length K
+  closer-length = field-length 1 Closer K i v
+
+  pub closer-same : Whole K i → InCloser v → closerOf (withCloser K i v) i ≡ v
+  unfolding closerOf
+  closer-same = field-same 1 Closer K i v (omega arith)
+
+  pub closer-other : (j : ℕ) → (j ≡ i → ⊥) → closerOf (withCloser K i v) j ≡ closerOf K j
+  unfolding closerOf
+  closer-other j d = field-other 1 Closer K i v 1 Closer j (λ z. d (omega arith))
+
+  pub place-of-closer : (j : ℕ) → placeOf (withCloser K i v) j ≡ placeOf K j
+  unfolding placeOf
+  place-of-closer = field-beside 1 Closer K i v (omega arith) Low tt 0
+
+  pub close-of-closer : (j : ℕ) → afterClose (withCloser K i v) j ≡ afterClose K j
+  unfolding afterClose
+  close-of-closer j = field-other 1 Closer K i v 0 High j (λ z. omega arith)
+
+  pub sep-of-closer : (j : ℕ) → sepOf (withCloser K i v) j ≡ sepOf K j
+  unfolding sepOf
+  sep-of-closer = field-beside 1 Closer K i v (omega arith) Low tt 1
+
+  pub marks-of-closer : (j : ℕ) → marksOf (withCloser K i v) j ≡ marksOf K j
+  unfolding marksOf
+  marks-of-closer = field-beside 1 Closer K i v (omega arith) Marks tt 1
+
+-- a closer is stored by its low bits
+pub closer-low : (K : List ℕ) (i v : ℕ) → withCloser K i (v % closerSize) ≡ withCloser K i v
+unfolding withField
+closer-low K i v = let z : v % closerSize % closerSize ≡ v % closerSize = omega arith in rw z
+
+-- What a store of marks or of a closer keeps.
+pub kept-refl : (K : List ℕ) → Kept K K
+kept-refl K = record { long = refl; place = λ i. refl; close = λ i. refl; sep = λ i. refl }
+
+pub kept-trans : {K L J : List ℕ} → Kept K L → Kept L J → Kept K J
+kept-trans p q = record { long = q .long ∙ p .long; place = λ i. q .place i ∙ p .place i; close = λ i. q .close i ∙ p .close i; sep = λ i. q .sep i ∙ p .sep i }
+
+pub marks-kept : (K : List ℕ) (i v : ℕ) → Kept K (withMarks K i v)
+marks-kept K i v = record { long = marks-length K i v; place = place-of-marks K i v; close = close-of-marks K i v; sep = sep-of-marks K i v }
+
+pub closer-kept : (K : List ℕ) (i v : ℕ) → Kept K (withCloser K i v)
+closer-kept K i v = record { long = closer-length K i v; place = place-of-closer K i v; close = close-of-closer K i v; sep = sep-of-closer K i v }

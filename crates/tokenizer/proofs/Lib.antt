@@ -1,2 +1,3 @@
 mod Whole
 mod Calls
+pub mod Under

@@ -29,3 +29,7 @@ module _ {A : Type 0} where
 abbrev pub Given : {A : Type 0} → (A → Type 0) → Option A → Type 0
 Given P none = Unit {0}
 Given P (some a) = P a
+
+-- two answers that are not one
+pub apart : {A : Type 0} → _≡_ {A = ℕ} 0 1 → A
+apart z = absurd (omega arith)

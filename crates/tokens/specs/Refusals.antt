@@ -13,6 +13,11 @@ pub data Answer : Type 0 where
   accepted : List ℕ → Answer
   refused : ℕ → Answer
 
+-- a yes or no among the values
+abbrev pub bit : Bool → ℕ
+bit true = 1
+bit false = 0
+
 -- every byte is below 128
 unfoldable pub ascii : List ℕ → Bool
 ascii [] = true

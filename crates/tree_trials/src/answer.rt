@@ -1,5 +1,7 @@
 // The answers to one text or one token list. A refusal is `refused=` and its number, and each answer ends in a line `--`.
 use crate::input::read_words;
+use closers::Paired;
+use closers::PairedText;
 use libc::STDOUT_FILENO;
 use parse::ParsedTokens;
 use print::Printed;
@@ -20,6 +22,30 @@ fn print_first(out: &[u8], len: usize) {
     }
 }
 
+fn print_word(word: u32) {
+    io::print_decimal(STDOUT_FILENO, word as u64);
+    io::write_all(STDOUT_FILENO, b" ");
+}
+
+// The first n words.
+fn print_first_words(words: &[u32], n: usize) {
+    let mut i = 0;
+    while i < words.len() && i < n {
+        print_word(words[i]);
+        i += 1;
+    }
+    io::write_all(STDOUT_FILENO, b"\n");
+}
+
+fn print_text_closers(text: &[u8]) {
+    let mut table = [0u32; 3072];
+    let mut out = [0u32; 1024];
+    match closers::closers_text(text, &mut table, &mut out) {
+        PairedText::Found { tokens: _, others } => print_first_words(&out, others),
+        PairedText::Refused(number) => print_refusal(number),
+    }
+}
+
 // A text of at most 1,023 bytes.
 pub(crate) fn print_text(text: &[u8]) {
     let mut table = [0u32; 3072];
@@ -34,6 +60,7 @@ pub(crate) fn print_text(text: &[u8]) {
         } => print_first(&out, len),
         Printed::Refused(number) => print_refusal(number),
     }
+    print_text_closers(text);
 }
 
 // How many words stand before the zeros at the end.
@@ -48,26 +75,20 @@ fn words_before_zeros(tree: &[u32]) -> usize {
     0
 }
 
-fn print_word(word: u32) {
-    io::print_decimal(STDOUT_FILENO, word as u64);
-    io::write_all(STDOUT_FILENO, b" ");
-}
-
-fn print_words(words: &[u32]) {
-    let n = words_before_zeros(words);
-    let mut i = 0;
-    while i < words.len() && i < n {
-        print_word(words[i]);
-        i += 1;
-    }
-    io::write_all(STDOUT_FILENO, b"\n");
-}
-
 fn print_tree(takes: u64, items: u32, tree: &[u32]) {
     print_number(b"takes=", takes);
     print_number(b" items=", items as u64);
     io::write_all(STDOUT_FILENO, b"\n");
-    print_words(tree);
+    let n = words_before_zeros(tree);
+    print_first_words(tree, n);
+}
+
+fn print_list_closers(text: &[u8], table: &[u32]) {
+    let mut out = [0u32; 100];
+    match closers::closers(text, table, table.len() / 3, &mut out) {
+        Paired::Found { others } => print_first_words(&out, others),
+        Paired::Refused(number) => print_refusal(number),
+    }
 }
 
 fn print_list_by(text: &[u8], table: &[u32]) {
@@ -81,6 +102,7 @@ fn print_list_by(text: &[u8], table: &[u32]) {
         } => print_tree(takes, items, &tree),
         ParsedTokens::Refused(number) => print_refusal(number),
     }
+    print_list_closers(text, table);
 }
 
 // A list of at most 100 tokens.

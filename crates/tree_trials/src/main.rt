@@ -1,7 +1,8 @@
 // Replays texts and token lists, a line each on standard input: a text in hex digits; for a token list a colon behind the text and
 // then start, length and kind of each token, a comma behind each number. Of a text it prints the tree; of a list takes and items,
-// and the words of its tree without the zeros behind them. The file `stdout` beside src/ has the Rust's answers to the lines of the
-// file `stdin`. Its first lines are document 01's 'Strings to try', the 18 texts and the two token lists, in its order.
+// and the words of its tree without the zeros behind them; of both the closers of the tokens other than Space. The file `stdout` beside
+// src/ has the Rust's answers to the lines of the file `stdin`. Its first lines are document 01's 'Strings to try', the 18 texts and the
+// two token lists, in its order.
 mod answer;
 mod input;
 

@@ -4,7 +4,8 @@ use Prim.Native.Nat.{ℕ}
 use lib.ListN.{length}
 use Rattle.tokens.specs.Refusals.{roomRefusal}
 use Rattle.room.proofs.Lengths.{refusalIn, refusal-in}
-use Rattle.parse.proofs.Calls.{checked-refused, checked-accepted, list-refused, room-refused}
+use Rattle.lists.proofs.Cases.{checked-refused, checked-accepted}
+use Rattle.parse.proofs.Calls.{list-refused, room-refused}
 use borrow.Author.Needs.{needs}
 use Rattle.parse.proofs.parse_tokens.Statement.{statement}
 use Rattle.parse.proofs.parse_tokens.Tie as tie

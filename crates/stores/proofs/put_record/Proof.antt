@@ -8,8 +8,8 @@ use Rattle.stores.proofs.Stores.{record-whole, record-short}
 use Rattle.stores.proofs.put_record.Statement.{statement}
 use Rattle.stores.proofs.put_record.Tie as tie
 
-half-of-requires : tie.Need-half-of-requires
-half-of-requires c κs = search needs
+bits-of-requires : tie.Need-bits-of-requires
+bits-of-requires c κs = search needs
 
 mul-work : tie.Need-mul-work
 mul-work c = search needs
@@ -37,7 +37,7 @@ same-length c = search needs
 
 returns : tie.Need-returns
 returns c = let a = c .before .before .before .args in
-    rw (record-whole (a .work .now) (a .i) (a .place) (omega arith)) (ap (λ (w : ℕ). set (set (a .work .now) (2 * a .i) w) (2 * a .i + 1) 0) (c .half-of .ensures))
+    rw (record-whole (a .work .now) (a .i) (a .place) (omega arith)) (ap (λ (w : ℕ). set (set (a .work .now) (2 * a .i) w) (2 * a .i + 1) 0) (c .bits-of .ensures))
 
 returns-2 : tie.Need-returns-2
 returns-2 c = sym (record-short _ _ _ (omega arith))
@@ -46,7 +46,7 @@ pub put-record-spec : {M : Type 1} → statement M
 put-record-spec =
     tie.close
     (tie.spec
-    half-of-requires
+    bits-of-requires
     mul-work
     mul-work-2
     slice-write-work

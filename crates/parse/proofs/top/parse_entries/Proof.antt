@@ -1,29 +1,26 @@
-use Rattle.parse.proofs.Wrapping.{parsed}
-use lib.ListN.{length, replicate}
-use Prim.Native.Nat.{ℕ, _-_}
-use native.Mathlib.Omega.{arith}
-use mathlib.Core.Path.{_≡_, refl, ap, _∙_}
+-- `parse_entries`: the second part alone from no mark, or both passes.
+use Prim.Native.Nat.{ℕ}
+use mathlib.Core.Path.{ap, _∙_}
+use lib.ListN.{replicate}
 use borrow.Author.Needs.{needs}
+use Rattle.parse.proofs.Second.{second-ready, both-read}
 use Rattle.parse.proofs.top.parse_entries.Statement.{statement}
 use Rattle.parse.proofs.top.parse_entries.Tie as tie
 
-read-items-requires : tie.Need-read-items-requires
-read-items-requires c κs = search needs
+has-attempts-requires : tie.Need-has-attempts-requires
+has-attempts-requires c κs = search needs
 
-wrap-items-requires : tie.Need-wrap-items-requires
-wrap-items-requires c κs = search needs
+build-tree-requires : tie.Need-build-tree-requires
+build-tree-requires c κs = search needs
 
-mul-end : tie.Need-mul-end
-mul-end c = search needs
+pair-entries-requires : tie.Need-pair-entries-requires
+pair-entries-requires c κs = search needs
 
-add-end : tie.Need-add-end
-add-end c = omega (arith, c .before .before .before .before .before .before .before .before .before .before .before .before .read-items .ensures .fits, c .before .before .before .before .before .before .before .before .before .before .before .before .read-items .kept .1 .1 .1 .1 .0, c .before .before .before .before .before .before .before .before .before .before .before .before .before .before .before .before .before .before .before .good .1 .1 .1 .1 .0 .0)
+build-tree-requires-2 : tie.Need-build-tree-requires-2
+build-tree-requires-2 c κs = second-ready (c .before .before .before .before .before .before .before .before .before .before .before .before .before .pre .0) (c .before .before .before .before .before .before .before .before .before .before .before .before .before .pre .1) (c .before .before .before .before .pair-entries .ensures)
 
-clear-from-requires : tie.Need-clear-from-requires
-clear-from-requires c κs = search needs
-
-clear-from-requires-2 : tie.Need-clear-from-requires-2
-clear-from-requires-2 c κs = search needs
+cast-t22 : tie.Need-cast-t22
+cast-t22 c = search needs
 
 same-length : tie.Need-same-length
 same-length c = search needs
@@ -32,22 +29,29 @@ same-length-2 : tie.Need-same-length-2
 same-length-2 c = search needs
 
 returns : tie.Need-returns
-returns c = let r = c .before .before .before .before .before .before .before .before .before .before .before .before .before .before .before .before .before .before .before .before .before .read-items .ensures in let hy = c .before .before .before .before .before .before .before .before .before .before .before .before .before .before .before .before .before .before .before .before .before .read-items .kept .1 .1 .1 .1 .0 in let z : length (c .before .before .before .before .before .before .before .before .before .before .before .before .before .before .before .before .before .before .before .before .before .read-items .last .1 .1 .1 .0) - 0 ≡ length (c .before .before .before .before .before .before .before .before .before .before .before .before .before .before .before .before .before .before .before .before .before .before .before .before .before .before .before .before .args .work .now) = omega (arith, c .before .before .before .before .before .before .before .before .before .before .before .before .before .before .before .before .before .before .before .before .before .read-items .kept .1 .1 .1 .0) in (parsed (c .before .before .before .before .before .before .before .before .before .before .before .before .before .wrap-items .last .1 .1 .1 .0) (c .before .before .before .before .before .before .before .before .before .before .before .before .before .before .before .before .before .before .before .before .before .before .before .before .before .before .before .before .pre .safe .few) (c .before .before .before .before .before .before .before .before .before .before .struct-known .given .0 .1 .1 .0 .fits) r refl (c .before .before .before .before .before .before .before .before .before .before .before .before .before .wrap-items .ensures (r .noted)) hy (c .before .before .before .before .before .before .before .before .before .before .before .before .before .wrap-items .kept .1 .1 .1 .0 ∙ hy) (c .before .before .before .before .before .before .before .clear-from .ensures), c .before .before .before .clear-from2 .ensures ∙ ap (λ (k : ℕ). replicate k 0) z)
+returns c = ((λ I g. c .before .before .before .before .build-tree .ensures .0 I g _ (c .before .before .before .before .before .before .before .before .before .before .before .before .before .before .pre .1 .marks)), c .before .before .before .before .build-tree .ensures .1)
 
-cast-t23 : tie.Need-cast-t23
-cast-t23 c = search needs
+same-length-3 : tie.Need-same-length-3
+same-length-3 c = search needs
+
+same-length-4 : tie.Need-same-length-4
+same-length-4 c = search needs
+
+returns-2 : tie.Need-returns-2
+returns-2 c = (both-read (c .before .before .before .before .before .before .before .before .before .before .before .before .before .before .before .before .before .before .pre .0) (c .before .before .before .before .before .before .before .before .before .before .before .before .before .before .before .before .before .before .pre .1) (c .before .before .before .before .before .before .before .before .before .pair-entries .ensures) (c .before .before .before .before .before .before .before .before .before .pair-entries .ok) (c .before .before .before .before .build-tree2 .ensures .0), c .before .before .before .before .build-tree2 .ensures .1 ∙ ap (λ (k : ℕ). replicate k 0) (c .before .before .before .before .before .before .before .before .before .pair-entries .kept .1 .1 .1 .0))
 
 pub parse-entries-spec : {M : Type 1} → statement M
 parse-entries-spec =
     tie.close
     (tie.spec
-    read-items-requires
-    wrap-items-requires
-    mul-end
-    add-end
-    clear-from-requires
-    clear-from-requires-2
-    cast-t23
+    has-attempts-requires
+    build-tree-requires
     same-length
     same-length-2
-    returns)
+    returns
+    pair-entries-requires
+    build-tree-requires-2
+    cast-t22
+    same-length-3
+    same-length-4
+    returns-2)

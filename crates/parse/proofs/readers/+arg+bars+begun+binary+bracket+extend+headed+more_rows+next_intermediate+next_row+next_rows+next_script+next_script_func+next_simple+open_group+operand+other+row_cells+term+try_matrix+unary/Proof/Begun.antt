@@ -4,7 +4,7 @@ use Rattle.parse.proofs.readers.begun.Reads as begun
 use Rattle.parse.proofs.readers.bracket.Reads as bracket
 use Rattle.parse.proofs.readers.other.Reads as other
 use Rattle.records.proofs.record.kind_at.Reads as kind-at-reads
-use Rattle.parse.proofs.tests.opens.Reads as opens-reads
+use Rattle.lookahead.proofs.tests.opens.Reads as opens-reads
 use Rattle.parse.proofs.readers.+arg+bars+begun+binary+bracket+extend+headed+more_rows+next_intermediate+next_row+next_rows+next_script+next_script_func+next_simple+open_group+operand+other+row_cells+term+try_matrix+unary.Lts-begun as begun-lts
 use Rattle.parse.proofs.readers.+arg+bars+begun+binary+bracket+extend+headed+more_rows+next_intermediate+next_row+next_rows+next_script+next_script_func+next_simple+open_group+operand+other+row_cells+term+try_matrix+unary.Proof.Setting.{bracket-below, other-below, begun-at}
 use mathlib.Core.Path.{sym, _∙_}

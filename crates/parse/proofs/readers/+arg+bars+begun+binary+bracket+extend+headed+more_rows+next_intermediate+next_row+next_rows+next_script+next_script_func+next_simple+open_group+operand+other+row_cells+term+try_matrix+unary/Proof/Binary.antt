@@ -6,8 +6,8 @@ use Rattle.parse.proofs.write.node_before.Reads as node-before-reads
 use Rattle.parse.proofs.readers.+arg+bars+begun+binary+bracket+extend+headed+more_rows+next_intermediate+next_row+next_rows+next_script+next_script_func+next_simple+open_group+operand+other+row_cells+term+try_matrix+unary.Lts-binary as binary-lts
 use Rattle.parse.proofs.readers.+arg+bars+begun+binary+bracket+extend+headed+more_rows+next_intermediate+next_row+next_rows+next_script+next_script_func+next_simple+open_group+operand+other+row_cells+term+try_matrix+unary.Proof.Setting.{arg-below, binary-at}
 use native.Mathlib.Omega.{arith}
-use Rattle.parse.proofs.Kit.{safe-kept}
 use Rattle.parse.proofs.Arms.{binary-met}
+use Rattle.reading_words.proofs.Kit.{safe-kept}
 
 abbrev pub uses : ℕ → binary-lts.Claims
 uses t = (arg-below t, arg.Post, node-before-reads.Asked, node-before-reads.Learnt)

@@ -8,8 +8,8 @@ use Rattle.parse.proofs.readers.+arg+bars+begun+binary+bracket+extend+h
 use Rattle.parse.proofs.readers.+arg+bars+begun+binary+bracket+extend+headed+more_rows+next_intermediate+next_row+next_rows+next_script+next_script_func+next_simple+open_group+operand+other+row_cells+term+try_matrix+unary.Proof.Setting.{bars-below, open-group-below, try-matrix-below, bracket-at}
 use native.Mathlib.Omega.{arith}
 use borrow.Author.Needs.{needs}
-use Rattle.parse.proofs.Kit.{safe-kept}
 use Rattle.parse.proofs.Barred.{bracket-matrix, bracket-group, bracket-bars}
+use Rattle.reading_words.proofs.Kit.{safe-kept}
 
 abbrev pub uses : ℕ → bracket-lts.Claims
 uses t = (try-matrix-below t, try-matrix.Post, open-group-below t, open-group.Post, bars-below t, bars.Post)

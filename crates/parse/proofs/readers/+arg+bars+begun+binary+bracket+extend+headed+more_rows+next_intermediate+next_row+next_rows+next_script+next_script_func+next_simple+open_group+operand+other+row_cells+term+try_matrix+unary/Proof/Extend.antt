@@ -15,9 +15,10 @@ use mathlib.Core.Path.{sym, ap, _∙_}
 use Rattle.parse.specs.declared.cursor.Part.{Part}
 use native.Mathlib.Omega.{arith}
 use borrow.Author.Needs.{needs}
-use Rattle.parse.proofs.Kit.{safe-kept}
-use Rattle.parse.proofs.Alone.{plain-below, plain-found, over-nothing}
+use Rattle.reading_words.proofs.Plain.{plain-below}
+use Rattle.parse.proofs.Alone.{plain-found, over-nothing}
 use Rattle.parse.proofs.Loop.{Inv, along-none, along-more, along-nothing, along-met}
+use Rattle.reading_words.proofs.Kit.{safe-kept}
 
 abbrev pub uses : ℕ → extend-lts.Claims
 uses t = (choose-reads.Asked, choose-reads.Learnt, bar-at-reads.Asked, bar-at-reads.Learnt, put-space-reads.Asked, put-space-reads.Learnt, is-plain-reads.Asked, is-plain-reads.Learnt, plain-item-reads.Asked, plain-item-reads.Learnt, is-over-reads.Asked, is-over-reads.Learnt, look-reads.Asked, look-reads.Learnt, next-intermediate-below t, next-intermediate.Post)

@@ -14,8 +14,8 @@ use mathlib.Core.Path.{sym, ap, _∙_}
 use lib.ListN.{length}
 use native.Mathlib.Omega.{arith}
 use borrow.Author.Needs.{needs}
-use Rattle.parse.proofs.Kit.{safe-kept}
 use Rattle.parse.proofs.Scripting.{headed-func, headed-sign}
+use Rattle.reading_words.proofs.Kit.{safe-kept}
 
 abbrev pub uses : ℕ → headed-lts.Claims
 uses t = (is-at-reads.Asked, is-at-reads.Learnt, next-script-below t, next-script.Post, head-stop-reads.Asked, head-stop-reads.Learnt, operand-below t, operand.Post, head-kind-reads.Asked, head-kind-reads.Learnt, node-before-reads.Asked, node-before-reads.Learnt)

@@ -12,8 +12,8 @@ use native.Mathlib.Omega.{arith}
 use borrow.Author.Needs.{needs}
 use borrow.Author.Tests.{eq-eqb, ne-eqb}
 use Rattle.lookahead.proofs.Testing.{test-below}
-use Rattle.parse.proofs.Kit.{safe-kept}
 use Rattle.parse.proofs.Rows.{Inv, rows-none, rows-done, rows-broken, rows-differ, rows-more}
+use Rattle.reading_words.proofs.Kit.{safe-kept}
 
 abbrev pub uses : ℕ → more-rows-lts.Claims
 uses t = (is-at-reads.Asked, is-at-reads.Learnt, next-reads.Asked, next-reads.Learnt, next-row-below t, next-row.Post, same-brackets-reads.Asked, same-brackets-reads.Learnt)

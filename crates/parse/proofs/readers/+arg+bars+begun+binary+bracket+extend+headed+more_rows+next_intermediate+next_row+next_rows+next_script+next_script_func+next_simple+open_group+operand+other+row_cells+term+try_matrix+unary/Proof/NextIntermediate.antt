@@ -13,11 +13,11 @@ use mathlib.Core.Path.{_≡_, sym, ap, _∙_}
 use native.Mathlib.Omega.{arith}
 use borrow.Author.Needs.{needs}
 use Rattle.lookahead.proofs.Testing.{test-below}
-use Rattle.parse.proofs.Kit.{safe-kept}
 use Rattle.parse.proofs.Scripting.{item-nothing, item-plain, item-over}
 use mathlib.Core.List.{[], _∷_}
 use lib.ListN.{length}
 use lib.Seq.{length-sets}
+use Rattle.reading_words.proofs.Kit.{safe-kept}
 
 abbrev pub uses : ℕ → next-intermediate-lts.Claims
 uses t = (next-script-func-below t, next-script-func.Post, is-at-reads.Asked, is-at-reads.Learnt, put1-reads.Asked, put1-reads.Learnt, next-reads.Asked, next-reads.Learnt, operand-below t, operand.Post, look-reads.Asked, look-reads.Learnt)

@@ -9,8 +9,8 @@ use Rattle.parse.proofs.readers.+arg+bars+begun+binary+bracket+extend+h
 use mathlib.Core.Path.{sym, _∙_}
 use native.Mathlib.Omega.{arith}
 use borrow.Author.Needs.{needs}
-use Rattle.parse.proofs.Kit.{safe-kept}
 use Rattle.parse.proofs.Rows.{matrix-broken, matrix-differs, matrix-more}
+use Rattle.reading_words.proofs.Kit.{safe-kept}
 
 abbrev pub uses : ℕ → next-rows-lts.Claims
 uses t = (next-row-below t, next-row.Post, row-brackets-reads.Asked, row-brackets-reads.Learnt, more-rows-below t, more-rows.Post)

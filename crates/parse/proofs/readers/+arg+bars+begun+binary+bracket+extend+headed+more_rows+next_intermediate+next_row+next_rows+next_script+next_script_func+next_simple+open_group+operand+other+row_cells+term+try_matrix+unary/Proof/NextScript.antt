@@ -13,10 +13,10 @@ use native.Mathlib.Omega.{arith}
 use borrow.Author.Needs.{needs}
 use Rattle.lookahead.specs.Tests.{isKind, marksKind}
 use Rattle.lookahead.proofs.Testing.{test-below}
-use Rattle.parse.proofs.Kit.{safe-kept}
 use Rattle.parse.proofs.Arms.{scripts-none, scripts-super, scripts-sub, scripts-both}
 use Rattle.parse.proofs.tests.scripted.Reads as scripted-reads
 use borrow.Author.Tests.{not-true, not-false}
+use Rattle.reading_words.proofs.Kit.{safe-kept}
 
 abbrev pub uses : ℕ → next-script-lts.Claims
 uses t = (marks-at-reads.Asked, marks-at-reads.Learnt, look-reads.Asked, look-reads.Learnt, is-at-reads.Asked, is-at-reads.Learnt, next-reads.Asked, next-reads.Learnt, arg-below t, arg.Post, scripted-reads.Asked, scripted-reads.Learnt)

@@ -11,7 +11,7 @@ use native.Mathlib.Omega.{arith}
 use borrow.Author.Needs.{needs}
 use Rattle.parse.proofs.Begins.{begun-binary, begun-leaf, opens-nothing}
 use Rattle.parse.proofs.tests.prefix_kind.Reads as prefix-kind-reads
-use Rattle.parse.proofs.tests.prefix_stop.Reads as prefix-stop-reads
+use Rattle.lookahead.proofs.tests.prefix_stop.Reads as prefix-stop-reads
 use Rattle.parse.proofs.Choices.{prefix-known, leaf-kinds, begun-prefix}
 
 abbrev pub uses : ℕ → other-lts.Claims

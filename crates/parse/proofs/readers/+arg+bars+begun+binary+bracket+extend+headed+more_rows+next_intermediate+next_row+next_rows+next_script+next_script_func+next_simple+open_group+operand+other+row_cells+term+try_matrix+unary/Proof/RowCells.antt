@@ -12,11 +12,11 @@ use mathlib.Core.Path.{_≡_, refl, sym, ap, _∙_}
 use native.Mathlib.Omega.{arith}
 use Rattle.lookahead.proofs.Testing.{test-below}
 use Rattle.parse.proofs.Whole.{whole-items}
-use Rattle.parse.proofs.Kit.{safe-kept, some-at}
 use Rattle.parse.proofs.Cells.{Inv, cells-none, cells-more, cells-shut, cells-broken, passing-in}
 use mathlib.Core.Option.{none}
 use Rattle.reading.specs.Reading.{prefixes}
 use Rattle.parse.specs.declared.cursor.Cursor.{Cursor}
+use Rattle.reading_words.proofs.Kit.{safe-kept, some-at}
 
 abbrev pub uses : ℕ → row-cells-lts.Claims
 uses t = (extend-below t, extend.Post, put6-reads.Asked, put6-reads.Learnt, over-reads.Asked, over-reads.Learnt, is-at-reads.Asked, is-at-reads.Learnt)

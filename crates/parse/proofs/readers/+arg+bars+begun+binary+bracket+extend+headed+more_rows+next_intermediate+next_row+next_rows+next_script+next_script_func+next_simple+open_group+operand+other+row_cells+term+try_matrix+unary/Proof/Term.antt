@@ -8,8 +8,8 @@ use Rattle.parse.proofs.readers.+arg+bars+begun+binary+bracket+extend+h
 use Rattle.parse.proofs.readers.+arg+bars+begun+binary+bracket+extend+headed+more_rows+next_intermediate+next_row+next_rows+next_script+next_script_func+next_simple+open_group+operand+other+row_cells+term+try_matrix+unary.Proof.Setting.{next-script-below, next-simple-below, term-at}
 use native.Mathlib.Omega.{arith}
 use borrow.Author.Needs.{needs}
-use Rattle.parse.proofs.Kit.{safe-kept}
 use Rattle.parse.proofs.Scripting.{term-nothing, term-scripted}
+use Rattle.reading_words.proofs.Kit.{safe-kept}
 
 abbrev pub uses : ℕ → term-lts.Claims
 uses t = (next-simple-below t, next-simple.Post, next-script-below t, next-script.Post, put6-reads.Asked, put6-reads.Learnt)

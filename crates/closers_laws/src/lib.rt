@@ -1,0 +1,1 @@
+// Theorems about the closers and the marks that a reading leaves: proofs/. There is no code here.

@@ -1,0 +1,532 @@
+-- Brackets: the attempts at a matrix and at a bar's group, and what gives them back.
+use Prim.Native.Nat.{ℕ, zero, suc, _+_, _*_, _-_, _≤_, _<_}
+use mathlib.Core.Path.{_≡_, refl, sym, ap, _∙_, subst}
+use mathlib.Core.List.{List, [], _∷_}
+use mathlib.Core.Option.{Option, none, some}
+use mathlib.Core.Bool.{Bool, true, false, not, _&&_, _||_, cond}
+use native.Mathlib.Omega.{arith}
+use lib.ListN.{length, getD, getElem?, set, drop}
+use lib.Dec.{eqb, ltb}
+use borrow.Author.Tests.{ltb-true, ltb-false, eqb-true, eqb-false, eq-eqb, ne-eqb}
+use Rattle.tokens.specs.declared.token.Token.the-variants as token
+use Rattle.tokens.specs.Lexeme.{Span}
+use Rattle.tree.specs.Tree.{nowhere, Head, Node, node, Nodes, end, _▸_, count}
+use Rattle.reading.specs.Entries.{Entry, is, hasSep}
+use Rattle.reading.specs.Reading.{State, M, Try, made, lost, nought, return, _>>=_, if_then_else_, here, closed, advance, any, openMark, matrixMark, slot, isAt, isBar, isByte, closeOf, closes, couldBeMatrix, makesMatrix, matrixBody, tryMatrix, barBody, nextOpenGroup, nextOpenCloseGroup, nextBracket, glyphOf, orGlyph, endsOperand, look, atomEnds, isBarSymbol, prefixes, Row, Rows, splitColumnLines, lineCols, lineCells, keptCols}
+use Rattle.closers_laws.proofs.Nested.{Fit, Pairing, level-good, intermediates-pairs, nextIntermediate-pairs, nextMatrixRows-pairs}
+use Rattle.closers_laws.proofs.OneCell.{single, many}
+use Rattle.lookahead.specs.Tests.{testAt, isKind}
+use Rattle.lookahead.proofs.Testing.{test-below}
+use Rattle.spans.specs.Spans.{sameAt, byteAt}
+use Rattle.brackets.specs.Brackets.{barAt, closesAt, couldBeMatrixAt, setAt, makesAt}
+use Rattle.marks.specs.Marks.{isMarked}
+use Rattle.marks.specs.Marks as entry
+use Rattle.leaves.specs.Leaves.{leafEnds, leafBar}
+use Rattle.closers_pass.specs.declared.cursor.Cursor.{Cursor}
+use Rattle.closers_pass.specs.declared.cursor.Part.{Part}
+use Rattle.closers_pass.specs.declared.cursor.Items.{Items}
+use Rattle.closers_pass.specs.declared.cursor.Tried.{Tried}
+use Rattle.closers_pass.specs.declared.cursor.Rows as rows
+use Rattle.rows.specs.Rows.{cellsLeft}
+use Rattle.records.specs.Record.{recordWords, Kept, withCloser, marksOf, kindOf, afterClose, sepOf}
+use Rattle.tokens.specs.Refusals.{bit}
+use Rattle.closers_notes.specs.Notes.{gaveUp}
+use Rattle.closers_notes.proofs.Notes.{cleared-kept}
+use Rattle.reading_words.specs.Meet.{Input, linkNumber, Given, readers, stopOf, intermediateAt, itemsAt, itemsFrom, bracketAt}
+use Rattle.closers_pass.specs.Meet.{At, Moves, Gives, isSome, isMore, Grouped, Bracketed, Intermediates, OpenGroup, Bracket, TryMatrix, Bars, onward, seen, rewound, operationAt}
+use Rattle.closers_pass.specs.Matrix.{Counts, Behind, MatrixRows, rowsAt}
+use Rattle.stores.proofs.Stores.{kept-refl, kept-trans, marks-kept, closer-kept}
+use Rattle.reading_words.proofs.Kit.{shut, ret-closed, bind, ret, at-here, if-true, if-false, tick, row-of, advance-took, test-kind, same-is, past, at-some, at-none}
+use Rattle.closers_pass.proofs.Kit.{at-tick, took, passed, at-shut, at-lost}
+use Rattle.reading_words.proofs.Attempts.{markNumber, mark-is, attempt-known, attempt-made, attempt-lost, attempt-nought}
+use Rattle.closers_pass.proofs.Simple.{got, lack, runs-as}
+use Rattle.closers_pass.proofs.Begins.{byte-at}
+use Rattle.closers_pass.proofs.Loop.{bar-is, whole-items}
+use Rattle.closers_pass.proofs.Cells.{took-any}
+use Rattle.closers_pass.proofs.Rows.{is-at-is}
+
+-- The gate and the last test, as the definition's.
+eqb-suc : (a b : ℕ) → eqb (suc a) (b + 1) ≡ eqb a b
+eqb-suc a b = go (eqb a b) refl
+  where
+    go : (r : Bool) → eqb a b ≡ r → eqb (suc a) (b + 1) ≡ r
+    go true h = eq-eqb (suc a) (b + 1) (omega (arith, eqb-true a b h))
+    go false h = ne-eqb (suc a) (b + 1) (λ z. eqb-false a b h (omega arith))
+
+linked-to : (j : ℕ) (q : Option ℕ) → elim q as (λ _. Bool) [ none ↦ false | some k ↦ eqb k j ] ≡ eqb (linkNumber q) (j + 1)
+linked-to j none = sym (ne-eqb 0 (j + 1) (λ z. omega arith))
+linked-to j (some k) = sym (eqb-suc k j)
+
+module _ {X t : List ℕ} {n : ℕ} {K : List ℕ} {I : Input} (g : Given X t n K I) {i : ℕ} {o : Entry} (inside : i < n) (there : getElem? (I .es) i ≡ some o) where
+  pub closes-is : (j : ℕ) → closes (I .text) (I .es) o i j ≡ closesAt X t K n i j
+  unfolding closes closesAt
+  closes-is j =
+      let r = row-of g inside there in
+      let ob : is token.OpenBracket o ≡ eqb (kindOf t K i) 20 = same-is token.OpenBracket o ∙ ap (λ (w : ℕ). eqb w 20) (sym (r .kind)) in
+      go (eqb (kindOf t K i) 20) refl ob
+    where
+      go : (b : Bool) → eqb (kindOf t K i) 20 ≡ b → is token.OpenBracket o ≡ b → closes (I .text) (I .es) o i j ≡ cond b (eqb (afterClose K i) (j + 1)) (barAt X t K n i j)
+      go true e h = rw (closes, h) (linked-to j (closeOf (I .text) (I .es) i)) ∙ ap (λ (w : ℕ). eqb w (j + 1)) (sym (g .linked i inside (eqb-true (kindOf t K i) 20 e) .close))
+      go false e h = rw (closes, h) (bar-is i j o g inside there)
+
+  gate-row : (c : Option ℕ) (w : ℕ) → w ≡ linkNumber c
+      → elim c as (λ _. Bool) [
+        | none ↦ false
+        | some c ↦ elim (isAt (I .text) (I .es) (is token.Sep) (suc c)) as (λ _. Bool) [
+          | true ↦ true
+          | false ↦ closes (I .text) (I .es) o i (suc c) && hasSep zero (drop (suc (suc i)) (I .es))
+        ]
+      ] ≡ cond (eqb w 0) false (cond (testAt t K n (isKind 3) w) true (cond (closesAt X t K n i w) (hasSep zero (drop (suc (suc i)) (I .es))) false))
+  gate-row none w h = rw h
+  gate-row (some c) w h =
+      let z : eqb w 0 ≡ false = ne-eqb w 0 (λ q. omega arith) in
+      let H = hasSep zero (drop (suc (suc i)) (I .es)) in
+      let C = closes (I .text) (I .es) o i (suc c) in
+      two (isAt (I .text) (I .es) (is token.Sep) (suc c)) C H
+      ∙ ap (λ (b : Bool). cond b true (cond C H false)) (is-at-is token.Sep (suc c) g)
+      ∙ ap (λ (b : Bool). cond (testAt t K n (isKind 3) (suc c)) true (cond b H false)) (closes-is (suc c))
+      ∙ ap (λ (j : ℕ). cond (testAt t K n (isKind 3) j) true (cond (closesAt X t K n i j) H false)) (sym h)
+      ∙ sym (ap (λ (b : Bool). cond b false (cond (testAt t K n (isKind 3) w) true (cond (closesAt X t K n i w) H false))) z)
+    where
+      two : (a b c : Bool) → elim a as (λ _. Bool) [ true ↦ true | false ↦ b && c ] ≡ cond a true (cond b c false)
+      two true b c = refl
+      two false true c = refl
+      two false false c = refl
+
+  bit-is : (b : Bool) → eqb (bit b) 1 ≡ b
+  bit-is true = refl
+  bit-is false = refl
+
+  pub gate-is : couldBeMatrix (I .text) (I .es) o i ≡ couldBeMatrixAt X t K n i
+  unfolding couldBeMatrix couldBeMatrixAt
+  gate-is =
+      let z : i + 1 ≡ suc i = omega arith in
+      rw (couldBeMatrix, z, is-at-is token.OpenBracket (suc i) g) (go (testAt t K n (isKind 20) (suc i)) refl)
+    where
+      go : (b : Bool) → testAt t K n (isKind 20) (suc i) ≡ b → elim b as (λ _. Bool) [
+        | false ↦ false
+        | true ↦ elim (closeOf (I .text) (I .es) (suc i)) as (λ _. Bool) [
+          | none ↦ false
+          | some c ↦ elim (isAt (I .text) (I .es) (is token.Sep) (suc c)) as (λ _. Bool) [
+            | true ↦ true
+            | false ↦ closes (I .text) (I .es) o i (suc c) && hasSep zero (drop (suc (suc i)) (I .es))
+          ]
+        ]
+      ] ≡ cond b (cond (eqb (afterClose K (suc i)) 0) false (cond (testAt t K n (isKind 3) (afterClose K (suc i))) true (cond (closesAt X t K n i (afterClose K (suc i))) (eqb (sepOf K (suc i)) 1) false))) false
+      go false e = refl
+      go true e =
+          let h : suc i < n = test-below t K n (isKind 20) (suc i) e in
+          let l = g .linked (suc i) h (eqb-true (kindOf t K (suc i)) 20 (test-kind t K n (isKind 20) (suc i) true h e)) in
+          rw (l .sep, bit-is (hasSep zero (drop (suc (suc i)) (I .es)))) (gate-row (closeOf (I .text) (I .es) (suc i)) (afterClose K (suc i)) (l .close))
+
+  pub makes-is : {l : ℕ} (k : ℕ) (r : Rows) (p : ℕ) → l < n → getElem? (I .es) l ≡ some (r .head .left) → ltb 1 ((splitColumnLines (I .text) (I .es) r) .1) ≡ ltb 1 k
+      → makesMatrix (I .text) (I .es) o i r p ≡ makesAt X t K n i l k p
+  unfolding makesMatrix makesAt setAt
+  makes-is {l} k r p hl tl hk = rw (closes-is p, hk) (go (ltb p n) refl)
+    where
+      both : (a b : Bool) → (a && b) ≡ cond a b false
+      both true b = refl
+      both false b = refl
+
+      last : (a b c : Bool) → (not (a && b) && (ltb 1 k && c)) ≡ cond (cond a b false) false (cond (ltb 1 k) c false)
+      last true true c = refl
+      last true false c = both (ltb 1 k) c
+      last false b c = both (ltb 1 k) c
+
+      go : (b : Bool) → ltb p n ≡ b → (isAt (I .text) (I .es) (λ e. not (isByte (I .text) (I .es) 40 (r .head .left .span) && isByte (I .text) (I .es) 125 (e .span))) p && (ltb 1 k && closesAt X t K n i p)) ≡ cond b (cond (setAt X t K l p) false (cond (ltb 1 k) (closesAt X t K n i p) false)) false
+      go true e =
+          let q = g .stands p (ltb-true p n e) in
+          rw (at-some (I .text) (I .es) (λ e. not (isByte (I .text) (I .es) 40 (r .head .left .span) && isByte (I .text) (I .es) 125 (e .span))) p (q .entry) (q .there), byte-at (I .text) (I .es) 40 (r .head .left) (g .text) (row-of g hl tl), byte-at (I .text) (I .es) 125 (q .entry) (g .text) (q .row))
+          (last (byteAt X t K l 40) (byteAt X t K p 125) (closesAt X t K n i p))
+      go false e = rw (at-none (I .text) (I .es) (λ e. not (isByte (I .text) (I .es) 40 (r .head .left .span) && isByte (I .text) (I .es) 125 (e .span))) p (past (I .es) p (omega (arith, ltb-false p n e, g .size))))
+
+pub makes-below : (X t K : List ℕ) (n i l k p : ℕ) → makesAt X t K n i l k p ≡ true → p < n
+unfolding makesAt
+makes-below X t K n i l k p h = go (ltb p n) refl h
+  where
+    go : (b : Bool) → ltb p n ≡ b → cond b (cond (setAt X t K l p) false (cond (ltb 1 k) (closesAt X t K n i p) false)) false ≡ true → p < n
+    go true e q = ltb-true p n e
+    go false e q = let z : _≡_ {A = ℕ} 0 1 = cc in absurd (omega arith)
+
+number-open : (stop : Bool) → markNumber (openMark (stopOf stop)) ≡ entry.openMark stop
+number-open true = refl
+number-open false = refl
+
+-- the bar's own word says whether it has failed
+open-known : {X t : List ℕ} {n : ℕ} {K : List ℕ} {p u : ℕ} {I : Input} {s : State} (i : ℕ) (stop b : Bool) → At X t n K p u I s → i < n → isMarked (marksOf K i) (entry.openMark stop) ≡ b → getD (s .marks) (slot (openMark (stopOf stop)) i) false ≡ b
+open-known i stop b at h k = sym (mark-is (openMark (stopOf stop)) i (at .marks) h) ∙ ap (isMarked _) (number-open stop) ∙ k
+
+pub bar-below : (X t K : List ℕ) (n i p : ℕ) → barAt X t K n i p ≡ true → p < n
+unfolding barAt
+bar-below X t K n i p h = go (ltb i n) (testAt t K n (isKind 22) p) refl h
+  where
+    go : (a b : Bool) → testAt t K n (isKind 22) p ≡ b → cond a (cond b (sameAt X t K i p) false) false ≡ true → p < n
+    go true true e k = test-below t K n (isKind 22) p e
+    go true false e k = let z : _≡_ {A = ℕ} 0 1 = cc in absurd (omega arith)
+    go false b e k = let z : _≡_ {A = ℕ} 0 1 = cc in absurd (omega arith)
+
+-- The body of a bar's attempt, by the items that the code reads.
+abbrev barEnd : Input → ℕ → Entry → Nodes → M Try
+barEnd I i o end = return nought
+barEnd I i o (x ▸ l) =
+    here >>= λ p.
+    if isAt (I .text) (I .es) (isBar (I .text) (I .es) o) p
+    then (advance (I .text) (I .es) any >>= λ t. elim t [
+      | none ↦ return lost
+      | some c ↦ closed i (made (node (Head.group (o .span) (c .span)) (x ▸ l)))
+    ])
+    else return lost
+
+bar-body : (I : Input) (d i : ℕ) (o : Entry) (stop : Bool) (s : State) {l : Nodes} {u : State} → itemsFrom d (suc (length (I .es))) (some o) stop none I s ≡ (l, u)
+    → barBody (I .text) (I .es) true (readers d I) o i (stopOf stop) s ≡ barEnd I i o l u
+unfolding barBody
+bar-body I d i o stop s {l} {u} h = go (intermediateAt d stop true I s) refl
+  where
+    go : (r : Option Node × State) → intermediateAt d stop true I s ≡ r → barBody (I .text) (I .es) true (readers d I) o i (stopOf stop) s ≡ barEnd I i o l u
+    go (none, v) k =
+        let same : _≡_ {A = Nodes × State} (end, v) (l, u) = sym (bind _ _ s k ∙ ret _ _) ∙ h in
+        bind _ _ s k ∙ ap (λ (w : Nodes × State). barEnd I i o (w .0) (w .1)) same
+    go (some x, v) k =
+        let r = itemsAt d (suc (length (I .es))) (some o) stop (some x) I v in
+        let same : _≡_ {A = Nodes × State} (x ▸ r .0, r .1) (l, u) = sym (bind _ _ s k ∙ bind _ _ v refl ∙ ret _ _) ∙ h in
+        bind _ _ s k ∙ bind _ _ v refl ∙ ap (λ (w : Nodes × State). barEnd I i o (w .0) (w .1)) same
+
+-- What a reader closes lies behind its start.
+fit-of : {X t : List ℕ} {n : ℕ} {K : List ℕ} {p u : ℕ} {I : Input} {s : State} → At X t n K p u I s → p ≤ n → Fit (I .text) (I .es) s
+fit-of {n = n} {I = I} {s = s} a h = record {
+  size = a .closed .size ∙ sym (a .given .size);
+  within = omega (arith, a .pos, a .given .size);
+  free = λ j l. subst (λ (m : ℕ). getD (s .closers) j m ≡ m) (sym (a .given .size)) (a .closed .free j l);
+  most = λ j. subst (λ (m : ℕ). getD (s .closers) j m ≤ m) (sym (a .given .size)) (a .closed .few j);
+}
+
+abbrev Low : ℕ → State → State → Type 0
+Low n v s = (j : ℕ) → j < s .pos → getD (v .closers) j n ≡ getD (s .closers) j n
+
+module _ {X t : List ℕ} {n : ℕ} {K : List ℕ} {p u : ℕ} {I : Input} {s : State} (d : ℕ) (a : At X t n K p u I s) (h : p ≤ n) where
+  at-n : (v : State) → Low (length (I .es)) v s → Low n v s
+  at-n v l j k = subst (λ (m : ℕ). getD (v .closers) j m ≡ getD (s .closers) j m) (a .given .size) (l j k)
+
+  rows-low : {A : Option Rows} {v : State} → rowsAt X t n d I s ≡ (A, v) → Low n v s
+  rows-low {v = v} r = at-n v (subst (λ (w : Option Rows × State). Low (length (I .es)) (w .1) s) r (nextMatrixRows-pairs (I .text) (I .es) (readers d I) (level-good (I .text) (I .es) (256 - d)) .run s (fit-of a h) .low))
+
+  items-low : (f : ℕ) (until : Option Entry) (stop : Bool) {l : Nodes} {v : State} → itemsFrom d f until stop none I s ≡ (l, v) → Low n v s
+  items-low f until stop {l} {v} r = at-n v (go (intermediateAt d stop true I s) refl)
+    where
+      go : (q : Option Node × State) → intermediateAt d stop true I s ≡ q → Low (length (I .es)) v s
+      go (none, w) k =
+          let one = nextIntermediate-pairs (I .text) (I .es) (readers d I) (level-good (I .text) (I .es) (256 - d)) (stopOf stop) true .run s (fit-of a h) in
+          let same : _≡_ {A = Nodes × State} (end, w) (l, v) = sym (bind _ _ s k ∙ ret _ _) ∙ r in
+          subst (λ (z : Nodes × State). Low (length (I .es)) (z .1) s) same (subst (λ (z : Option Node × State). Low (length (I .es)) (z .1) s) k (one .low))
+      go (some x, w) k =
+          let one = subst (λ (z : Option Node × State). Pairing (I .text) (I .es) s (z .1)) k (nextIntermediate-pairs (I .text) (I .es) (readers d I) (level-good (I .text) (I .es) (256 - d)) (stopOf stop) true .run s (fit-of a h)) in
+          let two = intermediates-pairs (I .text) (I .es) (readers d I) (level-good (I .text) (I .es) (256 - d)) f until (stopOf stop) (some x) .run w (one .fit) in
+          let e = itemsAt d f until stop (some x) I w in
+          let same : _≡_ {A = Nodes × State} (x ▸ e .0, e .1) (l, v) = sym (bind _ _ s k ∙ bind _ _ w refl ∙ ret _ _) ∙ r in
+          subst (λ (z : Nodes × State). Low (length (I .es)) (z .1) s) same (λ j b. two .low j (omega (arith, one .on)) ∙ one .low j b)
+
+-- "One cell left after that is no matrix."
+one-cell : (k c : ℕ) → (ltb 1 k || (eqb k 0 && ltb 1 c)) ≡ ltb 1 (cond (eqb k 0) c k)
+one-cell k c = go (eqb k 0) refl
+  where
+    or-false : (b : Bool) → (b || false) ≡ b
+    or-false true = refl
+    or-false false = refl
+
+    go : (b : Bool) → eqb k 0 ≡ b → (ltb 1 k || (b && ltb 1 c)) ≡ ltb 1 (cond b c k)
+    go true e = let z : k ≡ 0 = eqb-true k 0 e in ap (λ (m : ℕ). ltb 1 m || ltb 1 c) z
+    go false e = or-false (ltb 1 k)
+
+cells-are : (I : Input) (h : Row) (others : List Nodes) (more : Bool) {cols kept : ℕ} → Counts I cols kept (h .cells) → 1 ≤ cols → Behind more others → ltb 1 ((splitColumnLines (I .text) (I .es) (record { head = h; others = others })) .1) ≡ ltb 1 (cellsLeft true more cols kept)
+cells-are I h [] false {cols} {kept} c k b = single (I .text) (I .es) h ∙ one-cell (keptCols (lineCells (I .text) (I .es) (h .cells))) (count (h .cells)) ∙ sym (rw (c .number, c .kept′))
+cells-are I h [] true c k b = absurd b
+cells-are I h (q ∷ qs) false c k b = absurd b
+cells-are I h (q ∷ qs) true c k b = many (I .text) (I .es) h q qs (omega (arith, c .number)) b
+
+matrix-grouped : (X t : List ℕ) (n : ℕ) (I : Input) (r : Rows) (a b : Span) → Grouped X t n I ((splitColumnLines (I .text) (I .es) r) .0 a b)
+unfolding splitColumnLines endsOperand look isBarSymbol
+matrix-grouped X t n I r a b = go (eqb (keptCols (lineCols (I .text) (I .es) (r .head .cells) (r .others))) 0) refl (eqb (keptCols (lineCols (I .text) (I .es) (r .head .cells) (r .others))) (count (r .head .cells))) refl
+  where
+    go : (x : Bool) → eqb (keptCols (lineCols (I .text) (I .es) (r .head .cells) (r .others))) 0 ≡ x → (y : Bool) → eqb (keptCols (lineCols (I .text) (I .es) (r .head .cells) (r .others))) (count (r .head .cells)) ≡ y → Grouped X t n I ((splitColumnLines (I .text) (I .es) r) .0 a b)
+    go true e y e′ = record { ends = rw (splitColumnLines, e); bar = rw (splitColumnLines, e) }
+    go false e true e′ = record { ends = rw (splitColumnLines, e, e′); bar = rw (splitColumnLines, e, e′) }
+    go false e false e′ = record { ends = rw (splitColumnLines, e, e′); bar = rw (splitColumnLines, e, e′) }
+
+makes-none : (X t K : List ℕ) (n i l p : ℕ) → makesAt X t K n i l 0 p ≡ true → ⊥
+unfolding makesAt
+makes-none X t K n i l p h = go (ltb p n) (setAt X t K l p) h
+  where
+    go : (a b : Bool) → cond a (cond b false false) false ≡ true → ⊥
+    go true true k = let z : _≡_ {A = ℕ} 0 1 = cc in omega arith
+    go true false k = let z : _≡_ {A = ℕ} 0 1 = cc in omega arith
+    go false b k = let z : _≡_ {A = ℕ} 0 1 = cc in omega arith
+
+lost-moves : {n : ℕ} {K L N : List ℕ} {c d : Cursor} (i : ℕ) → c .pos ≤ n → Moves 0 n K L c d → N ≡ gaveUp i 4 (c .pos) (d .pos) L → Moves 0 n K N c (rewound (c .pos) d)
+lost-moves {L = L} i h mv g = record { within = h; on = omega arith; depth = mv .depth; kept = kept-trans (mv .kept) (rw g (kept-trans (marks-kept L i _) (cleared-kept _ _ _))) }
+
+-- the attempt at a matrix
+no-some : {X t : List ℕ} {n : ℕ} {I : Input} (x : Node) → _≡_ {A = Option Node} none (some x) → Grouped X t n I x
+no-some x h = let z : _≡_ {A = ℕ} 0 1 = cc in absurd (omega arith)
+
+same-node : {x y : Node} → _≡_ {A = Option Node} (some x) (some y) → x ≡ y
+same-node h = cc
+
+module _ {X t : List ℕ} {n : ℕ} {K : List ℕ} (i : ℕ) (c : Cursor) (inside : i < n) (before : i < c .pos) (here-n : c .pos ≤ n) (few : n ≤ 4096) (fit : recordWords n ≤ length K) where
+  pub try-shut : couldBeMatrixAt X t K n i ≡ false → TryMatrix X t n K K i c (record { cur = c; made = false })
+  unfolding tryMatrix
+  try-shut h = record {
+    moves = record { within = here-n; on = omega arith; depth = refl; kept = kept-refl K };
+    means = λ I s at en there. record { answer = none; state = s; runs = if-false _ _ s (gate-is (at .given) inside there ∙ h) ∙ ret _ _; at = at; besides = (refl, λ x z. no-some x z) };
+  }
+
+  module _ (gate : couldBeMatrixAt X t K n i ≡ true) where
+    pub try-known : isMarked (marksOf K i) 4 ≡ true → TryMatrix X t n K K i c (record { cur = c; made = false })
+    unfolding tryMatrix
+    try-known h = record {
+      moves = record { within = here-n; on = omega arith; depth = refl; kept = kept-refl K };
+      means = λ I s at en there. record { answer = none; state = s; runs = if-true _ _ s (gate-is (at .given) inside there ∙ gate) ∙ attempt-known (I .text) (I .es) matrixMark i _ s (sym (mark-is matrixMark i (at .marks) inside) ∙ h); at = at; besides = (refl, λ x z. no-some x z) };
+    }
+
+    module _ (new : isMarked (marksOf K i) 4 ≡ false) (L : List ℕ) (d : Cursor) (mv : Moves 0 n K L c d) where
+      lost-runs : {N : List ℕ} {I : Input} {s u : State} {en : Entry} → At X t n K (c .pos) (c .takes) I s → getElem? (I .es) i ≡ some en → matrixBody (I .text) (I .es) true (readers (c .depth) I) en i s ≡ (lost, u)
+          → At X t n L (d .pos) (d .takes) I u → Low n u s → N ≡ gaveUp i 4 (c .pos) (d .pos) L
+          → Gives X t n N (tryMatrix (I .text) (I .es) true (readers (c .depth) I) en i) (λ a. (false ≡ isSome a) × ((x : Node) → a ≡ some x → Grouped X t n I x)) I s (rewound (c .pos) d)
+      unfolding tryMatrix
+      lost-runs {I = I} {s = s} at there run at2 low g = record {
+        answer = none;
+        state = _;
+        runs = if-true _ _ s (gate-is (at .given) inside there ∙ gate) ∙ attempt-lost (I .text) (I .es) matrixMark i _ s (sym (mark-is matrixMark i (at .marks) inside) ∙ new) run;
+        at = at-lost matrixMark i at2 at inside (omega (arith, mv .kept .long)) low g;
+        besides = (refl, λ x z. no-some x z);
+      }
+
+    module _ (new : isMarked (marksOf K i) 4 ≡ false) (L : List ℕ) (g : rows.Rows) (p : MatrixRows X t n K L c g) where
+      pub try-broken : {N : List ℕ} → g .done ≡ false → N ≡ gaveUp i 4 (c .pos) (g .cur .pos) L → TryMatrix X t n K N i c (record { cur = rewound (c .pos) (g .cur); made = false })
+      unfolding matrixBody
+      try-broken h gu = record {
+        moves = lost-moves i here-n (p .0) gu;
+        means = λ I s at en there.
+            let q = (rw h at (p .1)) I s at in
+            lost-runs new L (g .cur) (p .0) at there (bind _ _ s (q .runs) ∙ ret _ _) (q .at) (rows-low (c .depth) at here-n (q .runs)) gu;
+      }
+
+      module _ (h : g .done ≡ true) where
+        pub try-unmade : {N : List ℕ} → makesAt X t L n i (c .pos) (cellsLeft true (g .more) (g .cols) (g .kept)) (g .cur .pos) ≡ false → N ≡ gaveUp i 4 (c .pos) (g .cur .pos) L → TryMatrix X t n K N i c (record { cur = rewound (c .pos) (g .cur); made = false })
+        unfolding matrixBody
+        try-unmade k gu = record {
+          moves = lost-moves i here-n (p .0) gu;
+          means = λ I s at en there.
+              let b = rw h at (p .1) in
+              let q = b .2 I s at in
+              let m : makesMatrix (I .text) (I .es) en i (q .rows) (q .state .pos) ≡ false = ap (makesMatrix (I .text) (I .es) en i (q .rows)) (sym (q .at .pos)) ∙ makes-is (q .at .given) inside there (cellsLeft true (g .more) (g .cols) (g .kept)) (q .rows) (g .cur .pos) (b .1) (q .left) (cells-are I (q .rows .head) (q .rows .others) (g .more) (q .counts) (b .0) (q .behind)) ∙ k in
+              lost-runs new L (g .cur) (p .0) at there (bind _ _ s (q .runs) ∙ bind _ _ _ (at-here (q .state)) ∙ if-false _ _ _ m ∙ ret _ _) (q .at) (rows-low (c .depth) at here-n (q .runs)) gu;
+        }
+
+        pub try-made : {J : List ℕ} → makesAt X t L n i (c .pos) (cellsLeft true (g .more) (g .cols) (g .kept)) (g .cur .pos) ≡ true → J ≡ withCloser L i (n - g .cur .pos) → TryMatrix X t n K J i c (record { cur = onward (g .cur); made = true })
+        unfolding tryMatrix matrixBody
+        try-made {J} k hj =
+            let l : g .cur .pos < n = makes-below X t L n i (c .pos) (cellsLeft true (g .more) (g .cols) (g .kept)) (g .cur .pos) k in
+            record {
+              moves = record { within = omega arith; on = omega (arith, p .0 .on); depth = p .0 .depth; kept = kept-trans (p .0 .kept) (rw hj (closer-kept L i _)) };
+              means = λ I s at en there.
+                  let b = rw h at (p .1) in
+                  let q = b .2 I s at in
+                  let u = took-any (q .at) l in
+                  let m : makesMatrix (I .text) (I .es) en i (q .rows) (q .state .pos) ≡ true = ap (makesMatrix (I .text) (I .es) en i (q .rows)) (sym (q .at .pos)) ∙ makes-is (q .at .given) inside there (cellsLeft true (g .more) (g .cols) (g .kept)) (q .rows) (g .cur .pos) (b .1) (q .left) (cells-are I (q .rows .head) (q .rows .others) (g .more) (q .counts) (b .0) (q .behind)) ∙ k in
+                  record {
+                    answer = some ((splitColumnLines (I .text) (I .es) (q .rows)) .0 (en .span) (u .0 .entry .span));
+                    state = shut i (tick (q .state));
+                    runs = if-true _ _ s (gate-is (at .given) inside there ∙ gate) ∙ attempt-made (I .text) (I .es) matrixMark i _ s (sym (mark-is matrixMark i (at .marks) inside) ∙ new) _
+                        (bind _ _ s (q .runs) ∙ bind _ _ _ (at-here (q .state)) ∙ if-true _ _ _ m ∙ bind _ _ _ (u .1) ∙ ret-closed _ _ _);
+                    at = at-shut i (g .cur .pos) (at-tick (q .at)) (omega (arith, p .0 .on)) refl (omega arith) few (omega (arith, p .0 .kept .long)) hj;
+                    besides = (refl, λ x z. subst (λ (y : Node). Grouped X t n I y) (same-node z) (matrix-grouped X t n I (q .rows) (en .span) (u .0 .entry .span)));
+                  };
+            }
+
+    -- by the flag
+    module _ (new : isMarked (marksOf K i) 4 ≡ false) (L : List ℕ) (g : rows.Rows) (p : MatrixRows X t n K L c g) where
+      pub try-lost : {N : List ℕ} → makesAt X t L n i (c .pos) (cellsLeft (g .done) (g .more) (g .cols) (g .kept)) (g .cur .pos) ≡ false → N ≡ gaveUp i 4 (c .pos) (g .cur .pos) L → TryMatrix X t n K N i c (record { cur = rewound (c .pos) (g .cur); made = false })
+      try-lost {N} k gu = go (g .done) refl
+        where
+          go : (b : Bool) → g .done ≡ b → TryMatrix X t n K N i c (record { cur = rewound (c .pos) (g .cur); made = false })
+          go true e = try-unmade new L g p e (rw e at k) gu
+          go false e = try-broken new L g p e gu
+
+      pub try-found : {J : List ℕ} → makesAt X t L n i (c .pos) (cellsLeft (g .done) (g .more) (g .cols) (g .kept)) (g .cur .pos) ≡ true → J ≡ withCloser L i (n - g .cur .pos) → TryMatrix X t n K J i c (record { cur = onward (g .cur); made = true })
+      try-found {J} k hj = go (g .done) refl
+        where
+          go : (b : Bool) → g .done ≡ b → TryMatrix X t n K J i c (record { cur = onward (g .cur); made = true })
+          go true e = try-made new L g p e (rw e at k) hj
+          go false e = absurd (makes-none X t L n i (c .pos) (g .cur .pos) (rw e at k))
+
+-- a group
+module _ {X t : List ℕ} {n : ℕ} {K L : List ℕ} (i : ℕ) {c : Cursor} {g : Items} (inside : i < n) (before : i < c .pos) (few : n ≤ 4096) (fit : recordWords n ≤ length K) (p : Intermediates X t n K L n false true true c g) where
+  pub group-shut : {J : List ℕ} → testAt t L n (isKind 21) (g .cur .pos) ≡ true → J ≡ withCloser L i (n - g .cur .pos) → OpenGroup X t n K J i c (onward (g .cur))
+  unfolding nextOpenGroup endsOperand look isBarSymbol prefixes
+  group-shut {J} h hj =
+      let b : g .cur .pos < n = test-below t L n (isKind 21) (g .cur .pos) h in
+      record {
+        moves = record { within = omega arith; on = omega (arith, p .moves .on); depth = p .moves .depth; kept = kept-trans (p .moves .kept) (rw hj (closer-kept L i _)) };
+        means = λ I s at en there.
+            let q = whole-items p (omega arith) I s at none refl refl in
+            let u = took (isKind 21) (q .at) (same-is token.CloseBracket) h in
+            record {
+              answer = node (Head.group (en .span) (u .0 .entry .span)) (q .answer);
+              state = shut i (tick (q .state));
+              runs = bind _ _ s (q .runs) ∙ bind _ _ _ (u .1) ∙ ret-closed _ _ _;
+              at = at-shut i (g .cur .pos) (at-tick (q .at)) (omega (arith, p .moves .on)) refl (omega arith) few (omega (arith, p .moves .kept .long)) hj;
+              besides = record { ends = refl; bar = refl };
+            };
+      }
+
+  pub group-open : testAt t L n (isKind 21) (g .cur .pos) ≡ false → OpenGroup X t n K L i c (seen n (g .cur))
+  unfolding nextOpenGroup endsOperand look isBarSymbol prefixes
+  group-open h = record {
+    moves = record { within = p .moves .within; on = p .moves .on; depth = p .moves .depth; kept = p .moves .kept };
+    means = λ I s at en there.
+        let q = whole-items p (omega arith) I s at none refl refl in
+        let u = passed (isKind 21) (q .at) (same-is token.CloseBracket) h in
+        record { answer = node (Head.group (en .span) nowhere) (q .answer); state = u .state; runs = bind _ _ s (q .runs) ∙ bind _ _ _ (u .runs) ∙ ret _ _; at = u .at; besides = record { ends = refl; bar = refl } };
+  }
+
+-- a bar alone
+alone : {X t : List ℕ} {n : ℕ} {J : List ℕ} {I : Input} {i : ℕ} {en : Entry} (d : Cursor) → i < n → Given X t n J I → getElem? (I .es) i ≡ some en → Bracketed X t n I (record { cur = d; some = true; ends = leafEnds 22; bar = leafBar X t J i 22 }) (glyphOf en)
+unfolding endsOperand look atomEnds isBarSymbol leafBar
+alone {I = I} {en = en} d inside g there = record { ends = refl; bar = sym (byte-at (I .text) (I .es) 124 en (g .text) (row-of g inside there)) }
+
+-- a bar
+more-none : (l : Nodes) → false ≡ isMore l → l ≡ end
+more-none end h = refl
+more-none (x ▸ l) h = let z : _≡_ {A = ℕ} 0 1 = cc in absurd (omega arith)
+
+record More (l : Nodes) : Type 0 where
+  pub head : Node
+  pub rest : Nodes
+  pub is : l ≡ head ▸ rest
+
+more-some : (l : Nodes) → true ≡ isMore l → More l
+more-some end h = let z : _≡_ {A = ℕ} 0 1 = cc in absurd (omega arith)
+more-some (x ▸ l) h = record { head = x; rest = l; is = refl }
+
+module _ {X t : List ℕ} {n : ℕ} {K : List ℕ} (i : ℕ) (stop : Bool) {c : Cursor} (inside : i < n) (before : i < c .pos) (here-n : c .pos ≤ n) (few : n ≤ 4096) (fit : recordWords n ≤ length K) where
+  pub bars-known : isMarked (marksOf K i) (entry.openMark stop) ≡ true → Bars X t n K K i stop c (record { cur = c; some = true; ends = leafEnds 22; bar = leafBar X t K i 22 })
+  bars-known h = (
+    refl,
+    record {
+      moves = record { within = here-n; on = omega arith; depth = refl; kept = kept-refl K };
+      means = λ I s at en there. record { answer = glyphOf en; state = s; runs = bind _ _ s (attempt-known (I .text) (I .es) (openMark (stopOf stop)) i _ s (open-known i stop true at inside h)) ∙ ret _ _; at = at; besides = alone c inside (at .given) there };
+    },
+  )
+
+  module _ {J : List ℕ} {g : Items} (h : isMarked (marksOf K i) (entry.openMark stop) ≡ false) (p : Intermediates X t n K J i stop true true c g) where
+    pub bars-nought : g .some ≡ false → Bars X t n K J i stop c (record { cur = g .cur; some = true; ends = leafEnds 22; bar = leafBar X t J i 22 })
+    unfolding prefixes
+    bars-nought hc = (
+      refl,
+      record {
+        moves = p .moves;
+        means = λ I s at en there.
+            let q = p .means I s at (suc (length (I .es))) (omega (arith, at .given .size)) (some en) (inside, there) none refl refl in
+            let body : barBody (I .text) (I .es) true (readers (c .depth) I) en i (stopOf stop) s ≡ (nought, q .state) = bar-body I (c .depth) i en stop s (q .runs) ∙ ap (λ (l : Nodes). barEnd I i en l (q .state)) (more-none (q .answer) (sym hc ∙ q .besides .some)) ∙ ret _ _ in
+            record { answer = glyphOf en; state = q .state; runs = bind _ _ s (attempt-nought (I .text) (I .es) (openMark (stopOf stop)) i _ s (open-known i stop false at inside h) body) ∙ ret _ _; at = q .at; besides = alone (g .cur) inside (q .at .given) there };
+      },
+    )
+
+    module _ (hc : g .some ≡ true) where
+      pub bars-made : {N : List ℕ} → barAt X t J n i (g .cur .pos) ≡ true → N ≡ withCloser J i (n - g .cur .pos) → Bars X t n K N i stop c (operationAt (onward (g .cur)))
+      unfolding endsOperand look isBarSymbol prefixes any
+      bars-made {N} hm hn =
+          let l : g .cur .pos < n = bar-below X t J n i (g .cur .pos) hm in (
+            refl,
+            record {
+              moves = record { within = omega arith; on = omega (arith, p .moves .on); depth = p .moves .depth; kept = kept-trans (p .moves .kept) (rw hn (closer-kept J i _)) };
+              means = λ I s at en there.
+                  let q = p .means I s at (suc (length (I .es))) (omega (arith, at .given .size)) (some en) (inside, there) none refl refl in
+                  let k = more-some (q .answer) (sym hc ∙ q .besides .some) in
+                  let st = q .at .given .stands (g .cur .pos) l in
+                  let m : isAt (I .text) (I .es) (isBar (I .text) (I .es) en) (q .state .pos) ≡ true = ap (isAt (I .text) (I .es) (isBar (I .text) (I .es) en)) (sym (q .at .pos)) ∙ bar-is i (g .cur .pos) en (q .at .given) inside there ∙ hm in
+                  let adv = advance-took (I .text) (I .es) any (q .state) (st .entry) (ap (λ (k : ℕ). getElem? (I .es) k) (sym (q .at .pos)) ∙ st .there) refl in
+                  let body : barBody (I .text) (I .es) true (readers (c .depth) I) en i (stopOf stop) s ≡ (made (node (Head.group (en .span) (st .entry .span)) (k .head ▸ k .rest)), shut i (tick (q .state))) =
+                  bar-body I (c .depth) i en stop s (q .runs) ∙ ap (λ (l : Nodes). barEnd I i en l (q .state)) (k .is) ∙ bind _ _ _ (at-here (q .state)) ∙ if-true _ _ _ m ∙ bind _ _ _ adv ∙ ret-closed _ _ _ in
+                  record {
+                    answer = node (Head.group (en .span) (st .entry .span)) (k .head ▸ k .rest);
+                    state = shut i (tick (q .state));
+                    runs = bind _ _ s (attempt-made (I .text) (I .es) (openMark (stopOf stop)) i _ s (open-known i stop false at inside h) (node (Head.group (en .span) (st .entry .span)) (k .head ▸ k .rest)) body) ∙ ret _ _;
+                    at = at-shut i (g .cur .pos) (at-tick (q .at)) (omega (arith, p .moves .on)) refl (omega arith) few (omega (arith, p .moves .kept .long)) hn;
+                    besides = record { ends = refl; bar = refl };
+                  };
+            },
+          )
+
+      pub bars-lost : {N : List ℕ} → barAt X t J n i (g .cur .pos) ≡ false → N ≡ gaveUp i (entry.openMark stop) (c .pos) (g .cur .pos) J → Bars X t n K N i stop c (record { cur = rewound (c .pos) (g .cur); some = true; ends = leafEnds 22; bar = leafBar X t N i 22 })
+      unfolding prefixes
+      bars-lost {N} hm gu₀ =
+          let gu : N ≡ gaveUp i (markNumber (openMark (stopOf stop))) (c .pos) (g .cur .pos) J = subst (λ (m : ℕ). N ≡ gaveUp i m (c .pos) (g .cur .pos) J) (sym (number-open stop)) gu₀ in (
+            refl,
+            record {
+              moves = record { within = here-n; on = omega arith; depth = p .moves .depth; kept = kept-trans (p .moves .kept) (rw gu (kept-trans (marks-kept J i _) (cleared-kept _ _ _))) };
+              means = λ I s at en there.
+                  let q = p .means I s at (suc (length (I .es))) (omega (arith, at .given .size)) (some en) (inside, there) none refl refl in
+                  let k = more-some (q .answer) (sym hc ∙ q .besides .some) in
+                  let m : isAt (I .text) (I .es) (isBar (I .text) (I .es) en) (q .state .pos) ≡ false = ap (isAt (I .text) (I .es) (isBar (I .text) (I .es) en)) (sym (q .at .pos)) ∙ bar-is i (g .cur .pos) en (q .at .given) inside there ∙ hm in
+                  let at2 = at-lost (openMark (stopOf stop)) i (q .at) at inside (omega (arith, p .moves .kept .long)) (items-low (c .depth) at here-n (suc (length (I .es))) (some en) stop (q .runs)) gu in
+                  let body : barBody (I .text) (I .es) true (readers (c .depth) I) en i (stopOf stop) s ≡ (lost, q .state) =
+                  bar-body I (c .depth) i en stop s (q .runs) ∙ ap (λ (l : Nodes). barEnd I i en l (q .state)) (k .is) ∙ bind _ _ _ (at-here (q .state)) ∙ if-false _ _ _ m ∙ ret _ _ in
+                  record {
+                    answer = glyphOf en;
+                    state = record { pos = s .pos; takes = q .state .takes; marks = set (q .state .marks) (slot (openMark (stopOf stop)) i) true; closers = s .closers };
+                    runs = bind _ _ s (attempt-lost (I .text) (I .es) (openMark (stopOf stop)) i _ s (open-known i stop false at inside h) body) ∙ ret _ _;
+                    at = at2;
+                    besides = alone (rewound (c .pos) (g .cur)) inside (at2 .given) there;
+                  };
+            },
+          )
+
+-- a matrix, or else what the bracket opens
+matrix-runs : (b : Bool) (d : ℕ) (stop : Bool) (i : ℕ) (I : Input) (en : Entry) (s u : State) (a : Node) → tryMatrix (I .text) (I .es) true (readers d I) en i s ≡ (some a, u) → bracketAt b d stop i I en s ≡ (a, u)
+unfolding nextBracket nextOpenCloseGroup
+matrix-runs true d stop i I en s u a h = bind _ _ s h ∙ ret _ _
+matrix-runs false d stop i I en s u a h = bind _ _ s h ∙ ret _ _
+
+module _ {X t : List ℕ} {n : ℕ} {K L : List ℕ} (i k : ℕ) (stop : Bool) {c : Cursor} {g : Tried} (p : TryMatrix X t n K L i c g) where
+  pub bracket-matrix : g .made ≡ true → Bracket X t n K L i k stop c (operationAt (g .cur))
+  bracket-matrix h = (
+    refl,
+    record {
+      moves = p .moves;
+      means = λ I s at en there.
+          let q = p .means I s at en there in
+          let z = got (q .answer) (sym h ∙ q .besides .0) in
+          let w = q .besides .1 (z .node) (z .is) in
+          record { answer = z .node; state = q .state; runs = matrix-runs (eqb k 20) (c .depth) stop i I en s (q .state) (z .node) (runs-as (q .runs) (z .is)); at = q .at; besides = record { ends = w .ends; bar = w .bar } };
+    },
+  )
+
+  module _ {J : List ℕ} (h : g .made ≡ false) where
+    pub bracket-group : {d : Cursor} → k ≡ 20 → OpenGroup X t n L J i (g .cur) d → Bracket X t n K J i k stop c (operationAt d)
+    unfolding nextBracket
+    bracket-group {d} e p2 = rw (eq-eqb k 20 e) (
+      refl,
+      record {
+        moves = record { within = p2 .moves .within; on = omega (arith, p .moves .on, p2 .moves .on); depth = p2 .moves .depth ∙ p .moves .depth; kept = kept-trans (p .moves .kept) (p2 .moves .kept) };
+        means = λ I s at en there.
+            let q = p .means I s at en there in
+            let z = lack (q .answer) (sym h ∙ q .besides .0) in
+            let q2 = rw (p .moves .depth) at (p2 .means I (q .state) (q .at) en there) in
+            record { answer = q2 .answer; state = q2 .state; runs = bind _ _ s (runs-as (q .runs) z) ∙ q2 .runs; at = q2 .at; besides = record { ends = q2 .besides .ends; bar = q2 .besides .bar } };
+      },
+    )
+
+    pub bracket-bars : {j : Part} → (k ≡ 20 → ⊥) → Bars X t n L J i stop (g .cur) j → Bracket X t n K J i k stop c j
+    unfolding nextOpenCloseGroup
+    bracket-bars {j} e p2 = rw (ne-eqb k 20 e) (
+      p2 .0,
+      record {
+        moves = record { within = p2 .1 .moves .within; on = omega (arith, p .moves .on, p2 .1 .moves .on); depth = p2 .1 .moves .depth ∙ p .moves .depth; kept = kept-trans (p .moves .kept) (p2 .1 .moves .kept) };
+        means = λ I s at en there.
+            let q = p .means I s at en there in
+            let z = lack (q .answer) (sym h ∙ q .besides .0) in
+            let q2 = rw (p .moves .depth) at (p2 .1 .means I (q .state) (q .at) en there) in
+            record { answer = q2 .answer; state = q2 .state; runs = bind _ _ s (runs-as (q .runs) z) ∙ q2 .runs; at = q2 .at; besides = record { ends = q2 .besides .ends; bar = q2 .besides .bar } };
+      },
+    )

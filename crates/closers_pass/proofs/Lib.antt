@@ -1,0 +1,10 @@
+pub mod Kit
+pub mod Simple
+pub mod Begins
+pub mod Alone
+pub mod Loop
+pub mod Cells
+pub mod Rows
+pub mod Barred
+pub mod Tops
+pub mod Records

@@ -1,0 +1,300 @@
+-- The loop over a matrix's rows.
+use Prim.Native.Nat.{ℕ, zero, suc, _+_, _*_, _-_, _≤_, _<_}
+use mathlib.Core.Path.{_≡_, refl, sym, ap, _∙_, subst}
+use mathlib.Core.List.{List, [], _∷_, _++_, append-nil, append-assoc}
+use mathlib.Core.Option.{Option, none, some}
+use mathlib.Core.Bool.{Bool, true, false, cond, _&&_, _||_}
+use native.Mathlib.Omega.{arith}
+use lib.ListN.{length, getElem?}
+use lib.Dec.{eqb, ltb}
+use borrow.Author.Tests.{ltb-true, ltb-false, eqb-true, ne-eqb, eq-eqb}
+use Rattle.tokens.specs.declared.token.Token.{Token}
+use Rattle.tokens.specs.declared.token.Token.the-variants as token
+use Rattle.tokens.specs.Kinds.{numberOf}
+use Rattle.tokens.specs.Bytes.{same}
+use Rattle.tree.specs.Tree.{Nodes, end, count}
+use Rattle.reading.specs.Entries.{Entry, is}
+use Rattle.reading.specs.Reading.{State, M, Readers, return, any, advance, isAt, nextMatrixRow, moreRows, nextMatrixRows, rowBrackets, alike}
+use Rattle.reading.specs.Reading as reading
+use Rattle.lookahead.specs.Tests.{testAt, isKind}
+use Rattle.lookahead.proofs.Testing.{test-below}
+use Rattle.spans.specs.Spans.{sameAt, byteAt}
+use Rattle.rows.specs.Rows as entry
+use Rattle.closers_pass.specs.declared.cursor.Cursor.{Cursor}
+use Rattle.closers_pass.specs.declared.cursor.Cells.{Cells}
+use Rattle.closers_pass.specs.declared.cursor.Others as code
+use Rattle.reading_words.specs.Meet.{Input, Given, readers}
+use Rattle.closers_pass.specs.Meet.{At, Moves, Each, onward}
+use Rattle.closers_pass.specs.Matrix.{Counts, Behind, Fails, HasRow, Ended, rowAt, MatrixRow, First, HasRows, moreAt, MoreRows, MoreRows′, HasMatrix, rowsAt, MatrixRows, MatrixRows′}
+use Rattle.stores.proofs.Stores.{kept-refl, kept-trans}
+use Rattle.reading_words.proofs.Kit.{bind, ret, at-here, if-true, if-false, tick, row-of, past, at-some, at-none, test-in, test-out, same-is}
+use Rattle.closers_pass.proofs.Kit.{at-tick}
+use Rattle.closers_pass.proofs.Begins.{byte-at}
+use Rattle.closers_pass.proofs.Loop.{same-text}
+use Rattle.closers_pass.proofs.Cells.{took-any}
+
+-- The code's tests, as the definition's.
+pub is-at-is : {X t : List ℕ} {n : ℕ} {K : List ℕ} {I : Input} (k : Token) (p : ℕ) → Given X t n K I → isAt (I .text) (I .es) (is k) p ≡ testAt t K n (isKind (numberOf k)) p
+is-at-is {X} {t} {n} {K} {I} k p g = go (ltb p n) refl
+  where
+    go : (b : Bool) → ltb p n ≡ b → isAt (I .text) (I .es) (is k) p ≡ testAt t K n (isKind (numberOf k)) p
+    go true e =
+        let l : p < n = ltb-true p n e in
+        let q = g .stands p l in
+        at-some (I .text) (I .es) (is k) p (q .entry) (q .there) ∙ same-is k (q .entry) ∙ ap (λ (w : ℕ). eqb w (numberOf k)) (sym (q .row .kind)) ∙ sym (test-in t K n (isKind (numberOf k)) p l)
+    go false e = at-none (I .text) (I .es) (is k) p (past (I .es) p (omega (arith, ltb-false p n e, g .size))) ∙ sym (test-out t K n (isKind (numberOf k)) p (ltb-false p n e))
+
+one-byte : (s : List ℕ) (a b : ℕ) → (a ≡ b → ⊥) → same s (a ∷ []) ≡ true → same s (b ∷ []) ≡ false
+unfolding same
+one-byte [] a b d h = refl
+one-byte (c ∷ s) a b d h = go (eqb c a) refl h
+  where
+    go : (q : Bool) → eqb c a ≡ q → (q && same s []) ≡ true → (eqb c b && same s []) ≡ false
+    go true e k = let z : eqb c b ≡ false = ne-eqb c b (λ w. d (sym (eqb-true c a e) ∙ w)) in rw z
+    go false e k = let z : _≡_ {A = ℕ} 0 1 = cc in absurd (omega arith)
+
+not-both : (X t K : List ℕ) (i a b : ℕ) → (a ≡ b → ⊥) → byteAt X t K i a ≡ true → byteAt X t K i b ≡ false
+unfolding byteAt
+not-both X t K i a b d h = one-byte _ a b d h
+
+pub brackets-are : {X t : List ℕ} {n : ℕ} {K : List ℕ} {I : Input} {l r : ℕ} (row : reading.Row) → Given X t n K I → l < n → r < n → getElem? (I .es) l ≡ some (row .left) → getElem? (I .es) r ≡ some (row .right)
+    → rowBrackets (I .text) (I .es) row ≡ entry.rowsAt X t K l r
+unfolding rowBrackets entry.rowsAt
+brackets-are {X} {t} {n} {K} {I} {l} {r} row g hl hr tl tr =
+    let a = row-of g hl tl in
+    let b = row-of g hr tr in
+    rw (byte-at (I .text) (I .es) 40 (row .left) (g .text) a, byte-at (I .text) (I .es) 41 (row .right) (g .text) b, byte-at (I .text) (I .es) 91 (row .left) (g .text) a, byte-at (I .text) (I .es) 93 (row .right) (g .text) b)
+    (go (byteAt X t K l 40) (byteAt X t K l 91) (byteAt X t K r 41) (byteAt X t K r 93) (not-both X t K l 40 91 (λ z. omega arith)))
+  where
+    go : (a c b d : Bool) → (a ≡ true → c ≡ false) → ((a && b) || (c && d)) ≡ cond a b (cond c d false)
+    go true true b d h = let z : true ≡ false = h refl in let w : _≡_ {A = ℕ} 0 1 = cc in absurd (omega arith)
+    go true false true d h = refl
+    go true false false d h = refl
+    go false true b true h = refl
+    go false true b false h = refl
+    go false false b d h = refl
+
+pub alike-is : {X t : List ℕ} {n : ℕ} {K : List ℕ} {I : Input} {l r l2 r2 cols k : ℕ} (a b : reading.Row) → Given X t n K I → l < n → r < n → l2 < n → r2 < n → getElem? (I .es) l ≡ some (a .left) → getElem? (I .es) r ≡ some (a .right)
+    → getElem? (I .es) l2 ≡ some (b .left) → getElem? (I .es) r2 ≡ some (b .right) → cols ≡ count (a .cells) → k ≡ count (b .cells) → alike (I .text) (I .es) a b ≡ cond (eqb cols k) (entry.likeAt X t K l r l2 r2) false
+unfolding alike entry.likeAt
+alike-is {X} {t} {n} {K} {I} {l} {r} {l2} {r2} {cols} {k} a b g h1 h2 h3 h4 t1 t2 t3 t4 hc hk =
+    rw (same-text (I .text) (I .es) (a .left) (b .left) (g .text) (row-of g h1 t1) (row-of g h3 t3), same-text (I .text) (I .es) (a .right) (b .right) (g .text) (row-of g h2 t2) (row-of g h4 t4), ← hc, ← hk)
+    (go (sameAt X t K l l2) (eqb cols k) (sameAt X t K r r2))
+  where
+    go : (a b c : Bool) → (a && b && c) ≡ cond b (cond a c false) false
+    go true true c = refl
+    go true false c = refl
+    go false true c = refl
+    go false false c = refl
+
+-- the rows read so far before those to come
+abbrev withRows : List Nodes → Option (List Nodes) × State → Option (List Nodes) × State
+withRows acc (none, u) = (none, u)
+withRows acc (some m, u) = (some (acc ++ m), u)
+
+with-row : (acc : List Nodes) (r : Nodes) (q : Option (List Nodes)) (u : State) → withRows acc (withRows (r ∷ []) (q, u)) ≡ withRows (acc ++ (r ∷ [])) (q, u)
+with-row acc r none u = refl
+with-row acc r (some m) u = ap (λ (w : List Nodes). (some w, u)) (sym (append-assoc acc (r ∷ []) m))
+
+-- one turn of the definition
+module _ (I : Input) (R : Readers) (f : ℕ) (h : reading.Row) (s : State) where
+  turn-done : isAt (I .text) (I .es) (is token.Sep) (s .pos) ≡ false → moreRows (I .text) (I .es) true R (suc f) h s ≡ (some [], s)
+  unfolding moreRows
+  turn-done k = bind _ _ s (at-here s) ∙ if-false _ _ s k ∙ ret _ _
+
+  module _ (k : isAt (I .text) (I .es) (is token.Sep) (s .pos) ≡ true) {e : Entry} {v w : State} (adv : advance (I .text) (I .es) any s ≡ (some e, v)) where
+    turn-broken : nextMatrixRow (I .text) (I .es) true R v ≡ (none, w) → moreRows (I .text) (I .es) true R (suc f) h s ≡ (none, w)
+    unfolding moreRows
+    turn-broken r = bind _ _ s (at-here s) ∙ if-true _ _ s k ∙ bind _ _ s adv ∙ bind _ _ v r ∙ ret _ _
+
+    module _ {row : reading.Row} (r : nextMatrixRow (I .text) (I .es) true R v ≡ (some row, w)) where
+      turn-differs : alike (I .text) (I .es) h row ≡ false → moreRows (I .text) (I .es) true R (suc f) h s ≡ (none, w)
+      unfolding moreRows
+      turn-differs d = bind _ _ s (at-here s) ∙ if-true _ _ s k ∙ bind _ _ s adv ∙ bind _ _ v r ∙ if-false _ _ w d ∙ ret _ _
+
+      turn-more : alike (I .text) (I .es) h row ≡ true → moreRows (I .text) (I .es) true R (suc f) h s ≡ withRows (row .cells ∷ []) (moreRows (I .text) (I .es) true R f h w)
+      unfolding moreRows
+      turn-more d = bind _ _ s (at-here s) ∙ if-true _ _ s k ∙ bind _ _ s adv ∙ bind _ _ v r ∙ if-true _ _ w d ∙ bind _ _ w refl ∙ go (moreRows (I .text) (I .es) true R f h w)
+        where
+          go : (q : Option (List Nodes) × State) → elim (q .0) as (λ _. M (Option (List Nodes))) [ none ↦ return none | some m ↦ return (some (row .cells ∷ m)) ] (q .1) ≡ withRows (row .cells ∷ []) q
+          go (none, z) = ret _ _
+          go (some m, z) = ret _ _
+
+behind-snoc : (more : Bool) (acc : List Nodes) (r : Nodes) → Behind more acc → 1 ≤ count r → Behind true (acc ++ (r ∷ []))
+behind-snoc more [] r h k = k
+behind-snoc true (q ∷ qs) r h k = h
+behind-snoc false (q ∷ qs) r h k = absurd h
+
+-- At the loop's head: the rows read so far, and turns enough for the rest.
+pub record Along (X t : List ℕ) (n : ℕ) (L : List ℕ) (d : ℕ) (I : Input) (h : reading.Row) (s : State) (cur : Cursor) (more : Bool) : Type 0 where
+  pub left : ℕ
+  pub acc : List Nodes
+  pub state : State
+  pub whole : moreAt X t n d h I s ≡ withRows acc (moreRows (I .text) (I .es) true (readers d I) (suc left) h state)
+  pub enough : n - cur .pos ≤ left
+  pub at : At X t n L (cur .pos) (cur .takes) I state
+  pub behind : Behind more acc
+
+pub record Inv (X t : List ℕ) (n : ℕ) (K L : List ℕ) (cols l r : ℕ) (c cur : Cursor) (more : Bool) : Type 0 where
+  pub moves : Moves 0 n K L c cur
+  pub along : Each X t n K c (λ I s. (h : reading.Row) → First X t n I cols l r h → Along X t n L (c .depth) I h s cur more)
+
+module _ {X t : List ℕ} {n : ℕ} {K : List ℕ} (cols l r : ℕ) (c : Cursor) where
+  pub rows-none : c .pos ≤ n → Inv X t n K K cols l r c c false
+  rows-none k = record {
+    moves = record { within = k; on = omega arith; depth = refl; kept = kept-refl K };
+    along = λ I s at h fst. record { left = length (I .es); acc = []; state = s; whole = none-first (moreAt X t n (c .depth) h I s); enough = omega (arith, at .given .size); at = at; behind = tt };
+  }
+    where
+      none-first : (q : Option (List Nodes) × State) → q ≡ withRows [] q
+      none-first (none, u) = refl
+      none-first (some m, u) = refl
+
+  module _ {L : List ℕ} {cur : Cursor} {more : Bool} (i : Inv X t n K L cols l r c cur more) (hl : l < n) (hr : r < n) where
+    pub rows-done : testAt t L n (isKind 3) (cur .pos) ≡ false → MoreRows X t n K L cols l r c (record { cur = cur; done = true; more = more })
+    rows-done k = (
+      i .moves,
+      λ I s at h fst.
+          let a = i .along I s at h fst in
+          record {
+            others = a .acc;
+            state = a .state;
+            runs = a .whole ∙ ap (withRows (a .acc)) (turn-done I (readers (c .depth) I) (a .left) h (a .state) (ap (isAt (I .text) (I .es) (is token.Sep)) (sym (a .at .pos)) ∙ is-at-is token.Sep (cur .pos) (a .at .given) ∙ k)) ∙ ap (λ (w : List Nodes). (some w, a .state)) (append-nil (a .acc));
+            at = a .at;
+            behind = a .behind;
+          },
+    )
+
+    module _ (J : List ℕ) (m j q : ℕ) (d : Cursor) (k : testAt t L n (isKind 3) (cur .pos) ≡ true) where
+      sep-there : {I : Input} {s : State} → At X t n L (cur .pos) (cur .takes) I s → isAt (I .text) (I .es) (is token.Sep) (s .pos) ≡ true
+      sep-there {I} {s} a = ap (isAt (I .text) (I .es) (is token.Sep)) (sym (a .pos)) ∙ is-at-is token.Sep (cur .pos) (a .given) ∙ k
+
+      inside : cur .pos < n
+      inside = test-below t L n (isKind 3) (cur .pos) k
+
+      broken : MatrixRow X t n L J (onward cur) (record { cur = d; count = m; kept = j; shut = false; right = q }) → MoreRows X t n K J cols l r c (record { cur = d; done = false; more = more })
+      broken p = (
+        record { within = p .0 .within; on = omega (arith, p .0 .on, i .moves .on); depth = p .0 .depth ∙ i .moves .depth; kept = kept-trans (i .moves .kept) (p .0 .kept) },
+        λ I s at h fst.
+            let a = i .along I s at h fst in
+            let u = took-any (a .at) inside in
+            let q = rw (i .moves .depth) at (p .1 I (tick (a .state)) (at-tick (a .at))) in
+            record {
+              state = q .state;
+              runs = a .whole ∙ ap (withRows (a .acc)) (turn-broken I (readers (c .depth) I) (a .left) h (a .state) (sep-there (a .at)) (u .1) (q .runs));
+              at = q .at;
+            },
+      )
+
+      module _ (p : MatrixRow X t n L J (onward cur) (record { cur = d; count = m; kept = j; shut = true; right = q })) where
+        alike-row : {I : Input} {s : State} {h : reading.Row} (row : reading.Row) → At X t n J (d .pos) (d .takes) I s → First X t n I cols l r h → getElem? (I .es) (cur .pos + 1) ≡ some (row .left) → getElem? (I .es) q ≡ some (row .right) → m ≡ count (row .cells)
+            → alike (I .text) (I .es) h row ≡ cond (eqb cols m) (entry.likeAt X t J l r (cur .pos + 1) q) false
+        alike-row {I} {s} {h} row a fst tl tr hm = alike-is h row (a .given) hl hr (p .1 .1) (p .1 .0 .inside) (fst .left) (fst .right) tl tr (fst .number) hm
+
+        differ : cond (eqb cols m) (entry.likeAt X t J l r (cur .pos + 1) q) false ≡ false → MoreRows X t n K J cols l r c (record { cur = d; done = false; more = more })
+        differ df = (
+          record { within = p .0 .within; on = omega (arith, p .0 .on, i .moves .on); depth = p .0 .depth ∙ i .moves .depth; kept = kept-trans (i .moves .kept) (p .0 .kept) },
+          λ I s at h fst.
+              let a = i .along I s at h fst in
+              let u = took-any (a .at) inside in
+              let w = rw (i .moves .depth) at (p .1 .2 I (tick (a .state)) (at-tick (a .at))) in
+              record {
+                state = w .state;
+                runs = a .whole ∙ ap (withRows (a .acc)) (turn-differs I (readers (c .depth) I) (a .left) h (a .state) (sep-there (a .at)) (u .1) (w .runs) (alike-row (w .row) (w .at) fst (w .left) (w .right) (w .counts .number) ∙ df));
+                at = w .at;
+              },
+        )
+
+        same-row : cond (eqb cols m) (entry.likeAt X t J l r (cur .pos + 1) q) false ≡ true → Inv X t n K J cols l r c d true
+        same-row sm = record {
+          moves = record { within = p .0 .within; on = omega (arith, p .0 .on, i .moves .on); depth = p .0 .depth ∙ i .moves .depth; kept = kept-trans (i .moves .kept) (p .0 .kept) };
+          along = λ I s at h fst.
+              let a = i .along I s at h fst in
+              let u = took-any (a .at) inside in
+              let w = rw (i .moves .depth) at (p .1 .2 I (tick (a .state)) (at-tick (a .at))) in
+              let l1 : a .left ≡ suc (a .left - 1) = omega (arith, a .enough, inside) in
+              let R = readers (c .depth) I in
+              let rest = moreRows (I .text) (I .es) true R (a .left) h (w .state) in
+              record {
+                left = a .left - 1;
+                acc = a .acc ++ (w .row .cells ∷ []);
+                state = w .state;
+                whole = a .whole ∙ ap (withRows (a .acc)) (turn-more I R (a .left) h (a .state) (sep-there (a .at)) (u .1) (w .runs) (alike-row (w .row) (w .at) fst (w .left) (w .right) (w .counts .number) ∙ sm))
+                    ∙ with-row (a .acc) (w .row .cells) (rest .0) (rest .1)
+                    ∙ ap (λ (m : ℕ). withRows (a .acc ++ (w .row .cells ∷ [])) (moreRows (I .text) (I .es) true R m h (w .state))) l1;
+                enough = omega (arith, l1, a .enough, p .0 .on);
+                at = w .at;
+                behind = behind-snoc more (a .acc) (w .row .cells) (a .behind) (omega (arith, p .1 .0 .some, w .counts .number));
+              };
+        }
+
+    -- by the flags
+    module _ (J : List ℕ) (g : Cells) (k : testAt t L n (isKind 3) (cur .pos) ≡ true) (p : MatrixRow X t n L J (onward cur) g) where
+      pub rows-broken : g .shut ≡ false → MoreRows X t n K J cols l r c (record { cur = g .cur; done = false; more = more })
+      rows-broken e = broken J (g .count) (g .kept) (g .right) (g .cur) k (rw e at p)
+
+      pub rows-count : g .shut ≡ true → (g .count ≡ cols → ⊥) → MoreRows X t n K J cols l r c (record { cur = g .cur; done = false; more = more })
+      rows-count e h = differ J (g .count) (g .kept) (g .right) (g .cur) k (rw e at p) (rw (ne-eqb cols (g .count) (λ z. h (sym z))))
+
+      module _ (e : g .shut ≡ true) (h : g .count ≡ cols) where
+        pub rows-differ : entry.likeAt X t J l r (cur .pos + 1) (g .right) ≡ false → MoreRows X t n K J cols l r c (record { cur = g .cur; done = false; more = more })
+        rows-differ df = differ J (g .count) (g .kept) (g .right) (g .cur) k (rw e at p) (rw (eq-eqb cols (g .count) (sym h)) df)
+
+        pub rows-more : entry.likeAt X t J l r (cur .pos + 1) (g .right) ≡ true → Inv X t n K J cols l r c (g .cur) true
+        rows-more df = same-row J (g .count) (g .kept) (g .right) (g .cur) k (rw e at p) (rw (eq-eqb cols (g .count) (sym h)) df)
+
+-- all rows
+module _ (X t : List ℕ) (n : ℕ) (K L : List ℕ) (c : Cursor) (m j q : ℕ) (d : Cursor) where
+  broken-first : MatrixRow X t n K L c (record { cur = d; count = m; kept = j; shut = false; right = q }) → MatrixRows X t n K L c (record { cur = d; done = false; more = false; cols = m; kept = j })
+  unfolding nextMatrixRows
+  broken-first p = (p .0, λ I s at. let w = p .1 I s at in record { state = w .state; runs = bind _ _ s (w .runs) ∙ ret _ _; at = w .at })
+
+  module _ (p : MatrixRow X t n K L c (record { cur = d; count = m; kept = j; shut = true; right = q })) where
+    differs-first : entry.rowsAt X t L (c .pos) q ≡ false → MatrixRows X t n K L c (record { cur = d; done = false; more = false; cols = m; kept = j })
+    unfolding nextMatrixRows
+    differs-first df = (
+      p .0,
+      λ I s at.
+          let w = p .1 .2 I s at in
+          record { state = w .state; runs = bind _ _ s (w .runs) ∙ if-false _ _ _ (brackets-are (w .row) (w .at .given) (p .1 .1) (p .1 .0 .inside) (w .left) (w .right) ∙ df) ∙ ret _ _; at = w .at },
+    )
+
+    module _ (bk : entry.rowsAt X t L (c .pos) q ≡ true) (J : List ℕ) (f : Cursor) (more : Bool) where
+      by-done : (b : Bool) → MoreRows X t n L J m (c .pos) q d (record { cur = f; done = b; more = more }) → MatrixRows X t n K J c (record { cur = f; done = b; more = more; cols = m; kept = j })
+      unfolding nextMatrixRows
+      by-done false g = (
+        record { within = g .0 .within; on = omega (arith, p .0 .on, g .0 .on); depth = g .0 .depth ∙ p .0 .depth; kept = kept-trans (p .0 .kept) (g .0 .kept) },
+        λ I s at.
+            let w = p .1 .2 I s at in
+            let v = rw (p .0 .depth) at (g .1 I (w .state) (w .at) (w .row) (record { left = w .left; right = w .right; number = w .counts .number })) in
+            record { state = v .state; runs = bind _ _ s (w .runs) ∙ if-true _ _ _ (brackets-are (w .row) (w .at .given) (p .1 .1) (p .1 .0 .inside) (w .left) (w .right) ∙ bk) ∙ bind _ _ _ (v .runs) ∙ ret _ _; at = v .at },
+      )
+      by-done true g = (
+        record { within = g .0 .within; on = omega (arith, p .0 .on, g .0 .on); depth = g .0 .depth ∙ p .0 .depth; kept = kept-trans (p .0 .kept) (g .0 .kept) },
+        (
+          p .1 .0 .some,
+          p .1 .1,
+          λ I s at.
+              let w = p .1 .2 I s at in
+              let v = rw (p .0 .depth) at (g .1 I (w .state) (w .at) (w .row) (record { left = w .left; right = w .right; number = w .counts .number })) in
+              record {
+                rows = record { head = w .row; others = v .others };
+                state = v .state;
+                runs = bind _ _ s (w .runs) ∙ if-true _ _ _ (brackets-are (w .row) (w .at .given) (p .1 .1) (p .1 .0 .inside) (w .left) (w .right) ∙ bk) ∙ bind _ _ _ (v .runs) ∙ ret _ _;
+                at = v .at;
+                left = w .left;
+                counts = w .counts;
+                behind = v .behind;
+              },
+        ),
+      )
+
+module _ (X t : List ℕ) (n : ℕ) (K L : List ℕ) (c : Cursor) (g : Cells) (p : MatrixRow X t n K L c g) where
+  pub matrix-broken : g .shut ≡ false → MatrixRows X t n K L c (record { cur = g .cur; done = false; more = false; cols = g .count; kept = g .kept })
+  matrix-broken e = broken-first X t n K L c (g .count) (g .kept) (g .right) (g .cur) (rw e at p)
+
+  pub matrix-differs : g .shut ≡ true → entry.rowsAt X t L (c .pos) (g .right) ≡ false → MatrixRows X t n K L c (record { cur = g .cur; done = false; more = false; cols = g .count; kept = g .kept })
+  matrix-differs e df = differs-first X t n K L c (g .count) (g .kept) (g .right) (g .cur) (rw e at p) df
+
+  pub matrix-more : (J : List ℕ) (h : code.Others) → g .shut ≡ true → entry.rowsAt X t L (c .pos) (g .right) ≡ true → MoreRows X t n L J (g .count) (c .pos) (g .right) (g .cur) h → MatrixRows X t n K J c (record { cur = h .cur; done = h .done; more = h .more; cols = g .count; kept = g .kept })
+  matrix-more J h e bk p2 = by-done X t n K L c (g .count) (g .kept) (g .right) (g .cur) (rw e at p) bk J (h .cur) (h .more) (h .done) p2

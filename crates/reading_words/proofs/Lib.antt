@@ -1,0 +1,5 @@
+pub mod Kit
+pub mod Sorts
+pub mod Attempts
+pub mod Records
+pub mod Plain
