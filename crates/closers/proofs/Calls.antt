@@ -1,11 +1,10 @@
 -- The calls: the records of an accepted list and what the pass leaves in them; and the tests in the order of the refusals.
 use Prim.Native.Nat.{ℕ, zero, suc, _+_, _-_, _*_, _≤_, _<_}
 use mathlib.Core.Path.{_≡_, refl, sym, ap, _∙_, subst}
-use mathlib.Core.Bool.{false}
 use mathlib.Core.List.{List, [], _∷_, _++_}
 use mathlib.Core.Option.{none, some}
 use native.Mathlib.Omega.{arith}
-use lib.ListN.{length, drop, replicate, getD}
+use lib.ListN.{length, drop, getD}
 use lib.Seq.{ext-getD}
 use borrow.Author.Tests.{lt-ltb, le-ltb}
 use Rattle.tokens.specs.Table.{tableWords, tokenList, countOthers}
@@ -14,10 +13,7 @@ use Rattle.tokens.proofs.Accepted as lists
 use Rattle.tokens.proofs.Cases.{apart}
 use Rattle.tokens.proofs.TokenList.{others-few}
 use Rattle.lexing.specs.Rules.{tokens}
-use Rattle.tree.specs.Tree.{nowhere}
-use Rattle.reading.specs.Entries.{entries}
 use Rattle.reading.specs.Reading.{closersOf}
-use Rattle.bounds.proofs.Theorems.{entries-count}
 use Rattle.records.specs.Record.{recordWords}
 use Rattle.tokenizer.specs.declared.TokenizedUnder.{TokenizedUnder}
 use Rattle.tokenizer.specs.declared.TokenizedUnder.the-variants as under
@@ -28,7 +24,7 @@ use Rattle.entries.specs.declared.Prepared.{Prepared}
 use Rattle.entries.specs.declared.Prepared.the-variants as records
 use Rattle.entries.specs.Prepared.{workWords, prepared}
 use Rattle.entries.proofs.Accepted as made
-use Rattle.reading_words.specs.Meet.{Given, Marks}
+use Rattle.reading_words.specs.Meet.{Given}
 use Rattle.reading_words.proofs.Records as recorded
 use Rattle.reading_words.proofs.Records.{inputOf}
 use Rattle.closers_notes.specs.Notes.{closerWords, withClosers}

@@ -1,15 +1,15 @@
 -- "One cell left after that is no matrix": it can be told from the first row alone, and from whether there are others.
-use Prim.Native.Nat.{ℕ, zero, suc, _+_, _≤_, _<_}
+use Prim.Native.Nat.{ℕ, suc, _+_, _≤_}
 use mathlib.Core.Path.{_≡_, refl, sym, ap, _∙_}
 use mathlib.Core.List.{List, [], _∷_}
-use mathlib.Core.Bool.{Bool, true, false, not, _&&_, _||_}
+use mathlib.Core.Bool.{Bool, true, false, _&&_, _||_}
 use native.Mathlib.Omega.{arith}
 use lib.Dec.{eqb, ltb}
 use lib.ListN.{length}
-use borrow.Author.Tests.{lt-ltb, le-ltb, eqb-true, eqb-false, eq-eqb, ne-eqb}
-use Rattle.tree.specs.Tree.{Node, Nodes, end, _▸_, _⧺_, count}
+use borrow.Author.Tests.{lt-ltb, eqb-true, eqb-false}
+use Rattle.tree.specs.Tree.{Nodes, end, _▸_, _⧺_, count}
 use Rattle.reading.specs.Entries.{Entry}
-use Rattle.reading.specs.Reading.{Row, Rows, keptCols, keepCells, columnLines, joinRows, lineCells, lineCols, bothLines, isColumnLine, splitColumnLines}
+use Rattle.reading.specs.Reading.{Row, Rows, keptCols, keepCells, joinRows, lineCells, lineCols, bothLines, isColumnLine, splitColumnLines}
 
 count-end : (l : Nodes) → count (l ⧺ end) ≡ count l
 count-end end = refl

@@ -1,19 +1,19 @@
 -- A reading that is run again from the marks that it left gives the same tree at the same place, and sets no mark: no attempt is
 -- given back. At any depth, for any number of entries.
-use Prim.Native.Nat.{ℕ, zero, suc, _+_, _*_, _-_, _≤_, _<_}
+use Prim.Native.Nat.{ℕ, zero, suc, _*_, _-_, _≤_, _<_}
 use mathlib.Core.Path.{_≡_, refl, sym, ap, _∙_, subst}
 use mathlib.Core.List.{List, [], _∷_}
 use mathlib.Core.Option.{Option, none, some}
-use mathlib.Core.Bool.{Bool, true, false, true≢false}
+use mathlib.Core.Bool.{Bool, true, false}
 use native.Mathlib.Omega.{arith}
 use lib.ListN.{length, getD, set, replicate, getElem?, length-set}
 use lib.Seq.{getD-set-same, getD-set-other}
 use Rattle.tokens.specs.declared.token.Token.{Token}
 use Rattle.tokens.specs.declared.token.Token.the-variants as token
-use Rattle.tree.specs.Tree.{nowhere, Head, Prefix, Node, node, Nodes, end, _▸_, _⧺_, one}
+use Rattle.tree.specs.Tree.{Node, Nodes, end, one}
 use Rattle.reading.specs.Stop.{Stop}
 use Rattle.reading.specs.Entries.{Entry, is}
-use Rattle.reading.specs.Reading.{State, M, return, _>>=_, here, current, closed, Mark, openMark, matrixMark, slot, Try, made, lost, nought, Readers, isAt, isBar, advance, failed, giveUp, attempt, argument, nextScript, nextScriptFunc, nextIntermediate, intermediates, atOpenClose, Row, nextMatrixRow, rowCells, moreRows, nextMatrixRows, matrixBody, tryMatrix, nextOpenGroup, barBody, nextOpenCloseGroup, nextBracket, begun, nextSimple, step, level, parse, parseEntries, start, orGlyph, couldBeMatrix, prefixes, spaced, any, marksScript, heads, begins, if_then_else_}
+use Rattle.reading.specs.Reading.{State, M, return, _>>=_, here, current, closed, Mark, openMark, matrixMark, slot, Try, made, lost, nought, Readers, advance, failed, giveUp, attempt, argument, nextScript, nextScriptFunc, nextIntermediate, intermediates, Row, nextMatrixRow, rowCells, moreRows, nextMatrixRows, matrixBody, tryMatrix, nextOpenGroup, barBody, nextOpenCloseGroup, nextBracket, begun, nextSimple, step, level, parse, parseEntries, start, orGlyph, couldBeMatrix, prefixes, any, marksScript, heads, begins, if_then_else_}
 
 inside-of : {A : Type 0} (l : List A) (i : ℕ) (x : A) → getElem? l i ≡ some x → i < length l
 inside-of [] i x e = let z : _≡_ {A = ℕ} 0 1 = cc in absurd (omega arith)

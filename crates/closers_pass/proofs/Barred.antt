@@ -1,5 +1,5 @@
 -- Brackets: the attempts at a matrix and at a bar's group, and what gives them back.
-use Prim.Native.Nat.{ℕ, zero, suc, _+_, _*_, _-_, _≤_, _<_}
+use Prim.Native.Nat.{ℕ, zero, suc, _+_, _-_, _≤_, _<_}
 use mathlib.Core.Path.{_≡_, refl, sym, ap, _∙_, subst}
 use mathlib.Core.List.{List, [], _∷_}
 use mathlib.Core.Option.{Option, none, some}
@@ -12,7 +12,7 @@ use Rattle.tokens.specs.declared.token.Token.the-variants as token
 use Rattle.tokens.specs.Lexeme.{Span}
 use Rattle.tree.specs.Tree.{nowhere, Head, Node, node, Nodes, end, _▸_, count}
 use Rattle.reading.specs.Entries.{Entry, is, hasSep}
-use Rattle.reading.specs.Reading.{State, M, Try, made, lost, nought, return, _>>=_, if_then_else_, here, closed, advance, any, openMark, matrixMark, slot, isAt, isBar, isByte, closeOf, closes, couldBeMatrix, makesMatrix, matrixBody, tryMatrix, barBody, nextOpenGroup, nextOpenCloseGroup, nextBracket, glyphOf, orGlyph, endsOperand, look, atomEnds, isBarSymbol, prefixes, Row, Rows, splitColumnLines, lineCols, lineCells, keptCols}
+use Rattle.reading.specs.Reading.{State, M, Try, made, lost, nought, return, _>>=_, if_then_else_, here, closed, advance, any, openMark, matrixMark, slot, isAt, isBar, isByte, closeOf, closes, couldBeMatrix, makesMatrix, matrixBody, tryMatrix, barBody, nextOpenGroup, nextOpenCloseGroup, nextBracket, glyphOf, endsOperand, look, atomEnds, isBarSymbol, prefixes, Row, Rows, splitColumnLines, lineCols, lineCells, keptCols}
 use Rattle.closers_laws.proofs.Nested.{Fit, Pairing, level-good, intermediates-pairs, nextIntermediate-pairs, nextMatrixRows-pairs}
 use Rattle.closers_laws.proofs.OneCell.{single, many}
 use Rattle.lookahead.specs.Tests.{testAt, isKind}
@@ -28,7 +28,7 @@ use Rattle.closers_pass.specs.declared.cursor.Items.{Items}
 use Rattle.closers_pass.specs.declared.cursor.Tried.{Tried}
 use Rattle.closers_pass.specs.declared.cursor.Rows as rows
 use Rattle.rows.specs.Rows.{cellsLeft}
-use Rattle.records.specs.Record.{recordWords, Kept, withCloser, marksOf, kindOf, afterClose, sepOf}
+use Rattle.records.specs.Record.{recordWords, withCloser, marksOf, kindOf, afterClose, sepOf}
 use Rattle.tokens.specs.Refusals.{bit}
 use Rattle.closers_notes.specs.Notes.{gaveUp}
 use Rattle.closers_notes.proofs.Notes.{cleared-kept}

@@ -1,20 +1,19 @@
 -- What the entry i, just taken, begins.
-use Prim.Native.Nat.{ℕ, _+_, _≤_, _<_}
+use Prim.Native.Nat.{ℕ, _≤_, _<_}
 use mathlib.Core.Path.{_≡_, refl, sym, ap, _∙_, subst}
-use mathlib.Core.List.{List, [], _∷_}
-use mathlib.Core.Option.{Option, none, some}
-use mathlib.Core.Bool.{Bool, true, false, not, cond, _&&_}
+use mathlib.Core.List.{List}
+use mathlib.Core.Option.{Option, some}
+use mathlib.Core.Bool.{Bool, true, false, cond}
 use native.Mathlib.Omega.{arith}
-use lib.ListN.{length, getElem?}
 use lib.Dec.{eqb}
-use borrow.Author.Tests.{eqb-true, eqb-false}
+use borrow.Author.Tests.{eqb-true}
 use Rattle.tokens.specs.declared.token.Token.{Token}
 use Rattle.tokens.specs.declared.token.Token.the-variants as token
 use Rattle.tokens.specs.Kinds.{numberOf}
-use Rattle.tree.specs.Tree.{Atom, Head, Prefix, Node, node, Nodes, end, _▸_, leaf, one}
+use Rattle.tree.specs.Tree.{Atom, Head, Prefix, Node, node, end, _▸_, leaf, one}
 use Rattle.reading.specs.Stop.{Stop}
 use Rattle.reading.specs.Entries.{Entry}
-use Rattle.reading.specs.Reading.{State, M, argument, begun, orMissing, endsOperand, look, isBarSymbol, isByte, textOf}
+use Rattle.reading.specs.Reading.{State, argument, begun, orMissing, endsOperand, look, isBarSymbol, isByte, textOf}
 use Rattle.records.specs.Record.{kindOf}
 use Rattle.lookahead.specs.Tests.{testAt, beginsKind, opening, prefixStop, takesOne}
 use Rattle.tree.specs.Words.{atomKind}
@@ -24,7 +23,7 @@ use Rattle.spans.specs.Spans.{byteAt}
 use Rattle.closers_pass.specs.declared.cursor.Cursor.{Cursor}
 use Rattle.closers_pass.specs.declared.cursor.Part.{Part}
 use Rattle.reading_words.specs.Meet.{Input, Row, readers, stopOf, simpleAt}
-use Rattle.closers_pass.specs.Meet.{At, Began, Simple, Begun, Bracket, operationAt}
+use Rattle.closers_pass.specs.Meet.{At, Simple, Begun, Bracket, operationAt}
 use Rattle.stores.proofs.Stores.{kept-refl, kept-trans}
 use Rattle.reading_words.proofs.Kit.{bind, ret, row-of, test-kind}
 use Rattle.reading_words.proofs.Sorts.{is-Sign, is-Function, is-Unary, is-Binary, is-OpenBracket, is-OpenCloseBracket, leaf-of}

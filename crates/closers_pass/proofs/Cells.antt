@@ -1,5 +1,5 @@
 -- The loop over a row's cells, and a row.
-use Prim.Native.Nat.{ℕ, zero, suc, _+_, _*_, _-_, _≤_, _<_}
+use Prim.Native.Nat.{ℕ, suc, _+_, _-_, _≤_, _<_}
 use mathlib.Core.Path.{_≡_, refl, sym, ap, _∙_, subst}
 use mathlib.Core.List.{List, [], _∷_}
 use mathlib.Core.Option.{Option, none, some}
@@ -22,8 +22,8 @@ use Rattle.closers_pass.specs.declared.cursor.Cells.{Cells}
 use Rattle.records.specs.Record.{recordWords, withCloser}
 use Rattle.reading_words.specs.Meet.{Input, Stands, readers}
 use Rattle.closers_pass.specs.Meet.{At, Moves, Each, Intermediates, onward, passing}
-use Rattle.closers_pass.specs.Matrix.{Counts, Fails, HasCells, cellsAt, Ended, RowCells, rowAt, MatrixRow}
-use Rattle.stores.proofs.Stores.{kept-refl, kept-trans, marks-kept, closer-kept}
+use Rattle.closers_pass.specs.Matrix.{Counts, Fails, cellsAt, RowCells, rowAt, MatrixRow}
+use Rattle.stores.proofs.Stores.{kept-refl, kept-trans, closer-kept}
 use Rattle.reading_words.proofs.Kit.{shut, ret-closed, bind, ret, at-here, if-true, if-false, tick, kind-is, past, advance-took, advance-end}
 use Rattle.closers_pass.proofs.Kit.{at-tick, at-shut}
 use Rattle.closers_pass.proofs.Loop.{nodes-assoc, whole-items}

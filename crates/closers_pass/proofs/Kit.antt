@@ -1,6 +1,6 @@
 -- The steps of the definition and of the code, with the closers so far.
 use Prim.Native.Nat.{ℕ, _+_, _-_, _%_, _^_, _≤_, _<_}
-use mathlib.Core.Path.{_≡_, refl, sym, ap, _∙_, subst}
+use mathlib.Core.Path.{_≡_, refl, sym, _∙_, subst}
 use mathlib.Core.List.{List}
 use mathlib.Core.Option.{none, some}
 use mathlib.Core.Bool.{Bool, true, false}
@@ -24,7 +24,7 @@ use Rattle.reading_words.specs.Meet.{Input, Stands, Marks}
 use Rattle.reading_words.proofs.Kit as steps
 use Rattle.reading_words.proofs.Kit.{Same, tick, shut, given-kept}
 use Rattle.reading_words.proofs.Attempts.{markNumber, marked, mark-set}
-use Rattle.closers_pass.specs.Meet.{Noted, Closed, At}
+use Rattle.closers_pass.specs.Meet.{Closed, At}
 
 -- without the closers
 pub bare : {X t : List ℕ} {n : ℕ} {K : List ℕ} {I : Input} {s : State} {p u : ℕ} → At X t n K p u I s → words.At X t n K p u I s

@@ -1,6 +1,6 @@
 -- The loop over a matrix's rows.
-use Prim.Native.Nat.{ℕ, zero, suc, _+_, _*_, _-_, _≤_, _<_}
-use mathlib.Core.Path.{_≡_, refl, sym, ap, _∙_, subst}
+use Prim.Native.Nat.{ℕ, suc, _+_, _-_, _≤_, _<_}
+use mathlib.Core.Path.{_≡_, refl, sym, ap, _∙_}
 use mathlib.Core.List.{List, [], _∷_, _++_, append-nil, append-assoc}
 use mathlib.Core.Option.{Option, none, some}
 use mathlib.Core.Bool.{Bool, true, false, cond, _&&_, _||_}
@@ -12,7 +12,7 @@ use Rattle.tokens.specs.declared.token.Token.{Token}
 use Rattle.tokens.specs.declared.token.Token.the-variants as token
 use Rattle.tokens.specs.Kinds.{numberOf}
 use Rattle.tokens.specs.Bytes.{same}
-use Rattle.tree.specs.Tree.{Nodes, end, count}
+use Rattle.tree.specs.Tree.{Nodes, count}
 use Rattle.reading.specs.Entries.{Entry, is}
 use Rattle.reading.specs.Reading.{State, M, Readers, return, any, advance, isAt, nextMatrixRow, moreRows, nextMatrixRows, rowBrackets, alike}
 use Rattle.reading.specs.Reading as reading
@@ -25,7 +25,7 @@ use Rattle.closers_pass.specs.declared.cursor.Cells.{Cells}
 use Rattle.closers_pass.specs.declared.cursor.Others as code
 use Rattle.reading_words.specs.Meet.{Input, Given, readers}
 use Rattle.closers_pass.specs.Meet.{At, Moves, Each, onward}
-use Rattle.closers_pass.specs.Matrix.{Counts, Behind, Fails, HasRow, Ended, rowAt, MatrixRow, First, HasRows, moreAt, MoreRows, MoreRows′, HasMatrix, rowsAt, MatrixRows, MatrixRows′}
+use Rattle.closers_pass.specs.Matrix.{Behind, MatrixRow, First, moreAt, MoreRows, rowsAt, MatrixRows}
 use Rattle.stores.proofs.Stores.{kept-refl, kept-trans}
 use Rattle.reading_words.proofs.Kit.{bind, ret, at-here, if-true, if-false, tick, row-of, past, at-some, at-none, test-in, test-out, same-is}
 use Rattle.closers_pass.proofs.Kit.{at-tick}

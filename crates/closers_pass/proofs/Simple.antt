@@ -1,35 +1,26 @@
 -- What each way through the readers of simple expressions, scripted parts and items shows.
 use Prim.Native.Nat.{ℕ, _+_, _≤_, _<_}
-use mathlib.Core.Path.{_≡_, refl, sym, ap, _∙_, subst}
-use mathlib.Core.List.{List, [], _∷_}
+use mathlib.Core.Path.{_≡_, refl, sym, ap, _∙_}
+use mathlib.Core.List.{List}
 use mathlib.Core.Option.{Option, none, some}
-use mathlib.Core.Bool.{Bool, true, false, not, cond, _&&_}
+use mathlib.Core.Bool.{Bool, true, false, cond, _&&_}
 use native.Mathlib.Omega.{arith}
-use lib.ListN.{length, getElem?}
-use lib.Dec.{eqb}
-use borrow.Author.Tests.{eqb-true}
-use Rattle.tokens.specs.declared.token.Token.{Token}
 use Rattle.tokens.specs.declared.token.Token.the-variants as token
-use Rattle.tokens.specs.Kinds.{numberOf}
-use Rattle.tree.specs.Tree.{Script, Head, Prefix, Node, node, Nodes, end, _▸_, _⧺_, leaf, one}
+use Rattle.tree.specs.Tree.{Script, Head, Prefix, Node, node, Nodes, end, _▸_, _⧺_, one}
 use Rattle.reading.specs.Stop.{Stop}
 use Rattle.reading.specs.Entries.{Entry}
-use Rattle.reading.specs.Reading.{State, M, argument, begun, nextSimple, nextScript, nextScriptFunc, nextIntermediate, orMissing, orMissingPart, endsOperand, endsFirst, endsSecond, look, isUnscripted, isBarSymbol, isByte, textOf}
-use Rattle.records.specs.Record.{kindOf}
-use Rattle.lookahead.specs.Tests.{testAt, isKind, marksKind, headsKind, beginsKind, opening, prefixStop, takesOne}
+use Rattle.reading.specs.Reading.{State, M, argument, begun, nextSimple, nextScript, nextScriptFunc, nextIntermediate, orMissing, orMissingPart, endsOperand, endsFirst, endsSecond, look, isUnscripted}
+use Rattle.lookahead.specs.Tests.{testAt, isKind, marksKind, headsKind, beginsKind}
 use Rattle.lookahead.proofs.Testing.{test-below}
-use Rattle.leaves.specs.Leaves.{leafEnds, leafBar}
-use Rattle.spans.specs.Spans.{byteAt}
 use Rattle.closers_pass.specs.declared.cursor.Cursor.{Cursor}
 use Rattle.closers_pass.specs.declared.cursor.Part.{Part}
 use Rattle.closers_pass.specs.declared.cursor.Scripted as code
 use Rattle.tokens.specs.Refusals.{bit}
-use Rattle.reading_words.specs.Meet.{Input, Row, readers, stopOf, scriptFuncAt, simpleAt}
-use Rattle.closers_pass.specs.Meet.{At, isSome, endsOf, barOf, lineOf, linePart, Says, scripts, Began, Simple, ScriptFunc, Term, Intermediate, Scripts, Headed, Begun, Bracket, onward, seen, inner, atDepth, nothingAt, operationAt, partAt}
+use Rattle.reading_words.specs.Meet.{Input, readers, stopOf, scriptFuncAt}
+use Rattle.closers_pass.specs.Meet.{At, isSome, endsOf, barOf, lineOf, linePart, scripts, Simple, ScriptFunc, Term, Intermediate, Scripts, Headed, Begun, onward, seen, inner, atDepth, nothingAt, operationAt, partAt}
 use Rattle.stores.proofs.Stores.{kept-refl, kept-trans}
-use Rattle.reading_words.proofs.Kit.{bind, ret, at-here, if-true, if-false, tick, row-of, test-kind, same-is, same-marks, same-heads, same-begins, kind-is, level-simple, level-scriptFunc, deep-simple, deep-scriptFunc}
+use Rattle.reading_words.proofs.Kit.{bind, ret, at-here, if-true, if-false, tick, row-of, same-is, same-marks, same-heads, same-begins, kind-is, level-simple, level-scriptFunc, deep-simple, deep-scriptFunc}
 use Rattle.closers_pass.proofs.Kit.{at-tick, took, passed}
-use Rattle.reading_words.proofs.Sorts.{is-Sign, is-Function, is-Unary, is-Binary, is-OpenBracket, is-OpenCloseBracket, leaf-of}
 
 -- A node, or none, by the flag.
 pub record Got (a : Option Node) : Type 0 where

@@ -1,7 +1,7 @@
 -- The loop over all items.
-use Prim.Native.Nat.{ℕ, zero, suc, _+_, _*_, _-_, _%_, _^_, _≤_, _<_}
+use Prim.Native.Nat.{ℕ, zero, suc, _+_, _*_, _-_, _≤_, _<_}
 use mathlib.Core.Path.{_≡_, refl, sym, ap, _∙_, subst}
-use mathlib.Core.List.{List, [], _∷_}
+use mathlib.Core.List.{List}
 use mathlib.Core.Option.{Option, none, some}
 use mathlib.Core.Bool.{Bool, true, false}
 use native.Mathlib.Omega.{arith}
@@ -17,8 +17,8 @@ use Rattle.lookahead.proofs.Testing.{test-below}
 use Rattle.closers_pass.specs.declared.cursor.Cursor.{Cursor}
 use Rattle.closers_pass.specs.declared.cursor.Items.{Items}
 use Rattle.records.specs.Record.{Kept}
-use Rattle.reading_words.specs.Meet.{Input, Given, Marks, lastAfter, isNone}
-use Rattle.closers_pass.specs.Meet.{Closed, At, Intermediates, onward, seen}
+use Rattle.reading_words.specs.Meet.{Input, Given, lastAfter, isNone}
+use Rattle.closers_pass.specs.Meet.{At, Intermediates, onward, seen}
 use Rattle.closers_pass.specs.Top.{Blank, Passed, Paired}
 use Rattle.stores.proofs.Stores.{kept-refl, kept-trans}
 use Rattle.reading_words.proofs.Kit.{bind, ret, tick, same-is}

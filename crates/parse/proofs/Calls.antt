@@ -7,7 +7,7 @@ use mathlib.Core.Option.{none, some}
 use native.Mathlib.Omega.{arith}
 use lib.Dec.{eqb}
 use lib.ListN.{length, drop, replicate}
-use borrow.Author.Tests.{lt-ltb, le-ltb, le-leb, lt-leb, ne-eqb}
+use borrow.Author.Tests.{lt-ltb, le-ltb, ne-eqb}
 use Rattle.tokenizer.specs.declared.TokenizedUnder.{TokenizedUnder}
 use Rattle.tokenizer.specs.declared.TokenizedUnder.the-variants as under
 use Rattle.tokens.specs.Lexeme.{Lexeme}
@@ -25,9 +25,7 @@ use Rattle.lexing.proofs.Theorems.{list-of-words, accepted-list}
 use Rattle.tree.specs.Tree.{nowhere, Nodes, end, _▸_, count}
 use Rattle.reading.specs.Entries.{entries}
 use Rattle.reading.specs.Reading.{readingBy, parseEntries, blank}
-use Rattle.lists.specs.declared.Checked.{Checked}
-use Rattle.lists.specs.declared.Checked.the-variants as list
-use Rattle.lists.specs.Checks.{answer, checked}
+use Rattle.lists.specs.Checks.{answer}
 use Rattle.tokens.proofs.Accepted as lists
 use Rattle.tokens.proofs.Accepted.{met}
 use Rattle.records.specs.Record.{recordWords}

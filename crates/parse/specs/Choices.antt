@@ -1,6 +1,6 @@
 -- Small choices of the readers.
 use Prim.Native.Nat.{ℕ}
-use mathlib.Core.Bool.{Bool, false, cond}
+use mathlib.Core.Bool.{Bool, cond}
 use lib.Dec.{eqb}
 
 -- The kind of node of a token that takes one argument, or 0: a unary operation, a function, a sign that prefixes.

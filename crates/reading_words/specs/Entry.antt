@@ -2,7 +2,7 @@
 -- X the text.
 use Prim.Native.Nat.{ℕ, _+_, _*_, _≤_, _<_}
 use mathlib.Core.List.{List}
-use mathlib.Core.Bool.{Bool, true, false}
+use mathlib.Core.Bool.{Bool}
 use lib.ListN.{length}
 use Rattle.tokens.specs.Refusals.{bit}
 use Rattle.records.specs.Record.{Whole, placeOf, startOf, lenOf}

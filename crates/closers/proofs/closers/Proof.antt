@@ -1,6 +1,5 @@
 -- `closers`: the first test that fails decides.
 use native.Mathlib.Omega.{arith}
-use mathlib.Core.Path.{sym}
 use Rattle.lists.proofs.Cases.{checked-refused, checked-accepted}
 use Rattle.closers.proofs.Calls.{list-refused, out-short, list-closed}
 use borrow.Author.Needs.{needs}

@@ -1,18 +1,14 @@
+-- `tests::one_more`: by the flag.
 use borrow.Author.Needs.{needs}
 use Rattle.closers_pass.proofs.tests.one_more.Statement.{statement}
 use Rattle.closers_pass.proofs.tests.one_more.Tie as tie
-use Rattle.closers_pass.proofs.tests.one_more.Reads as reads
-use Rattle.closers_pass.proofs.tests.one_more.Lts as lts
 
--- src/tests.rt:127:29
 add-result : tie.Need-add-result
 add-result c = search needs
 
--- src/tests.rt:123:1
 returns : tie.Need-returns
 returns c = search needs
 
--- src/tests.rt:123:1
 returns-2 : tie.Need-returns-2
 returns-2 c = simp (c .if1 .left)
 

@@ -1,5 +1,4 @@
 -- `tests::plain_item`: the leaf, and the looks around it.
-use Prim.Native.Nat.{ℕ}
 use mathlib.Core.Path.{_≡_}
 use native.Mathlib.Omega.{arith}
 use borrow.Author.Needs.{needs}

@@ -1,3 +1,4 @@
+-- `Cursor::look`: a take, if a token is there.
 use borrow.Author.Needs.{needs}
 use Rattle.closers_pass.proofs.cursor.Cursor.look.Statement.{statement}
 use Rattle.closers_pass.proofs.cursor.Cursor.look.Tie as tie

@@ -1,3 +1,4 @@
+-- `Cursor::next`: one token on.
 use Prim.Native.Nat.{_-_}
 use borrow.Author.Needs.{needs}
 use Rattle.closers_pass.proofs.cursor.Cursor.next.Statement.{statement}

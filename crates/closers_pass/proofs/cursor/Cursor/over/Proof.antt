@@ -1,3 +1,4 @@
+-- `Cursor::over`: past a token that is there.
 use Rattle.closers_pass.specs.Meet.{passing}
 use Prim.Native.Nat.{_-_}
 use borrow.Author.Tests.{lt-ltb, le-ltb}

@@ -8,7 +8,7 @@ use Rattle.closers_pass.proofs.readers.other.Reads as other
 use Rattle.closers_pass.proofs.readers.+bars+begun+bracket+extend+headed+more_rows+next_intermediate+next_row+next_rows+next_script+next_script_func+next_simple+open_group+other+row_cells+term+try_matrix.Lts-begun as begun-lts
 use Rattle.closers_pass.proofs.readers.+bars+begun+bracket+extend+headed+more_rows+next_intermediate+next_row+next_rows+next_script+next_script_func+next_simple+open_group+other+row_cells+term+try_matrix.Proof.Setting.{bracket-below, other-below, begun-at}
 use borrow.Author.Needs.{needs}
-use mathlib.Core.Path.{_≡_, sym, _∙_}
+use mathlib.Core.Path.{sym, _∙_}
 use native.Mathlib.Omega.{arith}
 use Rattle.lookahead.specs.Tests.{beginsKind}
 use Rattle.lookahead.proofs.Testing.{test-below}

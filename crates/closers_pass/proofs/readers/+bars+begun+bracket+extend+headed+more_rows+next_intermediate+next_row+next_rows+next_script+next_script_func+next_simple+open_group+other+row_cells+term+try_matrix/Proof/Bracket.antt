@@ -7,10 +7,7 @@ use Rattle.closers_pass.proofs.readers.try_matrix.Reads as try-matrix
 use Rattle.closers_pass.proofs.readers.+bars+begun+bracket+extend+headed+more_rows+next_intermediate+next_row+next_rows+next_script+next_script_func+next_simple+open_group+other+row_cells+term+try_matrix.Lts-bracket as bracket-lts
 use Rattle.closers_pass.proofs.readers.+bars+begun+bracket+extend+headed+more_rows+next_intermediate+next_row+next_rows+next_script+next_script_func+next_simple+open_group+other+row_cells+term+try_matrix.Proof.Setting.{bars-below, open-group-below, try-matrix-below, bracket-at}
 use borrow.Author.Needs.{needs}
-use mathlib.Core.Path.{_≡_, sym, _∙_, ap}
-use Prim.Native.Nat.{ℕ, _+_, _-_, _<_, _≤_}
-use native.Mathlib.Omega.{arith}
-use borrow.Author.Tests.{not-true, not-false}
+use Prim.Native.Nat.{ℕ, _-_}
 use Rattle.closers_pass.proofs.Barred.{bracket-matrix, bracket-group, bracket-bars}
 
 abbrev pub uses : ℕ → bracket-lts.Claims

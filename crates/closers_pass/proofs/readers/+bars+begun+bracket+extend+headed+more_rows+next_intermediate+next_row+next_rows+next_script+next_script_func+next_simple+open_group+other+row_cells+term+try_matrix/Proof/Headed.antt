@@ -7,7 +7,7 @@ use Rattle.closers_pass.proofs.readers.next_script_func.Reads as next-s
 use Rattle.closers_pass.proofs.readers.+bars+begun+bracket+extend+headed+more_rows+next_intermediate+next_row+next_rows+next_script+next_script_func+next_simple+open_group+other+row_cells+term+try_matrix.Lts-headed as headed-lts
 use Rattle.closers_pass.proofs.readers.+bars+begun+bracket+extend+headed+more_rows+next_intermediate+next_row+next_rows+next_script+next_script_func+next_simple+open_group+other+row_cells+term+try_matrix.Proof.Setting.{next-script-below, next-script-func-below, headed-at}
 use borrow.Author.Needs.{needs}
-use mathlib.Core.Path.{_≡_, sym, _∙_}
+use mathlib.Core.Path.{sym, _∙_}
 use Rattle.closers_pass.proofs.Simple.{headed-func, headed-sign}
 
 abbrev pub uses : ℕ → headed-lts.Claims

@@ -8,10 +8,9 @@ use Rattle.closers_notes.proofs.note_closer.Reads as note-closer-reads
 use Rattle.closers_pass.proofs.readers.+bars+begun+bracket+extend+headed+more_rows+next_intermediate+next_row+next_rows+next_script+next_script_func+next_simple+open_group+other+row_cells+term+try_matrix.Lts-open_group as open-group-lts
 use Rattle.closers_pass.proofs.readers.+bars+begun+bracket+extend+headed+more_rows+next_intermediate+next_row+next_rows+next_script+next_script_func+next_simple+open_group+other+row_cells+term+try_matrix.Proof.Setting.{extend-below, open-group-at}
 use borrow.Author.Needs.{needs}
-use mathlib.Core.Path.{_≡_, sym, _∙_, ap}
-use Prim.Native.Nat.{ℕ, _+_, _-_, _<_, _≤_}
+use mathlib.Core.Path.{sym, _∙_}
+use Prim.Native.Nat.{ℕ, _-_}
 use native.Mathlib.Omega.{arith}
-use borrow.Author.Tests.{not-true, not-false}
 use Rattle.lookahead.specs.Tests.{isKind}
 use Rattle.lookahead.proofs.Testing.{test-below}
 use Rattle.closers_pass.proofs.Barred.{group-shut, group-open}

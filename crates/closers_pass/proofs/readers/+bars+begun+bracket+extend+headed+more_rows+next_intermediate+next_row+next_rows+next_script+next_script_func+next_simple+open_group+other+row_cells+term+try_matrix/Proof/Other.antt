@@ -9,8 +9,7 @@ use Rattle.lookahead.proofs.tests.takes_one.Reads as takes-one-reads
 use Rattle.closers_pass.proofs.readers.+bars+begun+bracket+extend+headed+more_rows+next_intermediate+next_row+next_rows+next_script+next_script_func+next_simple+open_group+other+row_cells+term+try_matrix.Lts-other as other-lts
 use Rattle.closers_pass.proofs.readers.+bars+begun+bracket+extend+headed+more_rows+next_intermediate+next_row+next_rows+next_script+next_script_func+next_simple+open_group+other+row_cells+term+try_matrix.Proof.Setting.{next-simple-below, other-at}
 use borrow.Author.Needs.{needs}
-use mathlib.Core.Path.{_≡_, sym, _∙_}
-use native.Mathlib.Omega.{arith}
+use mathlib.Core.Path.{sym, _∙_}
 use Rattle.lookahead.specs.Tests.{beginsKind}
 use Rattle.lookahead.proofs.Testing.{test-below}
 use Rattle.closers_pass.proofs.Begins.{begun-binary, begun-prefix, begun-leaf}

@@ -12,8 +12,8 @@ use Rattle.closers_pass.proofs.readers.try_matrix.Reads as try-matrix
 use Rattle.closers_pass.proofs.readers.+bars+begun+bracket+extend+headed+more_rows+next_intermediate+next_row+next_rows+next_script+next_script_func+next_simple+open_group+other+row_cells+term+try_matrix.Lts-try_matrix as try-matrix-lts
 use Rattle.closers_pass.proofs.readers.+bars+begun+bracket+extend+headed+more_rows+next_intermediate+next_row+next_rows+next_script+next_script_func+next_simple+open_group+other+row_cells+term+try_matrix.Proof.Setting.{next-rows-below, try-matrix-at}
 use borrow.Author.Needs.{needs}
-use mathlib.Core.Path.{_≡_, sym, _∙_, ap}
-use Prim.Native.Nat.{ℕ, _+_, _-_, _<_, _≤_}
+use mathlib.Core.Path.{sym, _∙_}
+use Prim.Native.Nat.{ℕ, _-_}
 use native.Mathlib.Omega.{arith}
 use borrow.Author.Tests.{not-true, not-false}
 use Rattle.closers_pass.proofs.Barred.{try-shut, try-known, try-lost, try-found, makes-below}
