@@ -7,17 +7,17 @@ use mathlib.Core.Bool.{Bool, true, false, not, _&&_, _||_, cond}
 use native.Mathlib.Omega.{arith}
 use lib.ListN.{length, getD, getElem?, set, drop}
 use lib.Dec.{eqb, ltb}
-use borrow.Author.Tests.{ltb-true, ltb-false, eqb-true, eqb-false, eq-eqb, ne-eqb}
+use borrow.Author.Tests.{ltb-true, ltb-false, eqb-true, eq-eqb, ne-eqb}
 use Rattle.tokens.specs.declared.token.Token.the-variants as token
 use Rattle.tokens.specs.Lexeme.{Span}
 use Rattle.tree.specs.Tree.{nowhere, Head, Node, node, Nodes, end, _▸_, count}
 use Rattle.reading.specs.Entries.{Entry, is, hasSep}
-use Rattle.reading.specs.Reading.{State, M, Try, made, lost, nought, return, _>>=_, if_then_else_, here, closed, advance, any, openMark, matrixMark, slot, isAt, isBar, isByte, closeOf, closes, couldBeMatrix, makesMatrix, matrixBody, tryMatrix, barBody, nextOpenGroup, nextOpenCloseGroup, nextBracket, glyphOf, endsOperand, look, atomEnds, isBarSymbol, prefixes, Row, Rows, splitColumnLines, lineCols, lineCells, keptCols}
+use Rattle.reading.specs.Reading.{State, made, lost, nought, if_then_else_, here, closed, any, openMark, matrixMark, slot, isAt, isBar, isByte, closeOf, closes, couldBeMatrix, makesMatrix, matrixBody, tryMatrix, barBody, nextOpenGroup, nextOpenCloseGroup, nextBracket, glyphOf, endsOperand, look, atomEnds, isBarSymbol, prefixes, Row, Rows, splitColumnLines, lineCols, lineCells, keptCols}
 use Rattle.closers_laws.proofs.Nested.{Fit, Pairing, level-good, intermediates-pairs, nextIntermediate-pairs, nextMatrixRows-pairs}
 use Rattle.closers_laws.proofs.OneCell.{single, many}
 use Rattle.lookahead.specs.Tests.{testAt, isKind}
 use Rattle.lookahead.proofs.Testing.{test-below}
-use Rattle.spans.specs.Spans.{sameAt, byteAt}
+use Rattle.spans.specs.Spans.{byteAt}
 use Rattle.brackets.specs.Brackets.{barAt, closesAt, couldBeMatrixAt, setAt, makesAt}
 use Rattle.marks.specs.Marks.{isMarked}
 use Rattle.marks.specs.Marks as entry
@@ -32,7 +32,7 @@ use Rattle.records.specs.Record.{recordWords, withCloser, marksOf, kindOf, afte
 use Rattle.tokens.specs.Refusals.{bit}
 use Rattle.closers_notes.specs.Notes.{gaveUp}
 use Rattle.closers_notes.proofs.Notes.{cleared-kept}
-use Rattle.reading_words.specs.Meet.{Input, linkNumber, Given, readers, stopOf, intermediateAt, itemsAt, itemsFrom, bracketAt}
+use Rattle.reading_words.specs.Meet.{Input, linkNumber, Given, readers, stopOf, intermediateAt, itemsAt, itemsFrom}
 use Rattle.closers_pass.specs.Meet.{At, Moves, Gives, isSome, isMore, Grouped, Bracketed, Intermediates, OpenGroup, Bracket, TryMatrix, Bars, onward, seen, rewound, operationAt}
 use Rattle.closers_pass.specs.Matrix.{Counts, Behind, MatrixRows, rowsAt}
 use Rattle.stores.proofs.Stores.{kept-refl, kept-trans, marks-kept, closer-kept}
@@ -40,22 +40,9 @@ use Rattle.reading_words.proofs.Kit.{shut, ret-closed, bind, ret, at-here, if-t
 use Rattle.closers_pass.proofs.Kit.{at-tick, took, passed, at-shut, at-lost}
 use Rattle.reading_words.proofs.Attempts.{markNumber, mark-is, attempt-known, attempt-made, attempt-lost, attempt-nought}
 use Rattle.closers_pass.proofs.Simple.{got, lack, runs-as}
-use Rattle.closers_pass.proofs.Begins.{byte-at}
-use Rattle.closers_pass.proofs.Loop.{bar-is, whole-items}
+use Rattle.closers_pass.proofs.Loop.{whole-items}
 use Rattle.closers_pass.proofs.Cells.{took-any}
-use Rattle.closers_pass.proofs.Rows.{is-at-is}
-
--- The gate and the last test, as the definition's.
-eqb-suc : (a b : ℕ) → eqb (suc a) (b + 1) ≡ eqb a b
-eqb-suc a b = go (eqb a b) refl
-  where
-    go : (r : Bool) → eqb a b ≡ r → eqb (suc a) (b + 1) ≡ r
-    go true h = eq-eqb (suc a) (b + 1) (omega (arith, eqb-true a b h))
-    go false h = ne-eqb (suc a) (b + 1) (λ z. eqb-false a b h (omega arith))
-
-linked-to : (j : ℕ) (q : Option ℕ) → elim q as (λ _. Bool) [ none ↦ false | some k ↦ eqb k j ] ≡ eqb (linkNumber q) (j + 1)
-linked-to j none = sym (ne-eqb 0 (j + 1) (λ z. omega arith))
-linked-to j (some k) = sym (eqb-suc k j)
+use Rattle.reading_words.proofs.Steps.{More, bar-below, bar-body, bar-is, barEnd, byte-at, is-at-is, linked-to, makes-below, matrix-runs, number-open}
 
 module _ {X t : List ℕ} {n : ℕ} {K : List ℕ} {I : Input} (g : Given X t n K I) {i : ℕ} {o : Entry} (inside : i < n) (there : getElem? (I .es) i ≡ some o) where
   pub closes-is : (j : ℕ) → closes (I .text) (I .es) o i j ≡ closesAt X t K n i j
@@ -140,56 +127,9 @@ module _ {X t : List ℕ} {n : ℕ} {K : List ℕ} {I : Input} (g : Given X t n 
           (last (byteAt X t K l 40) (byteAt X t K p 125) (closesAt X t K n i p))
       go false e = rw (at-none (I .text) (I .es) (λ e. not (isByte (I .text) (I .es) 40 (r .head .left .span) && isByte (I .text) (I .es) 125 (e .span))) p (past (I .es) p (omega (arith, ltb-false p n e, g .size))))
 
-pub makes-below : (X t K : List ℕ) (n i l k p : ℕ) → makesAt X t K n i l k p ≡ true → p < n
-unfolding makesAt
-makes-below X t K n i l k p h = go (ltb p n) refl h
-  where
-    go : (b : Bool) → ltb p n ≡ b → cond b (cond (setAt X t K l p) false (cond (ltb 1 k) (closesAt X t K n i p) false)) false ≡ true → p < n
-    go true e q = ltb-true p n e
-    go false e q = let z : _≡_ {A = ℕ} 0 1 = cc in absurd (omega arith)
-
-number-open : (stop : Bool) → markNumber (openMark (stopOf stop)) ≡ entry.openMark stop
-number-open true = refl
-number-open false = refl
-
 -- the bar's own word says whether it has failed
 open-known : {X t : List ℕ} {n : ℕ} {K : List ℕ} {p u : ℕ} {I : Input} {s : State} (i : ℕ) (stop b : Bool) → At X t n K p u I s → i < n → isMarked (marksOf K i) (entry.openMark stop) ≡ b → getD (s .marks) (slot (openMark (stopOf stop)) i) false ≡ b
 open-known i stop b at h k = sym (mark-is (openMark (stopOf stop)) i (at .marks) h) ∙ ap (isMarked _) (number-open stop) ∙ k
-
-pub bar-below : (X t K : List ℕ) (n i p : ℕ) → barAt X t K n i p ≡ true → p < n
-unfolding barAt
-bar-below X t K n i p h = go (ltb i n) (testAt t K n (isKind 22) p) refl h
-  where
-    go : (a b : Bool) → testAt t K n (isKind 22) p ≡ b → cond a (cond b (sameAt X t K i p) false) false ≡ true → p < n
-    go true true e k = test-below t K n (isKind 22) p e
-    go true false e k = let z : _≡_ {A = ℕ} 0 1 = cc in absurd (omega arith)
-    go false b e k = let z : _≡_ {A = ℕ} 0 1 = cc in absurd (omega arith)
-
--- The body of a bar's attempt, by the items that the code reads.
-abbrev barEnd : Input → ℕ → Entry → Nodes → M Try
-barEnd I i o end = return nought
-barEnd I i o (x ▸ l) =
-    here >>= λ p.
-    if isAt (I .text) (I .es) (isBar (I .text) (I .es) o) p
-    then (advance (I .text) (I .es) any >>= λ t. elim t [
-      | none ↦ return lost
-      | some c ↦ closed i (made (node (Head.group (o .span) (c .span)) (x ▸ l)))
-    ])
-    else return lost
-
-bar-body : (I : Input) (d i : ℕ) (o : Entry) (stop : Bool) (s : State) {l : Nodes} {u : State} → itemsFrom d (suc (length (I .es))) (some o) stop none I s ≡ (l, u)
-    → barBody (I .text) (I .es) true (readers d I) o i (stopOf stop) s ≡ barEnd I i o l u
-unfolding barBody
-bar-body I d i o stop s {l} {u} h = go (intermediateAt d stop true I s) refl
-  where
-    go : (r : Option Node × State) → intermediateAt d stop true I s ≡ r → barBody (I .text) (I .es) true (readers d I) o i (stopOf stop) s ≡ barEnd I i o l u
-    go (none, v) k =
-        let same : _≡_ {A = Nodes × State} (end, v) (l, u) = sym (bind _ _ s k ∙ ret _ _) ∙ h in
-        bind _ _ s k ∙ ap (λ (w : Nodes × State). barEnd I i o (w .0) (w .1)) same
-    go (some x, v) k =
-        let r = itemsAt d (suc (length (I .es))) (some o) stop (some x) I v in
-        let same : _≡_ {A = Nodes × State} (x ▸ r .0, r .1) (l, u) = sym (bind _ _ s k ∙ bind _ _ v refl ∙ ret _ _) ∙ h in
-        bind _ _ s k ∙ bind _ _ v refl ∙ ap (λ (w : Nodes × State). barEnd I i o (w .0) (w .1)) same
 
 -- What a reader closes lies behind its start.
 fit-of : {X t : List ℕ} {n : ℕ} {K : List ℕ} {p u : ℕ} {I : Input} {s : State} → At X t n K p u I s → p ≤ n → Fit (I .text) (I .es) s
@@ -399,11 +339,6 @@ more-none : (l : Nodes) → false ≡ isMore l → l ≡ end
 more-none end h = refl
 more-none (x ▸ l) h = let z : _≡_ {A = ℕ} 0 1 = cc in absurd (omega arith)
 
-record More (l : Nodes) : Type 0 where
-  pub head : Node
-  pub rest : Nodes
-  pub is : l ≡ head ▸ rest
-
 more-some : (l : Nodes) → true ≡ isMore l → More l
 more-some end h = let z : _≡_ {A = ℕ} 0 1 = cc in absurd (omega arith)
 more-some (x ▸ l) h = record { head = x; rest = l; is = refl }
@@ -481,12 +416,6 @@ module _ {X t : List ℕ} {n : ℕ} {K : List ℕ} (i : ℕ) (stop : Bool) {c : 
                   };
             },
           )
-
--- a matrix, or else what the bracket opens
-matrix-runs : (b : Bool) (d : ℕ) (stop : Bool) (i : ℕ) (I : Input) (en : Entry) (s u : State) (a : Node) → tryMatrix (I .text) (I .es) true (readers d I) en i s ≡ (some a, u) → bracketAt b d stop i I en s ≡ (a, u)
-unfolding nextBracket nextOpenCloseGroup
-matrix-runs true d stop i I en s u a h = bind _ _ s h ∙ ret _ _
-matrix-runs false d stop i I en s u a h = bind _ _ s h ∙ ret _ _
 
 module _ {X t : List ℕ} {n : ℕ} {K L : List ℕ} (i k : ℕ) (stop : Bool) {c : Cursor} {g : Tried} (p : TryMatrix X t n K L i c g) where
   pub bracket-matrix : g .made ≡ true → Bracket X t n K L i k stop c (operationAt (g .cur))

@@ -13,35 +13,20 @@ use Rattle.tokens.specs.Kinds.{numberOf}
 use Rattle.tree.specs.Tree.{Atom, Head, Prefix, Node, node, end, _▸_, leaf, one}
 use Rattle.reading.specs.Stop.{Stop}
 use Rattle.reading.specs.Entries.{Entry}
-use Rattle.reading.specs.Reading.{State, argument, begun, orMissing, endsOperand, look, isBarSymbol, isByte, textOf}
+use Rattle.reading.specs.Reading.{State, argument, begun, orMissing, endsOperand, look, isBarSymbol, isByte}
 use Rattle.records.specs.Record.{kindOf}
 use Rattle.lookahead.specs.Tests.{testAt, beginsKind, opening, prefixStop, takesOne}
 use Rattle.tree.specs.Words.{atomKind}
 use Rattle.tokens.specs.Lexeme.{Span}
 use Rattle.leaves.specs.Leaves.{leafKind, leafEnds, leafBar}
-use Rattle.spans.specs.Spans.{byteAt}
 use Rattle.closers_pass.specs.declared.cursor.Cursor.{Cursor}
 use Rattle.closers_pass.specs.declared.cursor.Part.{Part}
-use Rattle.reading_words.specs.Meet.{Input, Row, readers, stopOf, simpleAt}
+use Rattle.reading_words.specs.Meet.{Input, readers, stopOf, simpleAt}
 use Rattle.closers_pass.specs.Meet.{At, Simple, Begun, Bracket, operationAt}
 use Rattle.stores.proofs.Stores.{kept-refl, kept-trans}
 use Rattle.reading_words.proofs.Kit.{bind, ret, row-of, test-kind}
 use Rattle.reading_words.proofs.Sorts.{is-Sign, is-Function, is-Unary, is-Binary, is-OpenBracket, is-OpenCloseBracket, leaf-of}
-
-never21 : (stop : Bool) (k : ℕ) → k ≡ 21 → beginsKind stop k ≡ true → ⊥
-never21 stop k h w = let u : false ≡ true = rw h at w in let z : _≡_ {A = ℕ} 0 1 = cc in omega arith
-
-never23 : (stop : Bool) (k : ℕ) → k ≡ 23 → beginsKind stop k ≡ true → ⊥
-never23 stop k h w = let u : false ≡ true = rw h at w in let z : _≡_ {A = ℕ} 0 1 = cc in omega arith
-
-by-kind : (d i : ℕ) (stop sg : Bool) (I : Input) (s : State) (en : Entry) {k : Token} {r : Option Node × State} → en .token ≡ k
-    → begun (I .text) (I .es) true (readers d I) k en i (stopOf stop) sg s ≡ r → begun (I .text) (I .es) true (readers d I) (en .token) en i (stopOf stop) sg s ≡ r
-by-kind d i stop sg I s en h q = ap (λ (k : Token). begun (I .text) (I .es) true (readers d I) k en i (stopOf stop) sg s) h ∙ q
-
--- the text of an entry is one byte
-pub byte-at : {X t K : List ℕ} {i : ℕ} (text : List ℕ) (es : List Entry) (b : ℕ) (a : Entry) → text ≡ X → Row t K i a → isByte text es b (a .span) ≡ byteAt X t K i b
-unfolding isByte textOf byteAt
-byte-at text es b a h r = rw (h, r .start, r .len)
+use Rattle.reading_words.proofs.Steps.{by-kind, byte-at, never21, never23}
 
 module _ {X t : List ℕ} {n : ℕ} {K L : List ℕ} (i : ℕ) (stop sg : Bool) {c : Cursor} (inside : i < n) where
   by-bracket : {g : Part} → kindOf t K i ≡ 20 → Bracket X t n K L i 20 stop c g → Begun X t n K L i stop sg c g

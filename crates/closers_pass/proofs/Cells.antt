@@ -12,8 +12,7 @@ use Rattle.tokens.specs.declared.token.Token.the-variants as token
 use Rattle.tree.specs.Tree.{Head, Node, node, Nodes, end, _▸_, _⧺_, count}
 use Rattle.reading.specs.Stop.{Stop}
 use Rattle.reading.specs.Entries.{Entry, is}
-use Rattle.reading.specs.Reading.{State, M, Readers, return, closed, any, advance, intermediates, rowCells, nextMatrixRow, prefixes, isColumnLine, keptCols, lineCells}
-use Rattle.reading.specs.Reading as reading
+use Rattle.reading.specs.Reading.{State, closed, any, advance, intermediates, rowCells, nextMatrixRow, prefixes, isColumnLine, keptCols, lineCells}
 use Rattle.lookahead.specs.Tests.{testAt, isKind}
 use Rattle.lookahead.proofs.Testing.{test-below}
 use Rattle.closers_pass.specs.declared.cursor.Cursor.{Cursor}
@@ -24,9 +23,10 @@ use Rattle.reading_words.specs.Meet.{Input, Stands, readers}
 use Rattle.closers_pass.specs.Meet.{At, Moves, Each, Intermediates, onward, passing}
 use Rattle.closers_pass.specs.Matrix.{Counts, Fails, cellsAt, RowCells, rowAt, MatrixRow}
 use Rattle.stores.proofs.Stores.{kept-refl, kept-trans, closer-kept}
-use Rattle.reading_words.proofs.Kit.{shut, ret-closed, bind, ret, at-here, if-true, if-false, tick, kind-is, past, advance-took, advance-end}
+use Rattle.reading_words.proofs.Kit.{shut, ret-closed, bind, ret, at-here, if-false, tick, kind-is, past, advance-took, advance-end}
 use Rattle.closers_pass.proofs.Kit.{at-tick, at-shut}
-use Rattle.closers_pass.proofs.Loop.{nodes-assoc, whole-items}
+use Rattle.closers_pass.proofs.Loop.{whole-items}
+use Rattle.reading_words.proofs.Steps.{row-taken, turn-end, turn-other, turn-sep, turn-shut, with-one, withCells}
 
 -- one token passed, if there is one
 pub passing-in : (n : ℕ) (c : Cursor) → c .pos < n → passing n c ≡ onward c
@@ -66,39 +66,6 @@ took-any {I = I} {s = s} {p = p} a h =
 
 pub end-any : {X t : List ℕ} {n : ℕ} {K : List ℕ} {I : Input} {s : State} {p u : ℕ} → At X t n K p u I s → n ≤ p → advance (I .text) (I .es) any s ≡ (none, s)
 end-any {I = I} {s = s} a h = advance-end (I .text) (I .es) any s (past (I .es) (s .pos) (omega (arith, a .pos, a .given .size)))
-
--- the cells read so far before those to come
-abbrev withCells : Nodes → Option (Nodes × Entry) × State → Option (Nodes × Entry) × State
-withCells acc (none, u) = (none, u)
-withCells acc (some m, u) = (some (acc ⧺ m .0, m .1), u)
-
-with-one : (acc l : Nodes) (q : Option (Nodes × Entry)) (u : State) → withCells acc (withCells (node Head.cell l ▸ end) (q, u)) ≡ withCells (acc ⧺ (node Head.cell l ▸ end)) (q, u)
-with-one acc l none u = refl
-with-one acc l (some m) u = ap (λ (w : Nodes). (some (w, m .1), u)) (sym (nodes-assoc acc (node Head.cell l ▸ end) (m .0)))
-
--- one turn of the definition
-module _ (I : Input) (R : Readers) (f : ℕ) (l : Nodes) (s u : State)
-    (run : intermediates (I .text) (I .es) true R (suc (length (I .es))) none Stop.sep none s ≡ (l, u)) where
-  turn-end : {v : State} → advance (I .text) (I .es) any u ≡ (none, v) → rowCells (I .text) (I .es) true R (suc f) s ≡ (none, v)
-  unfolding rowCells
-  turn-end h = bind _ _ s run ∙ bind _ _ u h ∙ ret _ _
-
-  module _ {e : Entry} {v : State} (h : advance (I .text) (I .es) any u ≡ (some e, v)) where
-    turn-sep : is token.Sep e ≡ true → rowCells (I .text) (I .es) true R (suc f) s ≡ withCells (node Head.cell l ▸ end) (rowCells (I .text) (I .es) true R f v)
-    unfolding rowCells
-    turn-sep k = bind _ _ s run ∙ bind _ _ u h ∙ if-true _ _ v k ∙ bind _ _ v refl ∙ go (rowCells (I .text) (I .es) true R f v)
-      where
-        go : (r : Option (Nodes × Entry) × State) → elim (r .0) as (λ _. M (Option (Nodes × Entry))) [ none ↦ return none | some m ↦ return (some (node Head.cell l ▸ m .0, m .1)) ] (r .1) ≡ withCells (node Head.cell l ▸ end) r
-        go (none, w) = ret _ _
-        go (some m, w) = ret _ _
-
-    turn-shut : is token.Sep e ≡ false → is token.CloseBracket e ≡ true → rowCells (I .text) (I .es) true R (suc f) s ≡ (some (node Head.cell l ▸ end, e), v)
-    unfolding rowCells
-    turn-shut k k2 = bind _ _ s run ∙ bind _ _ u h ∙ if-false _ _ v k ∙ if-true _ _ v k2 ∙ ret _ _
-
-    turn-other : is token.Sep e ≡ false → is token.CloseBracket e ≡ false → rowCells (I .text) (I .es) true R (suc f) s ≡ (none, v)
-    unfolding rowCells
-    turn-other k k2 = bind _ _ s run ∙ bind _ _ u h ∙ if-false _ _ v k ∙ if-false _ _ v k2 ∙ ret _ _
 
 -- how many cells are no lines, with one cell more
 kept-snoc : (text : List ℕ) (es : List Entry) (acc : Nodes) (x : Node) → keptCols (lineCells text es (acc ⧺ (x ▸ end))) ≡ cond (isColumnLine text es x) (keptCols (lineCells text es acc)) (keptCols (lineCells text es acc) + 1)
@@ -252,12 +219,6 @@ module _ {X t : List ℕ} {n : ℕ} {K : List ℕ} (c : Cursor) where
       pub cells-ended : (r : Bool) → r ≡ testAt t J n (isKind 21) (g .cur .pos) → RowCells X t n K J c (record { cur = passing n (g .cur); count = num + 1; kept = cond (g .line) kept (kept + 1); shut = r; right = g .cur .pos })
       cells-ended true e = shut-cells (sym e)
       cells-ended false e = broken-cells (sym e)
-
-row-taken : (I : Input) (R : Readers) (s u : State) (o : Entry) (q : Option (Nodes × Entry)) (v : State) → advance (I .text) (I .es) any s ≡ (some o, u) → is token.OpenBracket o ≡ true
-    → rowCells (I .text) (I .es) true R (suc (length (I .es))) u ≡ (q, v)
-    → nextMatrixRow (I .text) (I .es) true R s ≡ elim q as (λ _. M (Option reading.Row)) [ none ↦ return none | some m ↦ closed (s .pos) (some (record { left = o; right = m .1; cells = m .0 })) ] v
-unfolding nextMatrixRow
-row-taken I R s u o q v h k r = bind _ _ s (at-here s) ∙ bind _ _ s h ∙ if-true _ _ u k ∙ bind _ _ u r
 
 -- a row: its bracket and its cells
 module _ (X t : List ℕ) (n : ℕ) (K : List ℕ) (c : Cursor) where

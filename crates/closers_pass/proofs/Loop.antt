@@ -1,42 +1,24 @@
 -- The loop over items: what it keeps, and what each way out of it shows.
-use Prim.Native.Nat.{ℕ, zero, suc, _-_, _≤_, _<_}
+use Prim.Native.Nat.{ℕ, zero, suc, _-_, _≤_}
 use mathlib.Core.Path.{_≡_, refl, sym, ap, _∙_}
 use mathlib.Core.List.{List}
 use mathlib.Core.Option.{Option, none, some}
-use mathlib.Core.Bool.{Bool, true, false, not, _&&_, cond}
+use mathlib.Core.Bool.{Bool, true, false, not, cond}
 use native.Mathlib.Omega.{arith}
 use lib.ListN.{length, getElem?}
-use lib.Dec.{eqb, ltb}
-use borrow.Author.Tests.{ltb-true, ltb-false, lt-ltb, le-ltb}
-use Rattle.tokens.specs.declared.token.Token.the-variants as token
 use Rattle.tree.specs.Tree.{Head, Atom, Node, node, Nodes, end, _▸_, _⧺_, leaf}
 use Rattle.reading.specs.Entries.{Entry}
-use Rattle.reading.specs.Reading.{State, isAt, isBar, atOpenClose, sameText, textOf, nextIntermediate, intermediates, prefixes, spaced, isColumnLine}
+use Rattle.reading.specs.Reading.{State, atOpenClose, nextIntermediate, prefixes, spaced, isColumnLine}
 use Rattle.closers_pass.specs.declared.cursor.Part.{Part}
 use Rattle.closers_pass.specs.declared.cursor.Items.{Items}
 use Rattle.tokens.specs.Refusals.{bit}
 use Rattle.stores.proofs.Stores.{kept-refl, kept-trans}
 use Rattle.closers_pass.proofs.Simple.{got, lack, runs-as}
 use Rattle.closers_pass.specs.declared.cursor.Cursor.{Cursor}
-use Rattle.records.specs.Record.{kindOf}
-use Rattle.lookahead.specs.Tests.{testAt, isKind}
-use Rattle.spans.specs.Spans.{sameAt}
 use Rattle.brackets.specs.Brackets.{barAt}
-use Rattle.reading_words.specs.Meet.{Input, Row, Given, readers, Until, lastAfter, isNone, stopOf, itemsAt, itemsFrom}
+use Rattle.reading_words.specs.Meet.{Input, readers, Until, lastAfter, isNone, stopOf, itemsAt, itemsFrom}
 use Rattle.closers_pass.specs.Meet.{At, Moves, Each, Gives, Listed, Intermediate, Intermediates, isMore, lineOf, linePart, endsOf}
-use Rattle.reading_words.proofs.Kit.{bind, ret, at-here, if-true, if-false, row-of, test-in, test-out, same-is, past, at-some, at-none}
-
-pub nodes-assoc : (l m k : Nodes) → (l ⧺ m) ⧺ k ≡ l ⧺ (m ⧺ k)
-nodes-assoc end m k = refl
-nodes-assoc (x ▸ l) m k = ap (λ (w : Nodes). x ▸ w) (nodes-assoc l m k)
-
-pub nodes-nil : (l : Nodes) → l ⧺ end ≡ l
-nodes-nil end = refl
-nodes-nil (x ▸ l) = ap (λ (w : Nodes). x ▸ w) (nodes-nil l)
-
--- The items read so far, put before those to come.
-abbrev pub joined : Nodes → Nodes × State → Nodes × State
-joined acc r = (acc ⧺ r .0, r .1)
+use Rattle.reading_words.proofs.Steps.{ended, ended-is, from-start, joined, last-more, nodes-nil, rejoin, turn-found, turn-met, turn-nothing}
 
 -- The Space kept before an item, as nodes, whatever follows.
 record Spaced (i : ℕ) (es : List Entry) (before : Option Node) : Type 0 where
@@ -63,59 +45,6 @@ spaces i es (some b) = go (getElem? es i) refl
     go : (o : Option Entry) → getElem? es i ≡ o → Spaced i es (some b)
     go none h = record { nodes = end; put = λ x l. rw (spaced, h); first = λ z. no-first z }
     go (some e) h = by-len e h (e .space .len) refl
-
-pub last-append : (b : Option Node) (l m : Nodes) → lastAfter b (l ⧺ m) ≡ lastAfter (lastAfter b l) m
-last-append b end m = refl
-last-append b (x ▸ l) m = last-append (some x) l m
-
-last-more : (b : Option Node) (acc nodes : Nodes) (x : Node) → lastAfter b (acc ⧺ (nodes ⧺ (x ▸ end))) ≡ some x
-last-more b acc nodes x = last-append b acc (nodes ⧺ (x ▸ end)) ∙ last-append (lastAfter b acc) nodes (x ▸ end)
-
-rejoin : (acc nodes : Nodes) (x : Node) (l : Nodes) → acc ⧺ (nodes ⧺ (x ▸ l)) ≡ (acc ⧺ (nodes ⧺ (x ▸ end))) ⧺ l
-rejoin acc nodes x l = ap (λ (w : Nodes). acc ⧺ w) (sym (nodes-assoc nodes (x ▸ end) l)) ∙ sym (nodes-assoc acc (nodes ⧺ (x ▸ end)) l)
-
--- The code's tests of texts.
-pub same-text : {X t K : List ℕ} {i j : ℕ} (text : List ℕ) (es : List Entry) (a b : Entry) → text ≡ X → Row t K i a → Row t K j b → sameText text es (a .span) (b .span) ≡ sameAt X t K i j
-unfolding sameText textOf sameAt
-same-text text es a b h r q = rw (h, r .start, r .len, q .start, q .len)
-
-and-pick : (a b : Bool) → (a && b) ≡ cond a b false
-and-pick true b = refl
-and-pick false b = refl
-
-bar-in : (X t K : List ℕ) (n i j : ℕ) → i < n → j < n → barAt X t K n i j ≡ cond (eqb (kindOf t K j) 22) (sameAt X t K i j) false
-unfolding barAt
-bar-in X t K n i j h k = rw (lt-ltb i n h, test-in t K n (isKind 22) j k)
-
-bar-out : (X t K : List ℕ) (n i j : ℕ) → n ≤ j → barAt X t K n i j ≡ false
-unfolding barAt
-bar-out X t K n i j h = go (ltb i n)
-  where
-    go : (b : Bool) → cond b (cond (testAt t K n (isKind 22) j) (sameAt X t K i j) false) false ≡ false
-    go true = rw (test-out t K n (isKind 22) j h)
-    go false = refl
-
-bar-none : (X t K : List ℕ) (n i j : ℕ) → n ≤ i → barAt X t K n i j ≡ false
-unfolding barAt
-bar-none X t K n i j h = rw (le-ltb i n h)
-
-pub bar-is : {X t : List ℕ} {n : ℕ} {K : List ℕ} {I : Input} (i p : ℕ) (o : Entry) → Given X t n K I → i < n → getElem? (I .es) i ≡ some o → isAt (I .text) (I .es) (isBar (I .text) (I .es) o) p ≡ barAt X t K n i p
-unfolding isBar
-bar-is {X} {t} {n} {K} {I} i p o g h there = go (ltb p n) refl
-  where
-    go : (b : Bool) → ltb p n ≡ b → isAt (I .text) (I .es) (isBar (I .text) (I .es) o) p ≡ barAt X t K n i p
-    go true e =
-        let l : p < n = ltb-true p n e in
-        let q = g .stands p l in
-        at-some (I .text) (I .es) _ p (q .entry) (q .there)
-        ∙ rw (same-is token.OpenCloseBracket (q .entry), same-text (I .text) (I .es) o (q .entry) (g .text) (row-of g h there) (q .row), ← q .row .kind) (and-pick (eqb (kindOf t K p) 22) (sameAt X t K i p))
-        ∙ sym (bar-in X t K n i p h l)
-    go false e = at-none (I .text) (I .es) _ p (past (I .es) p (omega (arith, ltb-false p n e, g .size))) ∙ sym (bar-out X t K n i p (ltb-false p n e))
-
-pub until-is : {X t : List ℕ} {n : ℕ} {K : List ℕ} (u : ℕ) (I : Input) (until : Option Entry) (p : ℕ) → Given X t n K I → Until n I u until → atOpenClose (I .text) (I .es) until p ≡ barAt X t K n u p
-unfolding atOpenClose
-until-is {X} {t} {n} {K} u I none p g h = sym (bar-none X t K n u p h)
-until-is u I (some o) p g h = bar-is u p o g (h .0) (h .1)
 
 -- One item more: whether the items are a bar alone.
 more-snoc : (acc nodes : Nodes) (x : Node) → true ≡ isMore (acc ⧺ (nodes ⧺ (x ▸ end)))
@@ -165,36 +94,6 @@ pub record Inv (X t : List ℕ) (n : ℕ) (K L : List ℕ) (u : ℕ) (stop first
 before-start : (start before : Option Node) (acc : Nodes) → before ≡ lastAfter start acc → isMore acc ≡ false → before ≡ start
 before-start start before end h k = h
 before-start start before (x ▸ acc) h k = let z : _≡_ {A = ℕ} 0 1 = cc in absurd (omega arith)
-
--- The bar is looked for behind an item only.
-abbrev ended : Option Node → Bool → Bool
-ended none b = false
-ended (some x) b = b
-
--- one turn of the definition
-module _ (I : Input) (d : ℕ) (until : Option Entry) (stop : Bool) (s u : State) where
-  turn-found : (before : Option Node) (f : ℕ) (x : Node) → ended before (atOpenClose (I .text) (I .es) until (s .pos)) ≡ false → nextIntermediate (I .text) (I .es) true (readers d I) (stopOf stop) (prefixes before) s ≡ (some x, u)
-      → itemsFrom d f until stop before I s ≡ (let r = itemsAt d f until stop (some x) I u in (spaced before (getElem? (I .es) (s .pos)) x (r .0), r .1))
-  unfolding intermediates spaced prefixes
-  turn-found none f x k h = bind _ _ s h ∙ bind _ _ u refl ∙ ret _ _
-  turn-found (some b) f x k h = bind _ _ s (at-here s) ∙ if-false _ _ s k ∙ bind _ _ s h ∙ bind _ _ u refl ∙ ret _ _
-
-  turn-nothing : (before : Option Node) (f : ℕ) → ended before (atOpenClose (I .text) (I .es) until (s .pos)) ≡ false → nextIntermediate (I .text) (I .es) true (readers d I) (stopOf stop) (prefixes before) s ≡ (none, u)
-      → itemsFrom d f until stop before I s ≡ (end, u)
-  unfolding intermediates prefixes
-  turn-nothing none f k h = bind _ _ s h ∙ ret _ _
-  turn-nothing (some b) f k h = bind _ _ s (at-here s) ∙ if-false _ _ s k ∙ bind _ _ s h ∙ ret _ _
-
-module _ (I : Input) (d : ℕ) (until : Option Entry) (stop : Bool) (s : State) where
-  turn-met : (before : Option Node) (f : ℕ) → ended before (atOpenClose (I .text) (I .es) until (s .pos)) ≡ true → itemsFrom d f until stop before I s ≡ (end, s)
-  unfolding intermediates
-  turn-met none f k = let z : _≡_ {A = ℕ} 0 1 = cc in absurd (omega arith)
-  turn-met (some b) f k = bind _ _ s (at-here s) ∙ if-true _ _ s k ∙ ret _ _
-
--- the code's test
-ended-is : {X t : List ℕ} {n : ℕ} {K : List ℕ} (u : ℕ) (I : Input) (until : Option Entry) (before : Option Node) (p : ℕ) → Given X t n K I → Until n I u until → ended before (atOpenClose (I .text) (I .es) until p) ≡ barAt X t K n (cond (isNone before) n u) p
-ended-is {X} {t} {n} {K} u I until none p g h = sym (bar-none X t K n n p (omega arith))
-ended-is u I until (some b) p g h = until-is u I until p g h
 
 module _ {X t : List ℕ} {n : ℕ} {K : List ℕ} (u : ℕ) (stop first₀ sign₀ : Bool) (c : Cursor) where
   pub along-none : c .pos ≤ n → Inv X t n K K u stop first₀ sign₀ c c first₀ false false sign₀
@@ -270,12 +169,6 @@ module _ {X t : List ℕ} {n : ℕ} {K : List ℕ} (u : ℕ) (stop first₀ sign
           besides = record { some = a .isMore′; line = a .isLine; sign = a .isSign ∙ ap prefixes (a .last) };
         };
   }
-
--- Where no bar ends the items, the code's order is the definition's.
-from-start : (I : Input) (d f : ℕ) (stop : Bool) (before : Option Node) (s : State) → itemsAt d (suc f) none stop before I s ≡ itemsFrom d f none stop before I s
-unfolding intermediates spaced prefixes atOpenClose
-from-start I d f stop none s = bind _ _ s (at-here s) ∙ if-false _ _ s refl
-from-start I d f stop (some b) s = refl
 
 pub whole-items : {X t : List ℕ} {n : ℕ} {K L : List ℕ} {u : ℕ} {stop first sign : Bool} {c : Cursor} {g : Items} → Intermediates X t n K L u stop first sign c g → n ≤ u → (I : Input) (s : State) → At X t n K (c .pos) (c .takes) I s → (before : Option Node) → first ≡ isNone before → sign ≡ prefixes before
     → Gives X t n L (itemsAt (c .depth) (suc (length (I .es))) none stop before I) (Listed X t n I before g) I s (g .cur)

@@ -16,11 +16,12 @@ use Rattle.closers_pass.specs.declared.cursor.Cursor.{Cursor}
 use Rattle.closers_pass.specs.declared.cursor.Part.{Part}
 use Rattle.closers_pass.specs.declared.cursor.Scripted as code
 use Rattle.tokens.specs.Refusals.{bit}
-use Rattle.reading_words.specs.Meet.{Input, readers, stopOf, scriptFuncAt}
+use Rattle.reading_words.specs.Meet.{Input, readers, stopOf}
 use Rattle.closers_pass.specs.Meet.{At, isSome, endsOf, barOf, lineOf, linePart, scripts, Simple, ScriptFunc, Term, Intermediate, Scripts, Headed, Begun, onward, seen, inner, atDepth, nothingAt, operationAt, partAt}
 use Rattle.stores.proofs.Stores.{kept-refl, kept-trans}
-use Rattle.reading_words.proofs.Kit.{bind, ret, at-here, if-true, if-false, tick, row-of, same-is, same-marks, same-heads, same-begins, kind-is, level-simple, level-scriptFunc, deep-simple, deep-scriptFunc}
+use Rattle.reading_words.proofs.Kit.{bind, ret, at-here, if-true, if-false, tick, row-of, same-is, same-marks, same-heads, same-begins, kind-is, level-simple, deep-simple, deep-scriptFunc}
 use Rattle.closers_pass.proofs.Kit.{at-tick, took, passed}
+use Rattle.reading_words.proofs.Steps.{script-runs}
 
 -- A node, or none, by the flag.
 pub record Got (a : Option Node) : Type 0 where
@@ -175,11 +176,6 @@ module _ {X t : List ℕ} {n : ℕ} {K L : List ℕ} (stop sg : Bool) {c : Curso
               besides = record { some = refl; ends = q .besides .ends ∙ ap endsOf (z .is); bar = ap (λ (b : Bool). cond b false (g .bar)) (q2 .besides) ∙ ap (cond (scripts (q2 .answer .0)) false) (q .besides .bar ∙ ap (barOf I) (z .is)) ∙ unscripted-is (q2 .answer .0) _ };
             };
       }
-
--- a scripted part
-module _ (d : ℕ) (stop sg : Bool) (deep : d < 256) where
-  script-runs : (I : Input) (s : State) {r : Option Node × State} → nextScriptFunc (I .text) (I .es) true (readers (d + 1) I) (stopOf stop) sg s ≡ r → scriptFuncAt d stop sg I s ≡ r
-  script-runs I s h = ap (λ (f : Stop → Bool → M (Option Node)). f (stopOf stop) sg s) (level-scriptFunc I d deep) ∙ h
 
 module _ {X t : List ℕ} {n : ℕ} {K L : List ℕ} (stop sg : Bool) {c : Cursor} (deep : c .depth < 256) where
   pub script-term : {g : Part} → testAt t K n (headsKind sg) (c .pos) ≡ false → Term X t n K L stop sg (inner (seen n c)) g → ScriptFunc X t n K L stop sg c (partAt (c .depth) g)

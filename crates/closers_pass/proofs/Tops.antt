@@ -7,41 +7,23 @@ use mathlib.Core.Bool.{Bool, true, false}
 use native.Mathlib.Omega.{arith}
 use lib.ListN.{length, getD, replicate}
 use Rattle.tokens.specs.declared.token.Token.the-variants as token
-use Rattle.tokens.specs.Lexeme.{Span}
 use Rattle.tree.specs.Tree.{nowhere, Head, Node, node, Nodes, end, _▸_, _⧺_}
 use Rattle.reading.specs.Stop.{Stop}
 use Rattle.reading.specs.Entries.{Entry, is}
-use Rattle.reading.specs.Reading.{State, advance, intermediates, level, parse, parseEntries, lastOf, unscripted, prefixes, endsOperand, endsFirst, look}
+use Rattle.reading.specs.Reading.{State, advance, intermediates, level, parse, parseEntries, lastOf, unscripted, prefixes}
 use Rattle.lookahead.specs.Tests.{testAt, isKind}
 use Rattle.lookahead.proofs.Testing.{test-below}
 use Rattle.closers_pass.specs.declared.cursor.Cursor.{Cursor}
 use Rattle.closers_pass.specs.declared.cursor.Items.{Items}
 use Rattle.records.specs.Record.{Kept}
-use Rattle.reading_words.specs.Meet.{Input, Given, lastAfter, isNone}
+use Rattle.reading_words.specs.Meet.{Input, Given, isNone}
 use Rattle.closers_pass.specs.Meet.{At, Intermediates, onward, seen}
 use Rattle.closers_pass.specs.Top.{Blank, Passed, Paired}
 use Rattle.stores.proofs.Stores.{kept-refl, kept-trans}
 use Rattle.reading_words.proofs.Kit.{bind, ret, tick, same-is}
 use Rattle.closers_pass.proofs.Kit.{at-tick, took, passed}
-use Rattle.closers_pass.proofs.Loop.{last-append, whole-items}
-
--- The last item.
-last-is : (b : Node) (l : Nodes) → lastOf (b ▸ l) ≡ lastAfter (some b) l
-unfolding lastOf
-last-is b end = refl
-last-is b (x ▸ l) = last-is x l
-
-last-of : (l : Nodes) → lastOf l ≡ lastAfter none l
-unfolding lastOf
-last-of end = refl
-last-of (x ▸ l) = last-is x l
-
-last-join : (acc l : Nodes) → lastOf (acc ⧺ l) ≡ lastAfter (lastOf acc) l
-last-join acc l = last-of (acc ⧺ l) ∙ last-append none acc l ∙ ap (λ (b : Option Node). lastAfter b l) (sym (last-of acc))
-
-some-after : (b : Option Node) (l : Nodes) → isNone b ≡ false → isNone (lastAfter b l) ≡ false
-some-after b end h = h
-some-after b (x ▸ l) h = some-after (some x) l refl
+use Rattle.closers_pass.proofs.Loop.{whole-items}
+use Rattle.reading_words.proofs.Steps.{absurd-bool, last-join, no-first, no-sign, some-after}
 
 -- one turn of the definition
 module _ (X : List ℕ) (es : List Entry) (f : ℕ) (acc l : Nodes) (s t u : State)
@@ -57,17 +39,6 @@ module _ (X : List ℕ) (es : List Entry) (f : ℕ) (acc l : Nodes) (s t u : Sta
   parse-wrap : (w : ℕ) (c : Entry) → advance X es (is token.CloseBracket) t ≡ (some c, u) → parse X es true (suc f) (suc w) acc s ≡ parse X es true f w (unscripted (node (Head.group nowhere (c .span)) (acc ⧺ l)) ▸ end) u
   unfolding parse
   parse-wrap w c h = bind _ _ s run ∙ bind _ _ t h
-
-no-sign : (c : Span) (m : Nodes) → false ≡ prefixes (lastOf (unscripted (node (Head.group nowhere c) m) ▸ end))
-unfolding lastOf prefixes endsOperand look endsFirst
-no-sign c m = refl
-
-no-first : (x : Node) → false ≡ isNone (lastOf (x ▸ end))
-unfolding lastOf
-no-first x = refl
-
-absurd-bool : {A : Type 0} → true ≡ false → A
-absurd-bool h = let z : _≡_ {A = ℕ} 0 1 = cc in absurd (omega arith)
 
 all-none : (k m j : ℕ) → getD (replicate k m) j m ≡ m
 all-none zero m j = refl

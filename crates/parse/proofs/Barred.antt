@@ -2,25 +2,23 @@
 use Prim.Native.Nat.{ℕ, suc, _+_, _*_, _-_, _≤_, _<_}
 use mathlib.Core.Path.{_≡_, refl, sym, ap, _∙_, subst}
 use mathlib.Core.List.{List}
-use mathlib.Core.Option.{Option, none, some}
-use mathlib.Core.Bool.{Bool, true, false, cond}
+use mathlib.Core.Option.{none, some}
+use mathlib.Core.Bool.{Bool, true, false}
 use native.Mathlib.Omega.{arith}
 use lib.ListN.{length, getD, getElem?, set}
-use lib.Dec.{eqb, ltb}
+use lib.Dec.{eqb}
 use borrow.Author.Tests.{ne-eqb}
 use lib.Seq.{sets, length-sets}
-use Rattle.tree.specs.Tree.{Head, Node, node, Nodes, end, _▸_, count}
+use Rattle.tree.specs.Tree.{Head, node, Nodes, end, _▸_, count}
 use Rattle.tree.specs.Words.{encode, encodeItems}
 use Rattle.reading.specs.Entries.{Entry}
-use Rattle.reading.specs.Reading.{State, M, Try, made, lost, nought, return, _>>=_, if_then_else_, here, closed, advance, any, openMark, slot, isAt, isBar, barBody, tryMatrix, nextOpenCloseGroup, nextBracket, glyphOf, endsOperand, look, atomEnds, prefixes}
+use Rattle.reading.specs.Reading.{State, made, lost, nought, if_then_else_, here, closed, any, openMark, slot, isAt, isBar, barBody, nextOpenCloseGroup, nextBracket, glyphOf, endsOperand, look, atomEnds, prefixes}
 use Rattle.parse.specs.declared.cursor.Cursor.{Cursor}
 use Rattle.parse.specs.declared.cursor.Step.the-variants.{Found, Nothing}
 use Rattle.parse.specs.declared.cursor.Part.{Part}
 use Rattle.parse.specs.declared.cursor.Items.{Items}
 use Rattle.parse.specs.Buffer.{Wrote}
 use Rattle.records.specs.Record.{marksOf, Whole, withMarks, Kept}
-use Rattle.lookahead.specs.Tests.{testAt, isKind}
-use Rattle.spans.specs.Spans.{sameAt}
 use Rattle.brackets.specs.Brackets.{barAt}
 use Rattle.marks.specs.Marks.{isMarked, withMark}
 use Rattle.leaves.specs.Leaves.{leafEnds, leafWords}
@@ -28,17 +26,12 @@ use Rattle.nodes.specs.Nodes.{groupWords}
 use Rattle.marks.specs.Marks as entry
 use Rattle.parse.specs.Meet.{Intermediates, OpenGroup, Bracket, TryMatrix, Bars, onward, rewound}
 use Rattle.parse.proofs.Buffer.{push, fill, seq, back}
-use Rattle.lookahead.proofs.Testing.{test-below}
-use Rattle.parse.proofs.Loop.{bar-is}
 use Rattle.parse.proofs.Scripting.{closed-words, group-size}
-use Rattle.reading_words.specs.Meet.{Input, Row, At, Known, readers, stopOf, intermediateAt, itemsAt, itemsFrom, bracketAt}
+use Rattle.reading_words.specs.Meet.{Input, Row, At, Known, readers, stopOf}
 use Rattle.stores.proofs.Stores.{kept-refl, kept-trans, marks-kept}
 use Rattle.reading_words.proofs.Kit.{shut, ret-closed, at-shut, bind, ret, at-here, if-true, if-false, tick, at-tick, row-of, advance-took}
-use Rattle.reading_words.proofs.Attempts.{markNumber, mark-is, at-lost, known-lost, attempt-known, attempt-made, attempt-lost, attempt-nought, marked}
-
-number-open : (stop : Bool) → markNumber (openMark (stopOf stop)) ≡ entry.openMark stop
-number-open true = refl
-number-open false = refl
+use Rattle.reading_words.proofs.Attempts.{mark-is, at-lost, known-lost, attempt-known, attempt-made, attempt-lost, attempt-nought, marked}
+use Rattle.reading_words.proofs.Steps.{More, bar-below, bar-body, bar-is, barEnd, matrix-runs, number-open}
 
 pub open-small : (stop : Bool) → (0 < entry.openMark stop) × (entry.openMark stop < 8)
 open-small true = (omega arith, omega arith)
@@ -48,15 +41,6 @@ open-small false = (omega arith, omega arith)
 open-known : {X t : List ℕ} {n : ℕ} {K : List ℕ} {p u : ℕ} {I : Input} {s : State} (i : ℕ) (stop b : Bool) → At X t n K p u I s → i < n → isMarked (marksOf K i) (entry.openMark stop) ≡ b → getD (s .marks) (slot (openMark (stopOf stop)) i) false ≡ b
 open-known i stop b at h k = sym (mark-is (openMark (stopOf stop)) i (at .marks) h) ∙ ap (isMarked _) (number-open stop) ∙ k
 
-pub bar-below : (X t K : List ℕ) (n i p : ℕ) → barAt X t K n i p ≡ true → p < n
-unfolding barAt
-bar-below X t K n i p h = go (ltb i n) (testAt t K n (isKind 22) p) refl h
-  where
-    go : (a b : Bool) → testAt t K n (isKind 22) p ≡ b → cond a (cond b (sameAt X t K i p) false) false ≡ true → p < n
-    go true true e k = test-below t K n (isKind 22) p e
-    go true false e k = let z : _≡_ {A = ℕ} 0 1 = cc in absurd (omega arith)
-    go false b e k = let z : _≡_ {A = ℕ} 0 1 = cc in absurd (omega arith)
-
 glyph-words : {t K : List ℕ} {i : ℕ} {en : Entry} → Row t K i en → encode (glyphOf en) ≡ leafWords t K i 22
 unfolding encode
 glyph-words r = rw (r .start, r .len)
@@ -65,40 +49,9 @@ glyph-ends : (en : Entry) → true ≡ endsOperand (glyphOf en)
 unfolding endsOperand look atomEnds
 glyph-ends en = refl
 
--- The body of a bar's attempt, by the items that the code reads.
-abbrev barEnd : Input → ℕ → Entry → Nodes → M Try
-barEnd I i o end = return nought
-barEnd I i o (x ▸ l) =
-    here >>= λ p.
-    if isAt (I .text) (I .es) (isBar (I .text) (I .es) o) p
-    then (advance (I .text) (I .es) any >>= λ t. elim t [
-      | none ↦ return lost
-      | some c ↦ closed i (made (node (Head.group (o .span) (c .span)) (x ▸ l)))
-    ])
-    else return lost
-
-bar-body : (I : Input) (d i : ℕ) (o : Entry) (stop : Bool) (s : State) {l : Nodes} {u : State} → itemsFrom d (suc (length (I .es))) (some o) stop none I s ≡ (l, u)
-    → barBody (I .text) (I .es) true (readers d I) o i (stopOf stop) s ≡ barEnd I i o l u
-unfolding barBody
-bar-body I d i o stop s {l} {u} h = go (intermediateAt d stop true I s) refl
-  where
-    go : (r : Option Node × State) → intermediateAt d stop true I s ≡ r → barBody (I .text) (I .es) true (readers d I) o i (stopOf stop) s ≡ barEnd I i o l u
-    go (none, v) k =
-        let same : _≡_ {A = Nodes × State} (end, v) (l, u) = sym (bind _ _ s k ∙ ret _ _) ∙ h in
-        bind _ _ s k ∙ ap (λ (w : Nodes × State). barEnd I i o (w .0) (w .1)) same
-    go (some x, v) k =
-        let r = itemsAt d (suc (length (I .es))) (some o) stop (some x) I v in
-        let same : _≡_ {A = Nodes × State} (x ▸ r .0, r .1) (l, u) = sym (bind _ _ s k ∙ bind _ _ v refl ∙ ret _ _) ∙ h in
-        bind _ _ s k ∙ bind _ _ v refl ∙ ap (λ (w : Nodes × State). barEnd I i o (w .0) (w .1)) same
-
 count-none : (l : Nodes) → count l ≡ 0 → l ≡ end
 count-none end h = refl
 count-none (x ▸ l) h = absurd (omega arith)
-
-record More (l : Nodes) : Type 0 where
-  pub head : Node
-  pub rest : Nodes
-  pub is : l ≡ head ▸ rest
 
 count-some : (l : Nodes) → (count l ≡ 0 → ⊥) → More l
 count-some end h = absurd (h refl)
@@ -190,12 +143,6 @@ module _ {X t : List ℕ} {n : ℕ} {K : List ℕ} (i : ℕ) (stop : Bool) {c : 
                   besides = glyph-ends en;
                 };
           })
-
--- a matrix, or else what the bracket opens
-matrix-runs : (b : Bool) (d : ℕ) (stop : Bool) (i : ℕ) (I : Input) (en : Entry) (s u : State) (a : Node) → tryMatrix (I .text) (I .es) true (readers d I) en i s ≡ (some a, u) → bracketAt b d stop i I en s ≡ (a, u)
-unfolding nextBracket nextOpenCloseGroup
-matrix-runs true d stop i I en s u a h = bind _ _ s h ∙ ret _ _
-matrix-runs false d stop i I en s u a h = bind _ _ s h ∙ ret _ _
 
 module _ {X t : List ℕ} {n : ℕ} {K L : List ℕ} (i : ℕ) (stop : Bool) {c : Cursor} {e : ℕ} {x y : List ℕ} where
   pub bracket-matrix : (k : ℕ) {b : Cursor} {E : ℕ} {f : Bool} → TryMatrix X t n K L i c e x y (Found b E f) → Bracket X t n K L i k stop c e x y (record { cur = b; end = E; ends = f })

@@ -33,6 +33,7 @@ use Rattle.reading_words.specs.Meet.{Input, Known, readers, stopOf}
 use Rattle.stores.proofs.Stores.{kept-refl}
 use Rattle.reading_words.proofs.Kit.{bind, ret, at-here, tick, at-tick, row-of, took, passed, test-kind, same-begins, level-simple}
 use Rattle.reading_words.proofs.Sorts.{is-Sign, is-Function, is-Unary, is-Binary, is-OpenBracket, is-OpenCloseBracket, leaf-of}
+use Rattle.reading_words.proofs.Steps.{by-kind, never21, never23}
 
 module _ {X t : List ℕ} {n : ℕ} {K : List ℕ} (stop sg : Bool) {c : Cursor} {e : ℕ} {x : List ℕ} (deep : c .depth < 256) where
   pub simple-nothing : testAt t K n (beginsKind stop) (c .pos) ≡ false → c .pos ≤ n → Known X t n K → Simple X t n K K stop sg c e x x (Nothing (seen n c))
@@ -56,17 +57,6 @@ module _ {X t : List ℕ} {n : ℕ} {K : List ℕ} (stop sg : Bool) {c : Cursor}
             found-of (q .answer) (ap (λ (f : Stop → Bool → M (Option Node)). f (stopOf stop) sg s) (level-simple I (c .depth) deep) ∙ bind _ _ s (at-here s) ∙ bind _ _ _ (r .1)
             ∙ ap (λ (i : ℕ). begun (I .text) (I .es) true (readers (c .depth + 1) I) (r .0 .entry .token) (r .0 .entry) i (stopOf stop) sg (tick s)) (sym (at .pos)) ∙ q .runs) (q .at) (q .tree) (q .besides),
       )
-
--- What the entry i begins, by its kind.
-never21 : (stop : Bool) (k : ℕ) → k ≡ 21 → beginsKind stop k ≡ true → ⊥
-never21 stop k h w = let u : false ≡ true = rw h at w in let z : _≡_ {A = ℕ} 0 1 = cc in omega arith
-
-never23 : (stop : Bool) (k : ℕ) → k ≡ 23 → beginsKind stop k ≡ true → ⊥
-never23 stop k h w = let u : false ≡ true = rw h at w in let z : _≡_ {A = ℕ} 0 1 = cc in omega arith
-
-by-kind : (d i : ℕ) (stop sg : Bool) (I : Input) (s : State) (en : Entry) {k : Token} {r : Option Node × State} → en .token ≡ k
-    → begun (I .text) (I .es) true (readers d I) k en i (stopOf stop) sg s ≡ r → begun (I .text) (I .es) true (readers d I) (en .token) en i (stopOf stop) sg s ≡ r
-by-kind d i stop sg I s en h q = ap (λ (k : Token). begun (I .text) (I .es) true (readers d I) k en i (stopOf stop) sg s) h ∙ q
 
 module _ {X t : List ℕ} {n : ℕ} {K L : List ℕ} (i : ℕ) (stop sg : Bool) {c : Cursor} {e : ℕ} {x y : List ℕ} {g : Part} (inside : i < n) where
   -- a reader m of what the entry begins, whose answer is made a node by f

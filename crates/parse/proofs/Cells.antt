@@ -14,7 +14,7 @@ use Rattle.tree.specs.Tree.{Head, node, Nodes, end, _▸_, _⧺_, count, one}
 use Rattle.tree.specs.Words.{encode, encodes, encodeItems}
 use Rattle.reading.specs.Stop.{Stop}
 use Rattle.reading.specs.Entries.{Entry, is}
-use Rattle.reading.specs.Reading.{State, M, return, closed, advance, any, Readers, intermediates, prefixes, rowCells, nextMatrixRow}
+use Rattle.reading.specs.Reading.{State, closed, advance, any, intermediates, prefixes, rowCells, nextMatrixRow}
 use Rattle.parse.specs.declared.cursor.Cursor.{Cursor}
 use Rattle.parse.specs.declared.cursor.Items.{Items}
 use Rattle.parse.specs.Buffer.{Wrote}
@@ -23,17 +23,16 @@ use Rattle.parse.specs.Meet.{Each, Intermediates, onward, passing}
 use Rattle.parse.proofs.Buffer.{fill, seq, back, wrote-none}
 use Rattle.lookahead.proofs.Testing.{test-below}
 use Rattle.parse.proofs.Whole.{whole-items}
-use Rattle.reading.specs.Reading as reading
 use Rattle.parse.specs.declared.cursor.Close.{Close}
 use Rattle.parse.specs.declared.cursor.Close.the-variants as close
 use Rattle.parse.specs.declared.cursor.Cells.{Cells}
 use Rattle.columns.specs.Rows as columns
 use Rattle.parse.specs.Matrix.{Filled, Fails, cellsAt, RowCells, rowAt, MatrixRow}
-use Rattle.parse.proofs.Loop.{nodes-assoc}
 use Rattle.parse.proofs.Scripting.{encodes-append, count-append}
 use Rattle.reading_words.specs.Meet.{Input, Row, Stands, At, Known, readers}
 use Rattle.stores.proofs.Stores.{kept-refl, kept-trans}
-use Rattle.reading_words.proofs.Kit.{shut, ret-closed, at-shut, at-here, bind, ret, if-true, if-false, tick, at-tick, kind-is, advance-took, advance-end, past}
+use Rattle.reading_words.proofs.Kit.{shut, ret-closed, at-shut, at-here, bind, ret, if-false, tick, at-tick, kind-is, advance-took, advance-end, past}
+use Rattle.reading_words.proofs.Steps.{row-taken, turn-end, turn-other, turn-sep, turn-shut, with-one, withCells}
 
 -- one token passed, if there is one
 pub passing-in : (n : ℕ) (c : Cursor) → c .pos < n → passing n c ≡ onward c
@@ -81,39 +80,6 @@ cells-snoc m columns.Cells.none = columns.Cells.cell columns.Cells.none
 cells-snoc m (columns.Cells.cell {l = l} {m = l2} {n = n} p) =
     let z : suc (n + 1) ≡ suc n + 1 = omega arith in
     subst (λ (j : ℕ). columns.Cells j (node Head.cell l ▸ (l2 ⧺ (node Head.cell m ▸ end)))) z (columns.Cells.cell (cells-snoc m p))
-
--- the cells read so far before those to come
-abbrev withCells : Nodes → Option (Nodes × Entry) × State → Option (Nodes × Entry) × State
-withCells acc (none, u) = (none, u)
-withCells acc (some m, u) = (some (acc ⧺ m .0, m .1), u)
-
-with-one : (acc l : Nodes) (q : Option (Nodes × Entry)) (u : State) → withCells acc (withCells (node Head.cell l ▸ end) (q, u)) ≡ withCells (acc ⧺ (node Head.cell l ▸ end)) (q, u)
-with-one acc l none u = refl
-with-one acc l (some m) u = ap (λ (w : Nodes). (some (w, m .1), u)) (sym (nodes-assoc acc (node Head.cell l ▸ end) (m .0)))
-
--- one turn of the definition
-module _ (I : Input) (R : Readers) (f : ℕ) (l : Nodes) (s u : State)
-    (run : intermediates (I .text) (I .es) true R (suc (length (I .es))) none Stop.sep none s ≡ (l, u)) where
-  turn-end : {v : State} → advance (I .text) (I .es) any u ≡ (none, v) → rowCells (I .text) (I .es) true R (suc f) s ≡ (none, v)
-  unfolding rowCells
-  turn-end h = bind _ _ s run ∙ bind _ _ u h ∙ ret _ _
-
-  module _ {e : Entry} {v : State} (h : advance (I .text) (I .es) any u ≡ (some e, v)) where
-    turn-sep : is token.Sep e ≡ true → rowCells (I .text) (I .es) true R (suc f) s ≡ withCells (node Head.cell l ▸ end) (rowCells (I .text) (I .es) true R f v)
-    unfolding rowCells
-    turn-sep k = bind _ _ s run ∙ bind _ _ u h ∙ if-true _ _ v k ∙ bind _ _ v refl ∙ go (rowCells (I .text) (I .es) true R f v)
-      where
-        go : (r : Option (Nodes × Entry) × State) → elim (r .0) as (λ _. M (Option (Nodes × Entry))) [ none ↦ return none | some m ↦ return (some (node Head.cell l ▸ m .0, m .1)) ] (r .1) ≡ withCells (node Head.cell l ▸ end) r
-        go (none, w) = ret _ _
-        go (some m, w) = ret _ _
-
-    turn-shut : is token.Sep e ≡ false → is token.CloseBracket e ≡ true → rowCells (I .text) (I .es) true R (suc f) s ≡ (some (node Head.cell l ▸ end, e), v)
-    unfolding rowCells
-    turn-shut k k2 = bind _ _ s run ∙ bind _ _ u h ∙ if-false _ _ v k ∙ if-true _ _ v k2 ∙ ret _ _
-
-    turn-other : is token.Sep e ≡ false → is token.CloseBracket e ≡ false → rowCells (I .text) (I .es) true R (suc f) s ≡ (none, v)
-    unfolding rowCells
-    turn-other k k2 = bind _ _ s run ∙ bind _ _ u h ∙ if-false _ _ v k ∙ if-false _ _ v k2 ∙ ret _ _
 
 -- At the loop's head: the cells read so far, and turns enough for the rest.
 pub record Along (X t : List ℕ) (n : ℕ) (L : List ℕ) (d : ℕ) (I : Input) (s : State) (e : ℕ) (x y : List ℕ) (cur : Cursor) (stp num : ℕ) : Type 0 where
@@ -262,12 +228,6 @@ module _ {X t : List ℕ} {n : ℕ} {K : List ℕ} (c : Cursor) (e : ℕ) (x : L
                 at = q .at;
                 tree = wr;
               })
-
-row-taken : (I : Input) (R : Readers) (s u : State) (o : Entry) (q : Option (Nodes × Entry)) (v : State) → advance (I .text) (I .es) any s ≡ (some o, u) → is token.OpenBracket o ≡ true
-    → rowCells (I .text) (I .es) true R (suc (length (I .es))) u ≡ (q, v)
-    → nextMatrixRow (I .text) (I .es) true R s ≡ elim q as (λ _. M (Option reading.Row)) [ none ↦ return none | some m ↦ closed (s .pos) (some (record { left = o; right = m .1; cells = m .0 })) ] v
-unfolding nextMatrixRow
-row-taken I R s u o q v h k r = bind _ _ s (at-here s) ∙ bind _ _ s h ∙ if-true _ _ u k ∙ bind _ _ u r
 
 -- a row: its bracket and its cells
 module _ (X t : List ℕ) (n : ℕ) (K : List ℕ) (c : Cursor) (e : ℕ) (x : List ℕ) where

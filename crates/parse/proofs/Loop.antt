@@ -1,50 +1,36 @@
 -- The loop over items: what it keeps, and what each way out of it shows.
-use Prim.Native.Nat.{ℕ, zero, suc, _+_, _*_, _-_, _≤_, _<_}
+use Prim.Native.Nat.{ℕ, zero, suc, _+_, _*_, _-_, _≤_}
 use mathlib.Core.Path.{_≡_, refl, sym, ap, _∙_}
 use mathlib.Core.List.{List, _++_, append-nil, append-assoc}
 use mathlib.Core.Option.{Option, none, some}
-use mathlib.Core.Bool.{Bool, true, false, not, _&&_, cond}
+use mathlib.Core.Bool.{Bool, true, false, not, cond}
 use native.Mathlib.Omega.{arith}
 use lib.ListN.{length, getElem?}
 use lib.Dec.{eqb, ltb}
-use borrow.Author.Tests.{ltb-true, ltb-false, lt-ltb, le-ltb, ne-eqb}
-use Rattle.tokens.specs.declared.token.Token.the-variants as token
+use borrow.Author.Tests.{ltb-true, ltb-false, ne-eqb}
 use Rattle.tree.specs.Tree.{Head, Atom, Node, node, Nodes, end, _▸_, _⧺_, count, leaf}
 use Rattle.tree.specs.Words.{encodeItem, encodeItems}
 use Rattle.reading.specs.Entries.{Entry}
-use Rattle.reading.specs.Reading.{State, isAt, isBar, atOpenClose, sameText, textOf, nextIntermediate, intermediates, prefixes, spaced}
+use Rattle.reading.specs.Reading.{State, atOpenClose, nextIntermediate, prefixes, spaced}
 use Rattle.parse.specs.declared.cursor.Cursor.{Cursor}
 use Rattle.parse.specs.declared.cursor.Step.the-variants.{Found, Nothing}
 use Rattle.parse.specs.declared.cursor.Gap.{Gap}
 use Rattle.parse.specs.Buffer.{Wrote}
-use Rattle.records.specs.Record.{kindOf, spaceLen}
-use Rattle.lookahead.specs.Tests.{testAt, isKind}
-use Rattle.spans.specs.Spans.{sameAt}
+use Rattle.records.specs.Record.{spaceLen}
 use Rattle.brackets.specs.Brackets.{barAt}
 use Rattle.nodes.specs.Nodes.{gapLen, gapWords, gapItems}
 use Rattle.parse.specs.Meet.{Moves, Each, Intermediate, Intermediates, Gapped}
 use Rattle.parse.proofs.Buffer.{seq, back, wrote-none}
 use Rattle.parse.proofs.Scripting.{count-append}
-use Rattle.reading_words.specs.Meet.{Input, Row, Stands, Given, At, Known, readers, Until, lastAfter, isNone, stopOf, itemsAt, itemsFrom}
+use Rattle.reading_words.specs.Meet.{Input, Stands, Given, At, Known, readers, Until, lastAfter, isNone, stopOf, itemsAt, itemsFrom}
 use Rattle.stores.proofs.Stores.{kept-refl, kept-trans}
-use Rattle.reading_words.proofs.Kit.{bind, ret, at-here, if-true, if-false, row-of, test-in, test-out, same-is, past, at-some, at-none}
+use Rattle.reading_words.proofs.Kit.{past}
+use Rattle.reading_words.proofs.Steps.{ended, ended-is, joined, last-more, nodes-nil, rejoin, turn-found, turn-met, turn-nothing}
 
 pub encodeItems-append : (l m : Nodes) → encodeItems (l ⧺ m) ≡ encodeItems l ++ encodeItems m
 unfolding encodeItems
 encodeItems-append end m = refl
 encodeItems-append (x ▸ l) m = ap (λ (w : List ℕ). encodeItem x ++ w) (encodeItems-append l m) ∙ sym (append-assoc (encodeItem x) (encodeItems l) (encodeItems m))
-
-pub nodes-assoc : (l m k : Nodes) → (l ⧺ m) ⧺ k ≡ l ⧺ (m ⧺ k)
-nodes-assoc end m k = refl
-nodes-assoc (x ▸ l) m k = ap (λ (w : Nodes). x ▸ w) (nodes-assoc l m k)
-
-pub nodes-nil : (l : Nodes) → l ⧺ end ≡ l
-nodes-nil end = refl
-nodes-nil (x ▸ l) = ap (λ (w : Nodes). x ▸ w) (nodes-nil l)
-
--- The items read so far, put before those to come.
-abbrev pub joined : Nodes → Nodes × State → Nodes × State
-joined acc r = (acc ⧺ r .0, r .1)
 
 -- The Space kept before an item, as nodes, whatever follows.
 pub record Spaced (t K : List ℕ) (n : ℕ) (first : Bool) (i : ℕ) (es : List Entry) (before : Option Node) : Type 0 where
@@ -80,62 +66,9 @@ spaces {X} {t} {n} {K} {I} i (some b) g = go (ltb i n) refl
     go true h = let q = g .stands i (ltb-true i n h) in by-len q h (q .entry .space .len) refl
     go false h = record { nodes = end; put = λ x l. rw (spaced, past (I .es) i (omega (arith, ltb-false i n h, g .size))); words = rw h; number = rw h }
 
-pub last-append : (b : Option Node) (l m : Nodes) → lastAfter b (l ⧺ m) ≡ lastAfter (lastAfter b l) m
-last-append b end m = refl
-last-append b (x ▸ l) m = last-append (some x) l m
-
-last-more : (b : Option Node) (acc nodes : Nodes) (x : Node) → lastAfter b (acc ⧺ (nodes ⧺ (x ▸ end))) ≡ some x
-last-more b acc nodes x = last-append b acc (nodes ⧺ (x ▸ end)) ∙ last-append (lastAfter b acc) nodes (x ▸ end)
-
-rejoin : (acc nodes : Nodes) (x : Node) (l : Nodes) → acc ⧺ (nodes ⧺ (x ▸ l)) ≡ (acc ⧺ (nodes ⧺ (x ▸ end))) ⧺ l
-rejoin acc nodes x l = ap (λ (w : Nodes). acc ⧺ w) (sym (nodes-assoc nodes (x ▸ end) l)) ∙ sym (nodes-assoc acc (nodes ⧺ (x ▸ end)) l)
-
 words-more : (acc nodes : Nodes) (x : Node) {g : List ℕ} → encodeItems nodes ≡ g → encodeItems (acc ⧺ (nodes ⧺ (x ▸ end))) ≡ encodeItems acc ++ (g ++ encodeItem x)
 unfolding encodeItems
 words-more acc nodes x h = encodeItems-append acc (nodes ⧺ (x ▸ end)) ∙ ap (λ (w : List ℕ). encodeItems acc ++ w) (encodeItems-append nodes (x ▸ end) ∙ rw (h, append-nil))
-
--- The code's tests of texts.
-pub same-text : {X t K : List ℕ} {i j : ℕ} (text : List ℕ) (es : List Entry) (a b : Entry) → text ≡ X → Row t K i a → Row t K j b → sameText text es (a .span) (b .span) ≡ sameAt X t K i j
-unfolding sameText textOf sameAt
-same-text text es a b h r q = rw (h, r .start, r .len, q .start, q .len)
-
-and-pick : (a b : Bool) → (a && b) ≡ cond a b false
-and-pick true b = refl
-and-pick false b = refl
-
-bar-in : (X t K : List ℕ) (n i j : ℕ) → i < n → j < n → barAt X t K n i j ≡ cond (eqb (kindOf t K j) 22) (sameAt X t K i j) false
-unfolding barAt
-bar-in X t K n i j h k = rw (lt-ltb i n h, test-in t K n (isKind 22) j k)
-
-bar-out : (X t K : List ℕ) (n i j : ℕ) → n ≤ j → barAt X t K n i j ≡ false
-unfolding barAt
-bar-out X t K n i j h = go (ltb i n)
-  where
-    go : (b : Bool) → cond b (cond (testAt t K n (isKind 22) j) (sameAt X t K i j) false) false ≡ false
-    go true = rw (test-out t K n (isKind 22) j h)
-    go false = refl
-
-bar-none : (X t K : List ℕ) (n i j : ℕ) → n ≤ i → barAt X t K n i j ≡ false
-unfolding barAt
-bar-none X t K n i j h = rw (le-ltb i n h)
-
-pub bar-is : {X t : List ℕ} {n : ℕ} {K : List ℕ} {I : Input} (i p : ℕ) (o : Entry) → Given X t n K I → i < n → getElem? (I .es) i ≡ some o → isAt (I .text) (I .es) (isBar (I .text) (I .es) o) p ≡ barAt X t K n i p
-unfolding isBar
-bar-is {X} {t} {n} {K} {I} i p o g h there = go (ltb p n) refl
-  where
-    go : (b : Bool) → ltb p n ≡ b → isAt (I .text) (I .es) (isBar (I .text) (I .es) o) p ≡ barAt X t K n i p
-    go true e =
-        let l : p < n = ltb-true p n e in
-        let q = g .stands p l in
-        at-some (I .text) (I .es) _ p (q .entry) (q .there)
-        ∙ rw (same-is token.OpenCloseBracket (q .entry), same-text (I .text) (I .es) o (q .entry) (g .text) (row-of g h there) (q .row), ← q .row .kind) (and-pick (eqb (kindOf t K p) 22) (sameAt X t K i p))
-        ∙ sym (bar-in X t K n i p h l)
-    go false e = at-none (I .text) (I .es) _ p (past (I .es) p (omega (arith, ltb-false p n e, g .size))) ∙ sym (bar-out X t K n i p (ltb-false p n e))
-
-pub until-is : {X t : List ℕ} {n : ℕ} {K : List ℕ} (u : ℕ) (I : Input) (until : Option Entry) (p : ℕ) → Given X t n K I → Until n I u until → atOpenClose (I .text) (I .es) until p ≡ barAt X t K n u p
-unfolding atOpenClose
-until-is {X} {t} {n} {K} u I none p g h = sym (bar-none X t K n u p h)
-until-is u I (some o) p g h = bar-is u p o g (h .0) (h .1)
 
 -- At the loop's head: the items read so far, and turns enough for the rest.
 pub record Along (X t : List ℕ) (n : ℕ) (L : List ℕ) (d turns : ℕ) (stop : Bool) (I : Input) (until : Option Entry) (start : Option Node) (s : State) (e : ℕ) (x y : List ℕ) (cur : Cursor) (stp num : ℕ) (first sign : Bool) : Type 0 where
@@ -156,36 +89,6 @@ pub record Inv (X t : List ℕ) (n : ℕ) (K L : List ℕ) (u : ℕ) (stop first
   pub moves : Moves X t 0 0 0 n K L c e x y cur stp
   pub few : num + 2 * c .pos ≤ 2 * cur .pos
   pub along : Each X t n K c (λ I s. (f : ℕ) → n - c .pos ≤ f → (until : Option Entry) → Until n I u until → (start : Option Node) → first₀ ≡ isNone start → sign₀ ≡ prefixes start → Along X t n L (c .depth) f stop I until start s e x y cur stp num first sign)
-
--- The bar is looked for behind an item only.
-abbrev ended : Option Node → Bool → Bool
-ended none b = false
-ended (some x) b = b
-
--- one turn of the definition
-module _ (I : Input) (d : ℕ) (until : Option Entry) (stop : Bool) (s u : State) where
-  turn-found : (before : Option Node) (f : ℕ) (x : Node) → ended before (atOpenClose (I .text) (I .es) until (s .pos)) ≡ false → nextIntermediate (I .text) (I .es) true (readers d I) (stopOf stop) (prefixes before) s ≡ (some x, u)
-      → itemsFrom d f until stop before I s ≡ (let r = itemsAt d f until stop (some x) I u in (spaced before (getElem? (I .es) (s .pos)) x (r .0), r .1))
-  unfolding intermediates spaced prefixes
-  turn-found none f x k h = bind _ _ s h ∙ bind _ _ u refl ∙ ret _ _
-  turn-found (some b) f x k h = bind _ _ s (at-here s) ∙ if-false _ _ s k ∙ bind _ _ s h ∙ bind _ _ u refl ∙ ret _ _
-
-  turn-nothing : (before : Option Node) (f : ℕ) → ended before (atOpenClose (I .text) (I .es) until (s .pos)) ≡ false → nextIntermediate (I .text) (I .es) true (readers d I) (stopOf stop) (prefixes before) s ≡ (none, u)
-      → itemsFrom d f until stop before I s ≡ (end, u)
-  unfolding intermediates prefixes
-  turn-nothing none f k h = bind _ _ s h ∙ ret _ _
-  turn-nothing (some b) f k h = bind _ _ s (at-here s) ∙ if-false _ _ s k ∙ bind _ _ s h ∙ ret _ _
-
-module _ (I : Input) (d : ℕ) (until : Option Entry) (stop : Bool) (s : State) where
-  turn-met : (before : Option Node) (f : ℕ) → ended before (atOpenClose (I .text) (I .es) until (s .pos)) ≡ true → itemsFrom d f until stop before I s ≡ (end, s)
-  unfolding intermediates
-  turn-met none f k = let z : _≡_ {A = ℕ} 0 1 = cc in absurd (omega arith)
-  turn-met (some b) f k = bind _ _ s (at-here s) ∙ if-true _ _ s k ∙ ret _ _
-
--- the code's test
-ended-is : {X t : List ℕ} {n : ℕ} {K : List ℕ} (u : ℕ) (I : Input) (until : Option Entry) (before : Option Node) (p : ℕ) → Given X t n K I → Until n I u until → ended before (atOpenClose (I .text) (I .es) until p) ≡ barAt X t K n (cond (isNone before) n u) p
-ended-is {X} {t} {n} {K} u I until none p g h = sym (bar-none X t K n n p (omega arith))
-ended-is u I until (some b) p g h = until-is u I until p g h
 
 module _ {X t : List ℕ} {n : ℕ} {K : List ℕ} (u : ℕ) (stop first₀ sign₀ : Bool) (c : Cursor) (e : ℕ) (x : List ℕ) where
   pub along-none : c .pos ≤ n → Known X t n K → Inv X t n K K u stop first₀ sign₀ c e x x c e 0 first₀ sign₀

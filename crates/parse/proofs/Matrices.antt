@@ -8,7 +8,7 @@ use native.Mathlib.Omega.{arith}
 use lib.ListN.{length, length-append, getD, getElem?, take, drop}
 use lib.Dec.{eqb, ltb}
 use lib.Seq.{sets, length-sets, take-take, take-at, length-take-le, getD-take, getD-append-add}
-use borrow.Author.Tests.{ltb-true, ltb-false, eqb-true, eqb-false, eq-eqb, ne-eqb}
+use borrow.Author.Tests.{ltb-true, ltb-false, eqb-true, ne-eqb}
 use Rattle.tokens.specs.declared.token.Token.the-variants as token
 use Rattle.tree.specs.Tree.{Head, Node, node, Nodes, end, _▸_, _⧺_, count}
 use Rattle.tree.specs.Words.{encode, encodes, encodeItems}
@@ -33,14 +33,13 @@ use Rattle.columns.specs.Rows as columns
 use Rattle.parse.specs.Columns.{SplitReady, MatrixAt, Splits}
 use Rattle.parse.specs.Matrix.{Broke, Filled, Fails, HasMatrix, rowsAt}
 use Rattle.parse.proofs.Cells.{took-any, cell-words}
-use Rattle.parse.proofs.Loop.{bar-is}
-use Rattle.parse.proofs.Rows.{is-at-is, byte-at}
 use Rattle.parse.proofs.Scripting.{count-append}
 use Rattle.tokens.specs.Refusals.{bit}
 use Rattle.reading_words.specs.Meet.{Input, Row, linkNumber, Given, At, Known, readers}
 use Rattle.stores.proofs.Stores.{kept-refl, kept-trans, marks-kept}
 use Rattle.reading_words.proofs.Kit.{shut, ret-closed, at-shut, bind, ret, at-here, if-true, if-false, tick, at-tick, row-of, test-kind, same-is, past, at-some, at-none}
 use Rattle.reading_words.proofs.Attempts.{mark-is, at-lost, known-lost, attempt-known, attempt-made, attempt-lost, marked}
+use Rattle.reading_words.proofs.Steps.{bar-is, byte-at, is-at-is, joined, linked-to, makes-below}
 
 -- the words of the cells chain by their headers
 after : {x₀ x v : List ℕ} {e E : ℕ} (u : List ℕ) → Wrote x₀ e x E (u ++ v) → E ≤ length x → Wrote x (e + length u) x E v
@@ -104,18 +103,6 @@ split-ready {y = y} {e = e} {k = k} {E = E} w h1 h2 h3 h4 = record {
   few = omega arith;
   room = omega arith;
 }
-
--- The gate and the last test, as the definition's.
-eqb-suc : (a b : ℕ) → eqb (suc a) (b + 1) ≡ eqb a b
-eqb-suc a b = go (eqb a b) refl
-  where
-    go : (r : Bool) → eqb a b ≡ r → eqb (suc a) (b + 1) ≡ r
-    go true h = eq-eqb (suc a) (b + 1) (omega (arith, eqb-true a b h))
-    go false h = ne-eqb (suc a) (b + 1) (λ z. eqb-false a b h (omega arith))
-
-linked-to : (j : ℕ) (q : Option ℕ) → elim q as (λ _. Bool) [ none ↦ false | some k ↦ eqb k j ] ≡ eqb (linkNumber q) (j + 1)
-linked-to j none = sym (ne-eqb 0 (j + 1) (λ z. omega arith))
-linked-to j (some k) = sym (eqb-suc k j)
 
 module _ {X t : List ℕ} {n : ℕ} {K : List ℕ} {I : Input} (g : Given X t n K I) {i : ℕ} {o : Entry} (inside : i < n) (there : getElem? (I .es) i ≡ some o) where
   pub closes-is : (j : ℕ) → closes (I .text) (I .es) o i j ≡ closesAt X t K n i j
@@ -199,14 +186,6 @@ module _ {X t : List ℕ} {n : ℕ} {K : List ℕ} {I : Input} (g : Given X t n 
           rw (at-some (I .text) (I .es) (λ e. not (isByte (I .text) (I .es) 40 (r .head .left .span) && isByte (I .text) (I .es) 125 (e .span))) p (q .entry) (q .there), byte-at (I .text) (I .es) 40 (r .head .left) (g .text) (row-of g hl tl), byte-at (I .text) (I .es) 125 (q .entry) (g .text) (q .row))
           (last (byteAt X t K l 40) (byteAt X t K p 125) (closesAt X t K n i p))
       go false e = rw (at-none (I .text) (I .es) (λ e. not (isByte (I .text) (I .es) 40 (r .head .left .span) && isByte (I .text) (I .es) 125 (e .span))) p (past (I .es) p (omega (arith, ltb-false p n e, g .size))))
-
-pub makes-below : (X t K : List ℕ) (n i l k p : ℕ) → makesAt X t K n i l k p ≡ true → p < n
-unfolding makesAt
-makes-below X t K n i l k p h = go (ltb p n) refl h
-  where
-    go : (b : Bool) → ltb p n ≡ b → cond b (cond (setAt X t K l p) false (cond (ltb 1 k) (closesAt X t K n i p) false)) false ≡ true → p < n
-    go true e q = ltb-true p n e
-    go false e q = let z : _≡_ {A = ℕ} 0 1 = cc in absurd (omega arith)
 
 matrix-encoded : {t K : List ℕ} {i j k : ℕ} {a b : Entry} (cols v : ℕ) (lines : List ℕ) (cells : Nodes) → Row t K i a → Row t K j b → count cells ≡ k → length lines ≡ v
     → encode (node (Head.matrix (a .span) (b .span) cols lines) cells) ≡ matrixWords t K i j k cols v ++ (encodes cells ++ lines)

@@ -30,9 +30,10 @@ use Rattle.parse.specs.Meet.{Finds, Simple, ScriptFunc, Term, Intermedia
 use Rattle.parse.proofs.Buffer.{fill, seq, back, wrote-none}
 use Rattle.parse.proofs.Whole.{whole-items}
 use Rattle.lookahead.proofs.Testing.{test-below}
-use Rattle.reading_words.specs.Meet.{Input, Row, At, Known, readers, stopOf, scriptFuncAt}
+use Rattle.reading_words.specs.Meet.{Input, Row, At, Known, stopOf}
 use Rattle.stores.proofs.Stores.{kept-refl, kept-trans}
-use Rattle.reading_words.proofs.Kit.{shut, ret-closed, at-shut, bind, ret, if-true, if-false, tick, at-tick, row-of, took, passed, same-is, same-heads, kind-is, level-scriptFunc, deep-simple, deep-scriptFunc}
+use Rattle.reading_words.proofs.Kit.{shut, ret-closed, at-shut, bind, ret, if-true, if-false, tick, at-tick, row-of, took, passed, same-is, same-heads, kind-is, deep-simple, deep-scriptFunc}
+use Rattle.reading_words.proofs.Steps.{script-runs}
 
 pub encodes-append : (l m : Nodes) → encodes (l ⧺ m) ≡ encodes l ++ encodes m
 unfolding encodes
@@ -69,10 +70,6 @@ bare-func sp sc l = refl
 pub bare-prefix : (p : Prefix) (sp : Span) (l : Nodes) → encodeItem (node (Head.prefix p sp) l) ≡ 0 ∷ encode (node (Head.prefix p sp) l)
 unfolding encode encodeItem
 bare-prefix p sp l = refl
-
-module _ (d : ℕ) (stop sg : Bool) (deep : d < 256) where
-  script-runs : (I : Input) (s : State) {r : Option Node × State} → nextScriptFunc (I .text) (I .es) true (readers (d + 1) I) (stopOf stop) sg s ≡ r → scriptFuncAt d stop sg I s ≡ r
-  script-runs I s h = ap (λ (f : Stop → Bool → M (Option Node)). f (stopOf stop) sg s) (level-scriptFunc I d deep) ∙ h
 
 -- some node, found
 pub found-of : {X t : List ℕ} {n : ℕ} {L : List ℕ} {m : M (Option Node)} {also : Bool → Node → Type 0} {I : Input} {s u : State} {e : ℕ} {x y : List ℕ} {E : ℕ} {b : Cursor} {f : Bool} (a : Option Node)

@@ -8,12 +8,11 @@ use native.Mathlib.Omega.{arith}
 use lib.ListN.{length, take, replicate}
 use borrow.Author.Tests.{eqb-true}
 use Rattle.tokens.specs.declared.token.Token.the-variants as token
-use Rattle.tokens.specs.Lexeme.{Span}
 use Rattle.tree.specs.Tree.{nowhere, Head, Node, node, Nodes, end, _▸_, _⧺_, count}
 use Rattle.tree.specs.Words.{encode, encodes, encodeItem, encodeItems}
 use Rattle.reading.specs.Stop.{Stop}
 use Rattle.reading.specs.Entries.{Entry, is}
-use Rattle.reading.specs.Reading.{State, advance, level, intermediates, unscripted, endsOperand, endsFirst, look, prefixes, parse, lastOf}
+use Rattle.reading.specs.Reading.{State, advance, level, intermediates, unscripted, prefixes, parse, lastOf}
 use Rattle.parse.specs.declared.cursor.Cursor.{Cursor}
 use Rattle.parse.specs.declared.cursor.Items.{Items}
 use Rattle.records.specs.Record.{afterClose, sepOf, marksOf, kindOf, startOf, lenOf, InHalf, Whole, withClose, withSep, Kept}
@@ -24,10 +23,11 @@ use Rattle.stores.proofs.Stores.{close-length, close-same, close-other, place-o
 use Rattle.parse.proofs.Whole.{whole-items}
 use Rattle.parse.specs.Top.{Wrap, Chained, wrapWords, wrapsWords, readFrom, TopReady, Topped}
 use Rattle.parse.proofs.Scripting.{count-append}
-use Rattle.parse.proofs.Loop.{encodeItems-append, last-append}
+use Rattle.parse.proofs.Loop.{encodeItems-append}
 use Rattle.reading_words.specs.Entry.{Safe}
-use Rattle.reading_words.specs.Meet.{Input, Row, Given, Marks, At, Known, lastAfter, isNone}
+use Rattle.reading_words.specs.Meet.{Input, Row, Given, Marks, At, Known, isNone}
 use Rattle.reading_words.proofs.Kit.{bind, ret, tick, at-tick, same-kind, same-start, same-len, same-row, Places, safe-same, safe-kept, took, passed, test-kind, same-is}
+use Rattle.reading_words.proofs.Steps.{absurd-bool, last-join, no-first, no-sign, some-after}
 
 -- A wrap noted: only two fields of its closing bracket change.
 module _ (K : List ℕ) (i a k : ℕ) where
@@ -101,24 +101,6 @@ unfolding wrapsWords
 wraps-same t [] p = refl
 wraps-same t (w ∷ ws) p = rw (same-start t p (w .closer), same-len t p (w .closer), wraps-same t ws p)
 
--- The last item.
-last-is : (b : Node) (l : Nodes) → lastOf (b ▸ l) ≡ lastAfter (some b) l
-unfolding lastOf
-last-is b end = refl
-last-is b (x ▸ l) = last-is x l
-
-last-of : (l : Nodes) → lastOf l ≡ lastAfter none l
-unfolding lastOf
-last-of end = refl
-last-of (x ▸ l) = last-is x l
-
-last-join : (acc l : Nodes) → lastOf (acc ⧺ l) ≡ lastAfter (lastOf acc) l
-last-join acc l = last-of (acc ⧺ l) ∙ last-append none acc l ∙ ap (λ (b : Option Node). lastAfter b l) (sym (last-of acc))
-
-some-after : (b : Option Node) (l : Nodes) → isNone b ≡ false → isNone (lastAfter b l) ≡ false
-some-after b end h = h
-some-after b (x ▸ l) h = some-after (some x) l refl
-
 -- one turn of the definition
 module _ (X : List ℕ) (es : List Entry) (f : ℕ) (acc l : Nodes) (s t u : State)
     (run : intermediates X es true (level X es true 256) (suc (length es)) none Stop.none (lastOf acc) s ≡ (l, t)) where
@@ -150,17 +132,6 @@ group-words c m r hk = rw (hk, r .start, r .len, append-nil)
 wrap-words : {t K : List ℕ} {i k : ℕ} (c : Entry) (m : Nodes) → Row t K i c → k ≡ count m
     → encodeItems (unscripted (node (Head.group nowhere (c .span)) m) ▸ end) ≡ wrapWords k (startOf t K i) (lenOf t K i) ++ encodeItems m
 wrap-words c m r hk = one-item (unscripted (node (Head.group nowhere (c .span)) m)) ∙ unscripted-words (node (Head.group nowhere (c .span)) m) ∙ ap (λ (w : List ℕ). 0 ∷ 13 ∷ 0 ∷ 0 ∷ 0 ∷ 0 ∷ 0 ∷ w) (group-words c m r hk)
-
-no-sign : (c : Span) (m : Nodes) → false ≡ prefixes (lastOf (unscripted (node (Head.group nowhere c) m) ▸ end))
-unfolding lastOf prefixes endsOperand look endsFirst
-no-sign c m = refl
-
-no-first : (x : Node) → false ≡ isNone (lastOf (x ▸ end))
-unfolding lastOf
-no-first x = refl
-
-absurd-bool : {A : Type 0} → true ≡ false → A
-absurd-bool h = let z : _≡_ {A = ℕ} 0 1 = cc in absurd (omega arith)
 
 -- At the loop's head.
 pub record Topping (X t : List ℕ) (n : ℕ) (K : List ℕ) (ws : List Wrap) (I : Input) (m : List Bool) (y : List ℕ) (cur : Cursor) (stp num : ℕ) (first sign : Bool) (wraps : ℕ) : Type 0 where

@@ -1,25 +1,19 @@
 -- The code looks for a bar behind an item only; where no bar ends the items, that is the definition's order.
 use Prim.Native.Nat.{ℕ, suc, _≤_}
-use mathlib.Core.Path.{_≡_, refl, _∙_}
+use mathlib.Core.Path.{_≡_, _∙_}
 use mathlib.Core.List.{List}
-use mathlib.Core.Option.{Option, none, some}
+use mathlib.Core.Option.{Option, none}
 use mathlib.Core.Bool.{Bool}
 use native.Mathlib.Omega.{arith}
 use lib.ListN.{length}
 use Rattle.tree.specs.Tree.{Node, count}
 use Rattle.tree.specs.Words.{encodeItems}
-use Rattle.reading.specs.Reading.{State, atOpenClose, intermediates, prefixes, spaced}
+use Rattle.reading.specs.Reading.{State, prefixes}
 use Rattle.parse.specs.declared.cursor.Cursor.{Cursor}
 use Rattle.parse.specs.declared.cursor.Items.{Items}
 use Rattle.parse.specs.Meet.{Gives, Intermediates}
-use Rattle.reading_words.specs.Meet.{Input, At, lastAfter, isNone, itemsAt, itemsFrom}
-use Rattle.reading_words.proofs.Kit.{bind, at-here, if-false}
-
--- without a bar the first item is no other
-from-start : (I : Input) (d f : ℕ) (stop : Bool) (before : Option Node) (s : State) → itemsAt d (suc f) none stop before I s ≡ itemsFrom d f none stop before I s
-unfolding intermediates spaced prefixes atOpenClose
-from-start I d f stop none s = bind _ _ s (at-here s) ∙ if-false _ _ s refl
-from-start I d f stop (some b) s = refl
+use Rattle.reading_words.specs.Meet.{Input, At, lastAfter, isNone, itemsAt}
+use Rattle.reading_words.proofs.Steps.{from-start}
 
 -- The items are the definition's, where no bar ends them.
 pub whole-items : {X t : List ℕ} {n : ℕ} {K L : List ℕ} {u : ℕ} {stop first sign : Bool} {c : Cursor} {e : ℕ} {x y : List ℕ} {g : Items} → Intermediates X t n K L u stop first sign c e x y g → n ≤ u → (I : Input) (s : State) → At X t n K (c .pos) (c .takes) I s → (before : Option Node) → first ≡ isNone before → sign ≡ prefixes before

@@ -3,3 +3,4 @@ pub mod Sorts
 pub mod Attempts
 pub mod Records
 pub mod Plain
+pub mod Steps

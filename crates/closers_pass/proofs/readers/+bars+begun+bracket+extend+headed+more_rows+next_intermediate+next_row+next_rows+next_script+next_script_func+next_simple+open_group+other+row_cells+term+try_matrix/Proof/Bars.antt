@@ -17,7 +17,8 @@ use mathlib.Core.Path.{sym, _∙_}
 use Prim.Native.Nat.{ℕ, _-_}
 use native.Mathlib.Omega.{arith}
 use borrow.Author.Tests.{not-true, not-false}
-use Rattle.closers_pass.proofs.Barred.{bars-known, bars-nought, bars-made, bars-lost, bar-below}
+use Rattle.closers_pass.proofs.Barred.{bars-known, bars-nought, bars-made, bars-lost}
+use Rattle.reading_words.proofs.Steps.{bar-below}
 
 abbrev pub uses : ℕ → bars-lts.Claims
 uses t = (open-mark-reads.Asked, open-mark-reads.Learnt, failed-at-reads.Asked, failed-at-reads.Learnt, leaf-reads.Asked, leaf-reads.Learnt, extend-below t, extend.Post, bar-at-reads.Asked, bar-at-reads.Learnt, note-closer-reads.Asked, note-closer-reads.Learnt, next-reads.Asked, next-reads.Learnt, operation-reads.Asked, operation-reads.Learnt, give-up-reads.Asked, give-up-reads.Learnt, rewind-reads.Asked, rewind-reads.Learnt)

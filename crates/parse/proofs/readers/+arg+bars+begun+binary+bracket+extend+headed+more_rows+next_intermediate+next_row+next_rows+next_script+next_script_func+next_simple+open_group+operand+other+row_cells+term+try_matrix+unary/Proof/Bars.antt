@@ -15,8 +15,9 @@ use Rattle.parse.proofs.readers.+arg+bars+begun+binary+bracket+extend+h
 use mathlib.Core.Path.{sym, _∙_}
 use native.Mathlib.Omega.{arith}
 use borrow.Author.Needs.{needs}
-use Rattle.parse.proofs.Barred.{bars-known, bars-nought, bars-made, bars-lost, bar-below}
+use Rattle.parse.proofs.Barred.{bars-known, bars-nought, bars-made, bars-lost}
 use Rattle.reading_words.proofs.Kit.{safe-kept}
+use Rattle.reading_words.proofs.Steps.{bar-below}
 
 abbrev pub uses : ℕ → bars-lts.Claims
 uses t = (open-mark-reads.Asked, open-mark-reads.Learnt, failed-at-reads.Asked, failed-at-reads.Learnt, leaf-reads.Asked, leaf-reads.Learnt, extend-below t, extend.Post, bar-at-reads.Asked, bar-at-reads.Learnt, put-group-reads.Asked, put-group-reads.Learnt, next-reads.Asked, next-reads.Learnt, mark-failed-reads.Asked, mark-failed-reads.Learnt, rewind-reads.Asked, rewind-reads.Learnt)
