@@ -19,7 +19,7 @@ DEEPER = {"next_simple", "next_script_func"}
 
 def frames(lines):
     """name -> {callee: stack in use at the call}, with "" for the most that its own code uses"""
-    sites, name, height, body, call = {}, None, 0, None, None
+    sites, name, height, body, call, pages = {}, None, 0, None, None, None
     for line in lines:
         if m := re.match(r"^[0-9a-f]+ <(.*)>:", line):
             name, height, body, call = m[1], 8, None, None
@@ -32,7 +32,13 @@ def frames(lines):
             call = None
         else:
             call = None
-            if m := re.search(r"\s(sub|add)\s+\$0x([0-9a-f]+),%rsp", line):
+            # a large frame is taken page by page, down to what %r11 says, and then the rest of it
+            if m := re.search(r"\ssub\s+\$0x([0-9a-f]+),%r11", line):
+                pages = int(m[1], 16)
+            elif pages and re.search(r"\ssub\s+\$0x1000,%rsp", line):
+                height += pages
+                pages = None
+            elif m := re.search(r"\s(sub|add)\s+\$0x([0-9a-f]+),%rsp", line):
                 number = int(m[2], 16)
                 number -= 1 << 64 if number >> 63 else 0
                 height += number if m[1] == "sub" else -number

@@ -8,6 +8,9 @@ ghost use Prim.Native.Nat.{_-_};
 ghost use Rattle.records.specs.Record.{closerOf, withCloser};
 ghost use Rattle.closers_notes.specs.Notes.{cleared, gaveUp, withClosers};
 
+// How far before the end no closer stands.
+const NONE: u32 = 0;
+
 // Of n entries, the one at k is the closer of the one at i.
 pub fn note_closer(work: &mut [u32], i: usize, n: usize, k: usize)
     ensures { λ _. ⌜ now (work .exit) ≡ withCloser (now (work .entry)) i (n - k) ⌝ }
@@ -16,7 +19,7 @@ pub fn note_closer(work: &mut [u32], i: usize, n: usize, k: usize)
         // as many bits as a closer has: all of them, for 4,096 entries
         set_closer(work, i, ((n - k) % (CLOSER_SIZE as usize)) as u32);
     } else {
-        set_closer(work, i, 0);
+        set_closer(work, i, NONE);
     }
 }
 
@@ -26,7 +29,7 @@ fn clear_closers(work: &mut [u32], from: usize, to: usize)
 {
     let mut i = from;
     while i < to {
-        set_closer(work, i, 0);
+        set_closer(work, i, NONE);
         i += 1;
     }
 }

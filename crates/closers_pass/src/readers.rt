@@ -135,6 +135,7 @@ fn term(
     }
     let sc = s.cur;
     let at = sc.pos as usize;
+    // as next_script would find it, without the call
     if !marks_at(tok, work, n, at) {
         return Part {
             cur: sc.look(n),

@@ -169,8 +169,5 @@ pub fn takes_one(k: u32, sign: bool) -> bool
     if k == FUNCTION {
         return true;
     }
-    if k == SIGN {
-        return sign;
-    }
-    false
+    if k == SIGN { sign } else { false }
 }
