@@ -15,7 +15,7 @@ use Rattle.tokens.specs.Table.{countOthers}
 use Rattle.room.proofs.Lengths.{room-enough}
 use Rattle.lexing.specs.Rules.{tokens}
 use Rattle.lexing.proofs.Theorems.{never-outnumber}
-use Rattle.tokens.proofs.Cases.{by-lt, by-option, by-test}
+use Rattle.tokens.proofs.Cases.{by-lt, by-option, by-test, apart}
 use Rattle.parse.specs.Call.{parseRefusal}
 use Rattle.parse.proofs.Calls.{text-refused, table-long, others-within}
 use Rattle.print.specs.declared.Printed.{Printed}
@@ -23,7 +23,7 @@ use Rattle.print.specs.declared.Printed.the-variants.{Whole, Refused}
 use Rattle.writer.specs.Decimal.{decimal}
 use Rattle.print.specs.Call.{answerOf, printOf, values, printedText}
 use Rattle.writer.proofs.Decimals.{small, large}
-use Rattle.print.proofs.Calls.{LeftAll, apart, refused-so, short-so, whole-so}
+use Rattle.print.proofs.Calls.{LeftAll, refused-so, short-so, whole-so}
 use Rattle.read.specs.Reply.{refusal, replyTo, Written}
 
 -- buffers for any text of this length
