@@ -3,7 +3,7 @@ use Prim.Native.Nat.{ℕ, suc, _+_, _-_, _≤_, _<_}
 use mathlib.Core.Path.{_≡_, refl, sym, ap, _∙_}
 use mathlib.Core.List.{List, [], _∷_, _++_, append-nil}
 use mathlib.Core.Option.{Option, none, some}
-use mathlib.Core.Bool.{Bool, true, false, cond, _&&_, _||_}
+use mathlib.Core.Bool.{Bool, true, false, cond}
 use native.Mathlib.Omega.{arith}
 use lib.ListN.{length, getElem?}
 use lib.Dec.{eqb}
@@ -11,40 +11,22 @@ use borrow.Author.Tests.{ne-eqb, eq-eqb}
 use Rattle.tokens.specs.declared.token.Token.the-variants as token
 use Rattle.tree.specs.Tree.{Nodes, count}
 use Rattle.reading.specs.Entries.{is}
-use Rattle.reading.specs.Reading.{State, any, isAt, moreRows, nextMatrixRows, rowBrackets, alike}
+use Rattle.reading.specs.Reading.{State, any, isAt, moreRows, nextMatrixRows, alike}
 use Rattle.reading.specs.Reading as reading
 use Rattle.lookahead.specs.Tests.{testAt, isKind}
 use Rattle.lookahead.proofs.Testing.{test-below}
-use Rattle.spans.specs.Spans.{byteAt}
-use Rattle.rows.specs.Rows as entry
+use Rattle.rows.specs.Rows.{pairAt, roundAt}
 use Rattle.closers_pass.specs.declared.cursor.Cursor.{Cursor}
 use Rattle.closers_pass.specs.declared.cursor.Cells.{Cells}
 use Rattle.closers_pass.specs.declared.cursor.Others as code
-use Rattle.reading_words.specs.Meet.{Input, Given, readers}
+use Rattle.reading_words.specs.Meet.{Input, readers}
 use Rattle.closers_pass.specs.Meet.{At, Moves, Each, onward}
 use Rattle.closers_pass.specs.Matrix.{Behind, MatrixRow, First, moreAt, MoreRows, rowsAt, MatrixRows}
 use Rattle.stores.proofs.Stores.{kept-refl, kept-trans}
-use Rattle.reading_words.proofs.Kit.{bind, ret, if-true, if-false, tick, row-of}
+use Rattle.reading_words.proofs.Kit.{bind, ret, if-true, if-false, tick}
 use Rattle.closers_pass.proofs.Kit.{at-tick}
 use Rattle.closers_pass.proofs.Cells.{took-any}
-use Rattle.reading_words.proofs.Steps.{alike-is, byte-at, is-at-is, not-both, turn-broken, turn-differs, turn-done, turn-more, with-row, withRows}
-
-pub brackets-are : {X t : List ℕ} {n : ℕ} {K : List ℕ} {I : Input} {l r : ℕ} (row : reading.Row) → Given X t n K I → l < n → r < n → getElem? (I .es) l ≡ some (row .left) → getElem? (I .es) r ≡ some (row .right)
-    → rowBrackets (I .text) (I .es) row ≡ entry.rowsAt X t K l r
-unfolding rowBrackets entry.rowsAt
-brackets-are {X} {t} {n} {K} {I} {l} {r} row g hl hr tl tr =
-    let a = row-of g hl tl in
-    let b = row-of g hr tr in
-    rw (byte-at (I .text) (I .es) 40 (row .left) (g .text) a, byte-at (I .text) (I .es) 41 (row .right) (g .text) b, byte-at (I .text) (I .es) 91 (row .left) (g .text) a, byte-at (I .text) (I .es) 93 (row .right) (g .text) b)
-    (go (byteAt X t K l 40) (byteAt X t K l 91) (byteAt X t K r 41) (byteAt X t K r 93) (not-both X t K l 40 91 (λ z. omega arith)))
-  where
-    go : (a c b d : Bool) → (a ≡ true → c ≡ false) → ((a && b) || (c && d)) ≡ cond a b (cond c d false)
-    go true true b d h = let z : true ≡ false = h refl in let w : _≡_ {A = ℕ} 0 1 = cc in absurd (omega arith)
-    go true false true d h = refl
-    go true false false d h = refl
-    go false true b true h = refl
-    go false true b false h = refl
-    go false false b d h = refl
+use Rattle.reading_words.proofs.Steps.{alike-pair, brackets-are, is-at-is, pair-is, turn-broken, turn-differs, turn-done, turn-more, with-row, withRows}
 
 behind-snoc : (more : Bool) (acc : List Nodes) (r : Nodes) → Behind more acc → 1 ≤ count r → Behind true (acc ++ (r ∷ []))
 behind-snoc more [] r h k = k
@@ -61,12 +43,12 @@ pub record Along (X t : List ℕ) (n : ℕ) (L : List ℕ) (d : ℕ) (I : Input)
   pub at : At X t n L (cur .pos) (cur .takes) I state
   pub behind : Behind more acc
 
-pub record Inv (X t : List ℕ) (n : ℕ) (K L : List ℕ) (cols l r : ℕ) (c cur : Cursor) (more : Bool) : Type 0 where
+pub record Inv (X t : List ℕ) (n : ℕ) (K L : List ℕ) (cols : ℕ) (round : Bool) (c cur : Cursor) (more : Bool) : Type 0 where
   pub moves : Moves 0 n K L c cur
-  pub along : Each X t n K c (λ I s. (h : reading.Row) → First X t n I cols l r h → Along X t n L (c .depth) I h s cur more)
+  pub along : Each X t n K c (λ I s. (h : reading.Row) → First X t n I cols round h → Along X t n L (c .depth) I h s cur more)
 
-module _ {X t : List ℕ} {n : ℕ} {K : List ℕ} (cols l r : ℕ) (c : Cursor) where
-  pub rows-none : c .pos ≤ n → Inv X t n K K cols l r c c false
+module _ {X t : List ℕ} {n : ℕ} {K : List ℕ} (cols : ℕ) (round : Bool) (c : Cursor) where
+  pub rows-none : c .pos ≤ n → Inv X t n K K cols round c c false
   rows-none k = record {
     moves = record { within = k; on = omega arith; depth = refl; kept = kept-refl K };
     along = λ I s at h fst. record { left = length (I .es); acc = []; state = s; whole = none-first (moreAt X t n (c .depth) h I s); enough = omega (arith, at .given .size); at = at; behind = tt };
@@ -76,8 +58,8 @@ module _ {X t : List ℕ} {n : ℕ} {K : List ℕ} (cols l r : ℕ) (c : Cursor)
       none-first (none, u) = refl
       none-first (some m, u) = refl
 
-  module _ {L : List ℕ} {cur : Cursor} {more : Bool} (i : Inv X t n K L cols l r c cur more) (hl : l < n) (hr : r < n) where
-    pub rows-done : testAt t L n (isKind 3) (cur .pos) ≡ false → MoreRows X t n K L cols l r c (record { cur = cur; done = true; more = more })
+  module _ {L : List ℕ} {cur : Cursor} {more : Bool} (i : Inv X t n K L cols round c cur more) where
+    pub rows-done : testAt t L n (isKind 3) (cur .pos) ≡ false → MoreRows X t n K L cols round c (record { cur = cur; done = true; more = more })
     rows-done k = (
       i .moves,
       λ I s at h fst.
@@ -98,7 +80,7 @@ module _ {X t : List ℕ} {n : ℕ} {K : List ℕ} (cols l r : ℕ) (c : Cursor)
       inside : cur .pos < n
       inside = test-below t L n (isKind 3) (cur .pos) k
 
-      broken : MatrixRow X t n L J (onward cur) (record { cur = d; count = m; kept = j; shut = false; right = q }) → MoreRows X t n K J cols l r c (record { cur = d; done = false; more = more })
+      broken : MatrixRow X t n L J (onward cur) (record { cur = d; count = m; kept = j; shut = false; right = q }) → MoreRows X t n K J cols round c (record { cur = d; done = false; more = more })
       broken p = (
         record { within = p .0 .within; on = omega (arith, p .0 .on, i .moves .on); depth = p .0 .depth ∙ i .moves .depth; kept = kept-trans (i .moves .kept) (p .0 .kept) },
         λ I s at h fst.
@@ -113,11 +95,11 @@ module _ {X t : List ℕ} {n : ℕ} {K : List ℕ} (cols l r : ℕ) (c : Cursor)
       )
 
       module _ (p : MatrixRow X t n L J (onward cur) (record { cur = d; count = m; kept = j; shut = true; right = q })) where
-        alike-row : {I : Input} {s : State} {h : reading.Row} (row : reading.Row) → At X t n J (d .pos) (d .takes) I s → First X t n I cols l r h → getElem? (I .es) (cur .pos + 1) ≡ some (row .left) → getElem? (I .es) q ≡ some (row .right) → m ≡ count (row .cells)
-            → alike (I .text) (I .es) h row ≡ cond (eqb cols m) (entry.likeAt X t J l r (cur .pos + 1) q) false
-        alike-row {I} {s} {h} row a fst tl tr hm = alike-is h row (a .given) hl hr (p .1 .1) (p .1 .0 .inside) (fst .left) (fst .right) tl tr (fst .number) hm
+        alike-row : {I : Input} {s : State} {h : reading.Row} (row : reading.Row) → At X t n J (d .pos) (d .takes) I s → First X t n I cols round h → getElem? (I .es) (cur .pos + 1) ≡ some (row .left) → getElem? (I .es) q ≡ some (row .right) → m ≡ count (row .cells)
+            → alike (I .text) (I .es) h row ≡ cond (eqb cols m) (pairAt X t J round (cur .pos + 1) q) false
+        alike-row {I} {s} {h} row a fst tl tr hm = alike-pair I round h row (fst .pair) (fst .number) hm ∙ ap (λ (b : Bool). cond (eqb cols m) b false) (pair-is round row (a .given) (p .1 .1) (p .1 .0 .inside) tl tr)
 
-        differ : cond (eqb cols m) (entry.likeAt X t J l r (cur .pos + 1) q) false ≡ false → MoreRows X t n K J cols l r c (record { cur = d; done = false; more = more })
+        differ : cond (eqb cols m) (pairAt X t J round (cur .pos + 1) q) false ≡ false → MoreRows X t n K J cols round c (record { cur = d; done = false; more = more })
         differ df = (
           record { within = p .0 .within; on = omega (arith, p .0 .on, i .moves .on); depth = p .0 .depth ∙ i .moves .depth; kept = kept-trans (i .moves .kept) (p .0 .kept) },
           λ I s at h fst.
@@ -131,7 +113,7 @@ module _ {X t : List ℕ} {n : ℕ} {K : List ℕ} (cols l r : ℕ) (c : Cursor)
               },
         )
 
-        same-row : cond (eqb cols m) (entry.likeAt X t J l r (cur .pos + 1) q) false ≡ true → Inv X t n K J cols l r c d true
+        same-row : cond (eqb cols m) (pairAt X t J round (cur .pos + 1) q) false ≡ true → Inv X t n K J cols round c d true
         same-row sm = record {
           moves = record { within = p .0 .within; on = omega (arith, p .0 .on, i .moves .on); depth = p .0 .depth ∙ i .moves .depth; kept = kept-trans (i .moves .kept) (p .0 .kept) };
           along = λ I s at h fst.
@@ -156,17 +138,17 @@ module _ {X t : List ℕ} {n : ℕ} {K : List ℕ} (cols l r : ℕ) (c : Cursor)
 
     -- by the flags
     module _ (J : List ℕ) (g : Cells) (k : testAt t L n (isKind 3) (cur .pos) ≡ true) (p : MatrixRow X t n L J (onward cur) g) where
-      pub rows-broken : g .shut ≡ false → MoreRows X t n K J cols l r c (record { cur = g .cur; done = false; more = more })
+      pub rows-broken : g .shut ≡ false → MoreRows X t n K J cols round c (record { cur = g .cur; done = false; more = more })
       rows-broken e = broken J (g .count) (g .kept) (g .right) (g .cur) k (rw e at p)
 
-      pub rows-count : g .shut ≡ true → (g .count ≡ cols → ⊥) → MoreRows X t n K J cols l r c (record { cur = g .cur; done = false; more = more })
+      pub rows-count : g .shut ≡ true → (g .count ≡ cols → ⊥) → MoreRows X t n K J cols round c (record { cur = g .cur; done = false; more = more })
       rows-count e h = differ J (g .count) (g .kept) (g .right) (g .cur) k (rw e at p) (rw (ne-eqb cols (g .count) (λ z. h (sym z))))
 
       module _ (e : g .shut ≡ true) (h : g .count ≡ cols) where
-        pub rows-differ : entry.likeAt X t J l r (cur .pos + 1) (g .right) ≡ false → MoreRows X t n K J cols l r c (record { cur = g .cur; done = false; more = more })
+        pub rows-differ : pairAt X t J round (cur .pos + 1) (g .right) ≡ false → MoreRows X t n K J cols round c (record { cur = g .cur; done = false; more = more })
         rows-differ df = differ J (g .count) (g .kept) (g .right) (g .cur) k (rw e at p) (rw (eq-eqb cols (g .count) (sym h)) df)
 
-        pub rows-more : entry.likeAt X t J l r (cur .pos + 1) (g .right) ≡ true → Inv X t n K J cols l r c (g .cur) true
+        pub rows-more : pairAt X t J round (cur .pos + 1) (g .right) ≡ true → Inv X t n K J cols round c (g .cur) true
         rows-more df = same-row J (g .count) (g .kept) (g .right) (g .cur) k (rw e at p) (rw (eq-eqb cols (g .count) (sym h)) df)
 
 -- all rows
@@ -176,7 +158,7 @@ module _ (X t : List ℕ) (n : ℕ) (K L : List ℕ) (c : Cursor) (m j q : ℕ) 
   broken-first p = (p .0, λ I s at. let w = p .1 I s at in record { state = w .state; runs = bind _ _ s (w .runs) ∙ ret _ _; at = w .at })
 
   module _ (p : MatrixRow X t n K L c (record { cur = d; count = m; kept = j; shut = true; right = q })) where
-    differs-first : entry.rowsAt X t L (c .pos) q ≡ false → MatrixRows X t n K L c (record { cur = d; done = false; more = false; cols = m; kept = j })
+    differs-first : pairAt X t L (roundAt X t L (c .pos)) (c .pos) q ≡ false → MatrixRows X t n K L c (record { cur = d; done = false; more = false; cols = m; kept = j })
     unfolding nextMatrixRows
     differs-first df = (
       p .0,
@@ -185,14 +167,14 @@ module _ (X t : List ℕ) (n : ℕ) (K L : List ℕ) (c : Cursor) (m j q : ℕ) 
           record { state = w .state; runs = bind _ _ s (w .runs) ∙ if-false _ _ _ (brackets-are (w .row) (w .at .given) (p .1 .1) (p .1 .0 .inside) (w .left) (w .right) ∙ df) ∙ ret _ _; at = w .at },
     )
 
-    module _ (bk : entry.rowsAt X t L (c .pos) q ≡ true) (J : List ℕ) (f : Cursor) (more : Bool) where
-      by-done : (b : Bool) → MoreRows X t n L J m (c .pos) q d (record { cur = f; done = b; more = more }) → MatrixRows X t n K J c (record { cur = f; done = b; more = more; cols = m; kept = j })
+    module _ (bk : pairAt X t L (roundAt X t L (c .pos)) (c .pos) q ≡ true) (J : List ℕ) (f : Cursor) (more : Bool) where
+      by-done : (b : Bool) → MoreRows X t n L J m (roundAt X t L (c .pos)) d (record { cur = f; done = b; more = more }) → MatrixRows X t n K J c (record { cur = f; done = b; more = more; cols = m; kept = j })
       unfolding nextMatrixRows
       by-done false g = (
         record { within = g .0 .within; on = omega (arith, p .0 .on, g .0 .on); depth = g .0 .depth ∙ p .0 .depth; kept = kept-trans (p .0 .kept) (g .0 .kept) },
         λ I s at.
             let w = p .1 .2 I s at in
-            let v = rw (p .0 .depth) at (g .1 I (w .state) (w .at) (w .row) (record { left = w .left; right = w .right; number = w .counts .number })) in
+            let v = rw (p .0 .depth) at (g .1 I (w .state) (w .at) (w .row) (record { pair = pair-is (roundAt X t L (c .pos)) (w .row) (w .at .given) (p .1 .1) (p .1 .0 .inside) (w .left) (w .right) ∙ bk; number = w .counts .number })) in
             record { state = v .state; runs = bind _ _ s (w .runs) ∙ if-true _ _ _ (brackets-are (w .row) (w .at .given) (p .1 .1) (p .1 .0 .inside) (w .left) (w .right) ∙ bk) ∙ bind _ _ _ (v .runs) ∙ ret _ _; at = v .at },
       )
       by-done true g = (
@@ -202,7 +184,7 @@ module _ (X t : List ℕ) (n : ℕ) (K L : List ℕ) (c : Cursor) (m j q : ℕ) 
           p .1 .1,
           λ I s at.
               let w = p .1 .2 I s at in
-              let v = rw (p .0 .depth) at (g .1 I (w .state) (w .at) (w .row) (record { left = w .left; right = w .right; number = w .counts .number })) in
+              let v = rw (p .0 .depth) at (g .1 I (w .state) (w .at) (w .row) (record { pair = pair-is (roundAt X t L (c .pos)) (w .row) (w .at .given) (p .1 .1) (p .1 .0 .inside) (w .left) (w .right) ∙ bk; number = w .counts .number })) in
               record {
                 rows = record { head = w .row; others = v .others };
                 state = v .state;
@@ -219,8 +201,8 @@ module _ (X t : List ℕ) (n : ℕ) (K L : List ℕ) (c : Cursor) (g : Cells) (p
   pub matrix-broken : g .shut ≡ false → MatrixRows X t n K L c (record { cur = g .cur; done = false; more = false; cols = g .count; kept = g .kept })
   matrix-broken e = broken-first X t n K L c (g .count) (g .kept) (g .right) (g .cur) (rw e at p)
 
-  pub matrix-differs : g .shut ≡ true → entry.rowsAt X t L (c .pos) (g .right) ≡ false → MatrixRows X t n K L c (record { cur = g .cur; done = false; more = false; cols = g .count; kept = g .kept })
+  pub matrix-differs : g .shut ≡ true → pairAt X t L (roundAt X t L (c .pos)) (c .pos) (g .right) ≡ false → MatrixRows X t n K L c (record { cur = g .cur; done = false; more = false; cols = g .count; kept = g .kept })
   matrix-differs e df = differs-first X t n K L c (g .count) (g .kept) (g .right) (g .cur) (rw e at p) df
 
-  pub matrix-more : (J : List ℕ) (h : code.Others) → g .shut ≡ true → entry.rowsAt X t L (c .pos) (g .right) ≡ true → MoreRows X t n L J (g .count) (c .pos) (g .right) (g .cur) h → MatrixRows X t n K J c (record { cur = h .cur; done = h .done; more = h .more; cols = g .count; kept = g .kept })
+  pub matrix-more : (J : List ℕ) (h : code.Others) → g .shut ≡ true → pairAt X t L (roundAt X t L (c .pos)) (c .pos) (g .right) ≡ true → MoreRows X t n L J (g .count) (roundAt X t L (c .pos)) (g .cur) h → MatrixRows X t n K J c (record { cur = h .cur; done = h .done; more = h .more; cols = g .count; kept = g .kept })
   matrix-more J h e bk p2 = by-done X t n K L c (g .count) (g .kept) (g .right) (g .cur) (rw e at p) bk J (h .cur) (h .more) (h .done) p2

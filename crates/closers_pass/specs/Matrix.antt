@@ -12,7 +12,7 @@ use Rattle.closers_pass.specs.declared.cursor.Cursor.{Cursor}
 use Rattle.closers_pass.specs.declared.cursor.Cells.{Cells}
 use Rattle.closers_pass.specs.declared.cursor.Others as code
 use Rattle.closers_pass.specs.declared.cursor.Rows as rows
-use Rattle.reading_words.specs.Meet.{Input, readers}
+use Rattle.reading_words.specs.Meet.{Input, isPair, readers}
 use Rattle.closers_pass.specs.Meet.{At, Each, Moves}
 
 -- the cells of a row, and how many are no lines
@@ -78,12 +78,12 @@ module _ (X t : List ℕ) (n : ℕ) where
   abbrev pub MatrixRow : List ℕ → List ℕ → Cursor → Cells → Type 0
   MatrixRow K L c g = Moves 0 n K L c (g .cur) × MatrixRow′ K L c (g .right) (g .count) (g .kept) (g .cur) (g .shut)
 
-  -- the rows behind the first one, h, which is of `cols` cells between the brackets l and r
-  pub record First (I : Input) (cols l r : ℕ) (h : Row) : Type 0 where
-    pub left : getElem? (I .es) l ≡ some (h .left)
-    pub right : getElem? (I .es) r ≡ some (h .right)
+  -- the first row, h: of `cols` cells between round brackets, or else square ones
+  pub record First (I : Input) (cols : ℕ) (round : Bool) (h : Row) : Type 0 where
+    pub pair : isPair I round h ≡ true
     pub number : cols ≡ count (h .cells)
 
+  -- the rows behind it
   pub record HasRows (L : List ℕ) (m : M (Option (List Nodes))) (I : Input) (s : State) (more : Bool) (d : Cursor) : Type 0 where
     pub others : List Nodes
     pub state : State
@@ -94,12 +94,12 @@ module _ (X t : List ℕ) (n : ℕ) where
   abbrev pub moreAt : ℕ → Row → Input → M (Option (List Nodes))
   moreAt d h I = moreRows (I .text) (I .es) true (readers d I) (suc (length (I .es))) h
 
-  abbrev pub MoreRows′ : List ℕ → List ℕ → ℕ → ℕ → ℕ → Cursor → Bool → Cursor → Bool → Type 0
-  MoreRows′ K L cols l r c more d true = Each X t n K c (λ I s. (h : Row) → First I cols l r h → HasRows L (moreAt (c .depth) h I) I s more d)
-  MoreRows′ K L cols l r c more d false = Each X t n K c (λ I s. (h : Row) → First I cols l r h → Fails L (moreAt (c .depth) h I) I s d)
+  abbrev pub MoreRows′ : List ℕ → List ℕ → ℕ → Bool → Cursor → Bool → Cursor → Bool → Type 0
+  MoreRows′ K L cols round c more d true = Each X t n K c (λ I s. (h : Row) → First I cols round h → HasRows L (moreAt (c .depth) h I) I s more d)
+  MoreRows′ K L cols round c more d false = Each X t n K c (λ I s. (h : Row) → First I cols round h → Fails L (moreAt (c .depth) h I) I s d)
 
-  abbrev pub MoreRows : List ℕ → List ℕ → ℕ → ℕ → ℕ → Cursor → code.Others → Type 0
-  MoreRows K L cols l r c g = Moves 0 n K L c (g .cur) × MoreRows′ K L cols l r c (g .more) (g .cur) (g .done)
+  abbrev pub MoreRows : List ℕ → List ℕ → ℕ → Bool → Cursor → code.Others → Type 0
+  MoreRows K L cols round c g = Moves 0 n K L c (g .cur) × MoreRows′ K L cols round c (g .more) (g .cur) (g .done)
 
   -- all rows
   pub record HasMatrix (L : List ℕ) (m : M (Option Rows)) (I : Input) (s : State) (more : Bool) (l k j : ℕ) (d : Cursor) : Type 0 where

@@ -36,8 +36,8 @@ use marks::failed_at;
 use marks::open_mark;
 use records::record::kind_at;
 use rows::cells_left;
-use rows::row_brackets;
-use rows::same_brackets;
+use rows::is_pair;
+use rows::is_round;
 use tokens::kinds::BINARY;
 use tokens::kinds::CLOSE_BRACKET;
 use tokens::kinds::FRAC;
@@ -320,7 +320,7 @@ fn next_row(text: &[u8], tok: &[u32], n: usize, work: &mut [u32], c: Cursor) -> 
     }
 }
 
-// The rows behind the first one, which is of `cols` cells between the brackets `left` and `right`.
+// The rows behind the first one, which is of `cols` cells between round brackets, or else square ones.
 fn more_rows(
     text: &[u8],
     tok: &[u32],
@@ -328,13 +328,10 @@ fn more_rows(
     work: &mut [u32],
     c: Cursor,
     cols: usize,
-    left: usize,
-    right: usize,
+    round: bool,
 ) -> Others
     requires { ⌜ Ready n (now work) c ⌝ }
-    requires { ⌜ left < n ⌝ }
-    requires { ⌜ right < n ⌝ }
-    ensures { λ r. ⌜ MoreRows (now (text .entry)) (now (tok .entry)) n (now (work .entry)) (now (work .exit)) cols left right c r ⌝ }
+    ensures { λ r. ⌜ MoreRows (now (text .entry)) (now (tok .entry)) n (now (work .entry)) (now (work .exit)) cols round c r ⌝ }
 {
     let mut cur = c;
     let mut more = false;
@@ -351,7 +348,7 @@ fn more_rows(
         if row.count != cols {
             break 'rows false;
         }
-        if !same_brackets(text, tok, work, left, right, p + 1, row.right) {
+        if !is_pair(text, tok, work, round, p + 1, row.right) {
             break 'rows false;
         }
         more = true;
@@ -374,8 +371,9 @@ fn next_rows(text: &[u8], tok: &[u32], n: usize, work: &mut [u32], c: Cursor) ->
     let cols = row.count;
     let kept = row.kept;
     if row.shut {
-        if row_brackets(text, tok, work, left, row.right) {
-            let g = more_rows(text, tok, n, work, cur, cols, left, row.right);
+        let round = is_round(text, tok, work, left);
+        if is_pair(text, tok, work, round, left, row.right) {
+            let g = more_rows(text, tok, n, work, cur, cols, round);
             let gc = g.cur;
             return Rows {
                 cur: gc,

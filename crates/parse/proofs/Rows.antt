@@ -3,7 +3,7 @@ use Prim.Native.Nat.{ℕ, suc, _+_, _*_, _-_, _≤_, _<_}
 use mathlib.Core.Path.{_≡_, refl, sym, ap, _∙_, subst}
 use mathlib.Core.List.{List, [], _∷_, _++_, append-nil}
 use mathlib.Core.Option.{Option, none, some}
-use mathlib.Core.Bool.{Bool, true, false, _&&_, _||_, cond}
+use mathlib.Core.Bool.{Bool, true, false, cond}
 use native.Mathlib.Omega.{arith}
 use lib.ListN.{length, getElem?}
 use lib.Dec.{eqb}
@@ -12,12 +12,11 @@ use Rattle.tokens.specs.declared.token.Token.the-variants as token
 use Rattle.tree.specs.Tree.{Nodes, end, _⧺_, count}
 use Rattle.tree.specs.Words.{encodes}
 use Rattle.reading.specs.Entries.{is}
-use Rattle.reading.specs.Reading.{State, any, isAt, Rows, joinRows, moreRows, nextMatrixRows, alike, rowBrackets}
+use Rattle.reading.specs.Reading.{State, any, isAt, Rows, joinRows, moreRows, nextMatrixRows, alike}
 use Rattle.parse.specs.declared.cursor.Cursor.{Cursor}
 use Rattle.parse.specs.Buffer.{Wrote}
 use Rattle.lookahead.specs.Tests.{testAt, isKind}
-use Rattle.spans.specs.Spans.{byteAt}
-use Rattle.rows.specs.Rows as entry
+use Rattle.rows.specs.Rows.{pairAt, roundAt}
 use Rattle.parse.specs.Meet.{Each, onward}
 use Rattle.parse.proofs.Buffer.{seq, back, wrote-none}
 use Rattle.lookahead.proofs.Testing.{test-below}
@@ -34,24 +33,7 @@ use Rattle.parse.proofs.Scripting.{encodes-append, count-append}
 use Rattle.reading_words.specs.Meet.{Input, Row, Given, At, Known, readers}
 use Rattle.stores.proofs.Stores.{kept-refl, kept-trans}
 use Rattle.reading_words.proofs.Kit.{bind, ret, if-true, if-false, tick, at-tick, row-of}
-use Rattle.reading_words.proofs.Steps.{alike-is, byte-at, is-at-is, joined, nodes-assoc, nodes-nil, not-both, turn-broken, turn-differs, turn-done, turn-more, with-row, withRows}
-
-pub brackets-are : {X t : List ℕ} {n : ℕ} {K : List ℕ} {I : Input} {l r : ℕ} (row : reading.Row) → Given X t n K I → l < n → r < n → getElem? (I .es) l ≡ some (row .left) → getElem? (I .es) r ≡ some (row .right)
-    → rowBrackets (I .text) (I .es) row ≡ entry.rowsAt X t K l r
-unfolding rowBrackets entry.rowsAt
-brackets-are {X} {t} {n} {K} {I} {l} {r} row g hl hr tl tr =
-    let a = row-of g hl tl in
-    let b = row-of g hr tr in
-    rw (byte-at (I .text) (I .es) 40 (row .left) (g .text) a, byte-at (I .text) (I .es) 41 (row .right) (g .text) b, byte-at (I .text) (I .es) 91 (row .left) (g .text) a, byte-at (I .text) (I .es) 93 (row .right) (g .text) b)
-    (go (byteAt X t K l 40) (byteAt X t K l 91) (byteAt X t K r 41) (byteAt X t K r 93) (not-both X t K l 40 91 (λ z. omega arith)))
-  where
-    go : (a c b d : Bool) → (a ≡ true → c ≡ false) → ((a && b) || (c && d)) ≡ cond a b (cond c d false)
-    go true true b d h = let z : true ≡ false = h refl in let w : _≡_ {A = ℕ} 0 1 = cc in absurd (omega arith)
-    go true false true d h = refl
-    go true false false d h = refl
-    go false true b true h = refl
-    go false true b false h = refl
-    go false false b d h = refl
+use Rattle.reading_words.proofs.Steps.{alike-pair, brackets-are, is-at-is, joined, nodes-assoc, nodes-nil, pair-is, turn-broken, turn-differs, turn-done, turn-more, with-row, withRows}
 
 -- rows put together
 joined-snoc : (acc : List Nodes) (r : Nodes) → columns.joined (acc ++ (r ∷ [])) ≡ columns.joined acc ⧺ r
@@ -75,13 +57,13 @@ pub record Along (X t : List ℕ) (n : ℕ) (L : List ℕ) (d : ℕ) (I : Input)
   pub number : num ≡ cols + count (columns.joined acc)
   pub all : columns.Grid cols acc
 
-pub record Inv (X t : List ℕ) (n : ℕ) (K L : List ℕ) (cols l r : ℕ) (c : Cursor) (e : ℕ) (x y : List ℕ) (cur : Cursor) (stp num : ℕ) : Type 0 where
+pub record Inv (X t : List ℕ) (n : ℕ) (K L : List ℕ) (cols : ℕ) (round : Bool) (c : Cursor) (e : ℕ) (x y : List ℕ) (cur : Cursor) (stp num : ℕ) : Type 0 where
   pub moves : Filled X t n K L c e x y (num - cols) cur stp
   pub least : cols ≤ num
-  pub along : Each X t n K c (λ I s. (h : reading.Row) → First X t n I cols l r h → Along X t n L (c .depth) I h cols s e x y cur stp num)
+  pub along : Each X t n K c (λ I s. (h : reading.Row) → First X t n I cols round h → Along X t n L (c .depth) I h cols s e x y cur stp num)
 
-module _ {X t : List ℕ} {n : ℕ} {K : List ℕ} (cols l r : ℕ) (c : Cursor) (e : ℕ) (x : List ℕ) where
-  pub rows-none : c .pos ≤ n → Known X t n K → Inv X t n K K cols l r c e x x c e cols
+module _ {X t : List ℕ} {n : ℕ} {K : List ℕ} (cols l : ℕ) (round : Bool) (c : Cursor) (e : ℕ) (x : List ℕ) where
+  pub rows-none : c .pos ≤ n → Known X t n K → Inv X t n K K cols round c e x x c e cols
   unfolding encodes joinRows
   rows-none k kn = record {
     moves = record { within = k; on = omega arith; depth = refl; room = omega arith; long = refl; kept = kept-refl K; known = kn };
@@ -93,8 +75,8 @@ module _ {X t : List ℕ} {n : ℕ} {K : List ℕ} (cols l r : ℕ) (c : Cursor)
       none-first (none, u) = refl
       none-first (some m, u) = refl
 
-  module _ {L y : List ℕ} {cur : Cursor} {stp num : ℕ} (i : Inv X t n K L cols l r c e x y cur stp num) (hl : l < n) (hr : r < n) (room : e + 32 * (n - c .pos) ≤ length x) where
-    pub rows-done : testAt t L n (isKind 3) (cur .pos) ≡ false → MoreRows X t n K L cols l r c e x y (record { cur = cur; end = stp; cells = num; cols = cols; left = l; why = why.Done })
+  module _ {L y : List ℕ} {cur : Cursor} {stp num : ℕ} (i : Inv X t n K L cols round c e x y cur stp num) (room : e + 32 * (n - c .pos) ≤ length x) where
+    pub rows-done : testAt t L n (isKind 3) (cur .pos) ≡ false → MoreRows X t n K L cols l round c e x y (record { cur = cur; end = stp; cells = num; cols = cols; left = l; why = why.Done })
     rows-done k = (
       record { cols′ = refl; left′ = refl },
       (
@@ -123,7 +105,7 @@ module _ {X t : List ℕ} {n : ℕ} {K : List ℕ} (cols l r : ℕ) (c : Cursor)
 
       -- whatever the cells and the end that a broken row left
       pub rows-broken : {J z : List ℕ} (m : ℕ) (d : Cursor) (E v F : ℕ) → MatrixRow X t n L J (onward cur) stp y z (record { cur = d; end = E; count = m; close = close.Broken })
-          → MoreRows X t n K J cols l r c e x z (record { cur = d; end = F; cells = v; cols = cols; left = l; why = why.Broken })
+          → MoreRows X t n K J cols l round c e x z (record { cur = d; end = F; cells = v; cols = cols; left = l; why = why.Broken })
       rows-broken m d E v F p = (
         record { cols′ = refl; left′ = refl },
         (
@@ -142,11 +124,11 @@ module _ {X t : List ℕ} {n : ℕ} {K : List ℕ} (cols l r : ℕ) (c : Cursor)
       )
 
       module _ {J z : List ℕ} {m q E : ℕ} {d : Cursor} (p : MatrixRow X t n L J (onward cur) stp y z (record { cur = d; end = E; count = m; close = close.At q })) where
-        alike-row : {I : Input} {s : State} {h : reading.Row} (row : reading.Row) → At X t n J (d .pos) (d .takes) I s → First X t n I cols l r h → getElem? (I .es) (cur .pos + 1) ≡ some (row .left) → getElem? (I .es) q ≡ some (row .right) → m ≡ count (row .cells)
-            → alike (I .text) (I .es) h row ≡ cond (eqb cols m) (entry.likeAt X t J l r (cur .pos + 1) q) false
-        alike-row {I} {s} {h} row a fst tl tr hm = alike-is h row (a .given) hl hr (p .2) (p .3) (fst .left) (fst .right) tl tr (fst .number) hm
+        alike-row : {I : Input} {s : State} {h : reading.Row} (row : reading.Row) → At X t n J (d .pos) (d .takes) I s → First X t n I cols round h → getElem? (I .es) (cur .pos + 1) ≡ some (row .left) → getElem? (I .es) q ≡ some (row .right) → m ≡ count (row .cells)
+            → alike (I .text) (I .es) h row ≡ cond (eqb cols m) (pairAt X t J round (cur .pos + 1) q) false
+        alike-row {I} {s} {h} row a fst tl tr hm = alike-pair I round h row (fst .pair) (fst .number) hm ∙ ap (λ (b : Bool). cond (eqb cols m) b false) (pair-is round row (a .given) (p .2) (p .3) tl tr)
 
-        pub rows-differ : cond (eqb cols m) (entry.likeAt X t J l r (cur .pos + 1) q) false ≡ false → (v : ℕ) → MoreRows X t n K J cols l r c e x z (record { cur = d; end = E; cells = v; cols = cols; left = l; why = why.Differs })
+        pub rows-differ : cond (eqb cols m) (pairAt X t J round (cur .pos + 1) q) false ≡ false → (v : ℕ) → MoreRows X t n K J cols l round c e x z (record { cur = d; end = E; cells = v; cols = cols; left = l; why = why.Differs })
         rows-differ df v = (
           record { cols′ = refl; left′ = refl },
           (
@@ -164,7 +146,7 @@ module _ {X t : List ℕ} {n : ℕ} {K : List ℕ} (cols l r : ℕ) (c : Cursor)
           ),
         )
 
-        pub rows-more : cols ≡ m → entry.likeAt X t J l r (cur .pos + 1) q ≡ true → Inv X t n K J cols l r c e x z d E (num + m)
+        pub rows-more : cols ≡ m → pairAt X t J round (cur .pos + 1) q ≡ true → Inv X t n K J cols round c e x z d E (num + m)
         rows-more hm lk = record {
           moves = record { within = p .0 .within; on = omega (arith, i .moves .on, p .0 .on, i .least); depth = p .0 .depth ∙ i .moves .depth; room = omega (arith, i .moves .room, p .0 .room, i .least, p .0 .on); long = p .0 .long ∙ i .moves .long; kept = kept-trans (i .moves .kept) (p .0 .kept); known = p .0 .known };
           least = omega (arith, i .least);
@@ -202,7 +184,7 @@ module _ (X t : List ℕ) (n : ℕ) (K L : List ℕ) (c : Cursor) (e : ℕ) (x y
   )
 
   module _ (m q E : ℕ) (d : Cursor) (p : MatrixRow X t n K L c e x y (record { cur = d; end = E; count = m; close = close.At q })) (room : e + 32 * (n - c .pos) ≤ length x) where
-    pub matrix-differs : entry.rowsAt X t L (c .pos) q ≡ false → (v F k l : ℕ) → MatrixRows X t n K L c e x y (record { cur = d; end = F; cells = v; cols = k; left = l; why = why.Differs })
+    pub matrix-differs : pairAt X t L (roundAt X t L (c .pos)) (c .pos) q ≡ false → (v F k l : ℕ) → MatrixRows X t n K L c e x y (record { cur = d; end = F; cells = v; cols = k; left = l; why = why.Differs })
     unfolding nextMatrixRows
     matrix-differs df v F k l = (
       record { within = p .0 .within; depth = p .0 .depth; long = p .0 .long; kept = p .0 .kept; known = p .0 .known },
@@ -216,11 +198,11 @@ module _ (X t : List ℕ) (n : ℕ) (K L : List ℕ) (c : Cursor) (e : ℕ) (x y
           },
     )
 
-    module _ (bk : entry.rowsAt X t L (c .pos) q ≡ true) (J z : List ℕ) where
-      firstly : {I : Input} {s : State} (w : HasRow X t n L (rowAt X t n (c .depth) I) I s e x y (c .pos) q m d E) → First X t n I m (c .pos) q (w .row)
-      firstly w = record { left = w .left; right = w .right; number = w .number }
+    module _ (bk : pairAt X t L (roundAt X t L (c .pos)) (c .pos) q ≡ true) (J z : List ℕ) where
+      firstly : {I : Input} {s : State} (w : HasRow X t n L (rowAt X t n (c .depth) I) I s e x y (c .pos) q m d E) → First X t n I m (roundAt X t L (c .pos)) (w .row)
+      firstly w = record { pair = pair-is (roundAt X t L (c .pos)) (w .row) (w .at .given) (p .2) (p .3) (w .left) (w .right) ∙ bk; number = w .number }
 
-      more-fails : {f : Cursor} (g : Each X t n L d (λ I s. (h : reading.Row) → First X t n I m (c .pos) q h → Fails X t n J (moreAt X t n (d .depth) h I) I s E y z f)) → Each X t n K c (λ I s. Fails X t n J (rowsAt X t n (c .depth) I) I s e x z f)
+      more-fails : {f : Cursor} (g : Each X t n L d (λ I s. (h : reading.Row) → First X t n I m (roundAt X t L (c .pos)) h → Fails X t n J (moreAt X t n (d .depth) h I) I s E y z f)) → Each X t n K c (λ I s. Fails X t n J (rowsAt X t n (c .depth) I) I s e x z f)
       unfolding nextMatrixRows
       more-fails g I s at =
           let w = p .4 I s at in
@@ -235,7 +217,7 @@ module _ (X t : List ℕ) (n : ℕ) (K L : List ℕ) (c : Cursor) (e : ℕ) (x y
       broke : {f : Cursor} → Broke X t n L J d E y z f → Broke X t n K J c e x z f
       broke b = record { within = b .within; depth = b .depth ∙ p .0 .depth; long = b .long ∙ p .0 .long; kept = kept-trans (p .0 .kept) (b .kept); known = b .known }
 
-      by-reason : (k : ℕ) (f : Cursor) (F : ℕ) (w : Why) → MoreRows′ X t n L J m (c .pos) q d E y z k f F w → MatrixRows′ X t n K J c e x z m (c .pos) k f F w
+      by-reason : (k : ℕ) (f : Cursor) (F : ℕ) (w : Why) → MoreRows′ X t n L J m (roundAt X t L (c .pos)) d E y z k f F w → MatrixRows′ X t n K J c e x z m (c .pos) k f F w
       unfolding nextMatrixRows joinRows
       by-reason k f F why.Differs g = (broke (g .0), more-fails (g .1))
       by-reason k f F why.Broken g = (broke (g .0), more-fails (g .1))
@@ -259,5 +241,5 @@ module _ (X t : List ℕ) (n : ℕ) (K L : List ℕ) (c : Cursor) (e : ℕ) (x y
             },
       )
 
-      pub matrix-more : (g : rows.Rows) → MoreRows X t n L J m (c .pos) q d E y z g → MatrixRows X t n K J c e x z g
+      pub matrix-more : (g : rows.Rows) → MoreRows X t n L J m (c .pos) (roundAt X t L (c .pos)) d E y z g → MatrixRows X t n K J c e x z g
       matrix-more g p2 = rw (p2 .0 .cols′, p2 .0 .left′) (by-reason (g .cells) (g .cur) (g .end) (g .why) (p2 .1))

@@ -3,7 +3,7 @@ use Prim.Native.Nat.{ℕ, suc, _+_, _-_, _*_, _≤_, _<_}
 use mathlib.Core.Path.{_≡_}
 use mathlib.Core.List.{List, [], _∷_}
 use mathlib.Core.Option.{Option, none, some}
-use mathlib.Core.Bool.{true}
+use mathlib.Core.Bool.{Bool, true}
 use lib.ListN.{length, getElem?}
 use Rattle.tree.specs.Tree.{Nodes, end, count}
 use Rattle.tree.specs.Words.{encodes}
@@ -20,7 +20,7 @@ use Rattle.parse.specs.Buffer.{Wrote}
 use Rattle.columns.specs.Rows as columns
 use Rattle.parse.specs.Meet.{Each}
 use Rattle.records.specs.Record.{Kept}
-use Rattle.reading_words.specs.Meet.{Input, At, Known, readers}
+use Rattle.reading_words.specs.Meet.{Input, At, Known, isPair, readers}
 
 -- Rows not read to their end: where the code stands, and what it leaves of the work words.
 pub record Broke (X t : List ℕ) (n : ℕ) (K L : List ℕ) (c : Cursor) (e : ℕ) (x y : List ℕ) (d : Cursor) : Type 0 where
@@ -91,12 +91,12 @@ module _ (X t : List ℕ) (n : ℕ) where
   abbrev pub MatrixRow : List ℕ → List ℕ → Cursor → ℕ → List ℕ → List ℕ → Cells → Type 0
   MatrixRow K L c e x y g = MatrixRow′ K L c e x y (g .count) (g .cur) (g .end) (g .close)
 
-  -- the rows behind the first one, h, which is of `cols` cells between the brackets l and r
-  pub record First (I : Input) (cols l r : ℕ) (h : Row) : Type 0 where
-    pub left : getElem? (I .es) l ≡ some (h .left)
-    pub right : getElem? (I .es) r ≡ some (h .right)
+  -- the first row, h: of `cols` cells between round brackets, or else square ones
+  pub record First (I : Input) (cols : ℕ) (round : Bool) (h : Row) : Type 0 where
+    pub pair : isPair I round h ≡ true
     pub number : cols ≡ count (h .cells)
 
+  -- the rows behind it
   pub record HasRows (L : List ℕ) (m : M (Option (List Nodes))) (I : Input) (s : State) (e : ℕ) (x y : List ℕ) (cols k : ℕ) (d : Cursor) (E : ℕ) : Type 0 where
     pub others : List Nodes
     pub state : State
@@ -110,17 +110,17 @@ module _ (X t : List ℕ) (n : ℕ) where
   moreAt d h I = moreRows (I .text) (I .es) true (readers d I) (suc (length (I .es))) h
 
   -- `k` cells in all, the first row's included
-  abbrev pub MoreRows′ : List ℕ → List ℕ → ℕ → ℕ → ℕ → Cursor → ℕ → List ℕ → List ℕ → ℕ → Cursor → ℕ → Why → Type 0
-  MoreRows′ K L cols l r c e x y k d E why.Done = Filled X t n K L c e x y (k - cols) d E × (cols ≤ k) × Each X t n K c (λ I s. (h : Row) → First I cols l r h → HasRows L (moreAt (c .depth) h I) I s e x y cols k d E)
-  MoreRows′ K L cols l r c e x y k d E why.Differs = Broke X t n K L c e x y d × Each X t n K c (λ I s. (h : Row) → First I cols l r h → Fails L (moreAt (c .depth) h I) I s e x y d)
-  MoreRows′ K L cols l r c e x y k d E why.Broken = Broke X t n K L c e x y d × Each X t n K c (λ I s. (h : Row) → First I cols l r h → Fails L (moreAt (c .depth) h I) I s e x y d)
+  abbrev pub MoreRows′ : List ℕ → List ℕ → ℕ → Bool → Cursor → ℕ → List ℕ → List ℕ → ℕ → Cursor → ℕ → Why → Type 0
+  MoreRows′ K L cols round c e x y k d E why.Done = Filled X t n K L c e x y (k - cols) d E × (cols ≤ k) × Each X t n K c (λ I s. (h : Row) → First I cols round h → HasRows L (moreAt (c .depth) h I) I s e x y cols k d E)
+  MoreRows′ K L cols round c e x y k d E why.Differs = Broke X t n K L c e x y d × Each X t n K c (λ I s. (h : Row) → First I cols round h → Fails L (moreAt (c .depth) h I) I s e x y d)
+  MoreRows′ K L cols round c e x y k d E why.Broken = Broke X t n K L c e x y d × Each X t n K c (λ I s. (h : Row) → First I cols round h → Fails L (moreAt (c .depth) h I) I s e x y d)
 
   pub record Same (cols l : ℕ) (g : code.Rows) : Type 0 where
     pub cols′ : g .cols ≡ cols
     pub left′ : g .left ≡ l
 
-  abbrev pub MoreRows : List ℕ → List ℕ → ℕ → ℕ → ℕ → Cursor → ℕ → List ℕ → List ℕ → code.Rows → Type 0
-  MoreRows K L cols l r c e x y g = Same cols l g × MoreRows′ K L cols l r c e x y (g .cells) (g .cur) (g .end) (g .why)
+  abbrev pub MoreRows : List ℕ → List ℕ → ℕ → ℕ → Bool → Cursor → ℕ → List ℕ → List ℕ → code.Rows → Type 0
+  MoreRows K L cols l round c e x y g = Same cols l g × MoreRows′ K L cols round c e x y (g .cells) (g .cur) (g .end) (g .why)
 
   -- all rows
   pub record HasMatrix (L : List ℕ) (m : M (Option Rows)) (I : Input) (s : State) (e : ℕ) (x y : List ℕ) (cols l k : ℕ) (d : Cursor) (E : ℕ) : Type 0 where

@@ -40,8 +40,8 @@ use marks::failed_at;
 use marks::mark_failed;
 use marks::open_mark;
 use records::record::kind_at;
-use rows::row_brackets;
-use rows::same_brackets;
+use rows::is_pair;
+use rows::is_round;
 use tokens::kinds::BINARY;
 use tokens::kinds::CLOSE_BRACKET;
 use tokens::kinds::FRAC;
@@ -211,6 +211,12 @@ fn term(
     match next_simple(text, tok, n, work, tree, c, e + 6, stop, sign) {
         Step::Nothing(d) => Step::Nothing(d),
         Step::Found(d, e1, f) => {
+            let at = d.pos as usize;
+            // as next_script would find it, without the call
+            if !marks_at(tok, work, n, at) {
+                put6(tree, e, NODE_SIMPLE, 0, 0, 0, 0, 0);
+                return Step::Found(d.look(n), e1, f);
+            }
             let m = next_script(text, tok, n, work, tree, d, e1);
             let mc = m.cur;
             put6(tree, e, NODE_SIMPLE, 0, 0, m.script, 0, 0);
@@ -420,7 +426,7 @@ fn next_row(
     }
 }
 
-// The rows behind the first one, which is of `cols` cells between the brackets `left` and `right`.
+// The rows behind the first one, which opens at `left` and is of `cols` cells between round brackets, or else square ones.
 fn more_rows(
     text: &[u8],
     tok: &[u32],
@@ -431,13 +437,11 @@ fn more_rows(
     e: usize,
     cols: usize,
     left: usize,
-    right: usize,
+    round: bool,
 ) -> Rows
     requires { ⌜ Ready 0 n (now text) (now tok) (now work) (now tree) c e ⌝ }
     requires { ⌜ cols ≤ c .pos ⌝ }
-    requires { ⌜ left < n ⌝ }
-    requires { ⌜ right < n ⌝ }
-    ensures { λ r. ⌜ MoreRows (now (text .entry)) (now (tok .entry)) n (now (work .entry)) (now (work .exit)) cols left right c e (now (tree .entry)) (now (tree .exit)) r ⌝ }
+    ensures { λ r. ⌜ MoreRows (now (text .entry)) (now (tok .entry)) n (now (work .entry)) (now (work .exit)) cols left round c e (now (tree .entry)) (now (tree .exit)) r ⌝ }
 {
     let mut cur = c;
     let mut end = e;
@@ -459,7 +463,7 @@ fn more_rows(
                     if count != cols {
                         break 'rows Why::Differs;
                     }
-                    if same_brackets(text, tok, work, left, right, p + 1, q) {} else {
+                    if is_pair(text, tok, work, round, p + 1, q) {} else {
                         break 'rows Why::Differs;
                     }
                 }
@@ -500,8 +504,9 @@ fn next_rows(
     let why = match close {
         Close::Broken => Why::Broken,
         Close::At(right) => {
-            if row_brackets(text, tok, work, left, right) {
-                return more_rows(text, tok, n, work, tree, cur, end, cols, left, right);
+            let round = is_round(text, tok, work, left);
+            if is_pair(text, tok, work, round, left, right) {
+                return more_rows(text, tok, n, work, tree, cur, end, cols, left, round);
             }
             Why::Differs
         }

@@ -2,13 +2,13 @@
 use mathlib.Core.Path.{_∙_, _≡_, ap, refl, sym}
 use Rattle.tree.specs.Tree.{Head, Node, Nodes, _▸_, _⧺_, count, end, node, nowhere, one}
 use Prim.Native.Nat.{_+_, _-_, _<_, _≤_, suc, ℕ}
-use Rattle.reading.specs.Reading.{M, Readers, State, Try, _>>=_, advance, alike, any, atOpenClose, barBody, begun, closed, endsFirst, endsOperand, here, if_then_else_, intermediates, isAt, isBar, isByte, lastOf, look, lost, made, moreRows, nextBracket, nextIntermediate, nextMatrixRow, nextOpenCloseGroup, nextScriptFunc, nought, openMark, prefixes, return, rowCells, sameText, spaced, textOf, tryMatrix, unscripted}
+use Rattle.reading.specs.Reading.{M, Readers, State, Try, _>>=_, advance, alike, any, atOpenClose, barBody, begun, closed, endsFirst, endsOperand, here, if_then_else_, intermediates, isAt, isBar, isByte, lastOf, look, lost, made, moreRows, nextBracket, nextIntermediate, nextMatrixRow, nextOpenCloseGroup, nextScriptFunc, nought, openMark, prefixes, return, rowBrackets, rowCells, sameText, spaced, textOf, tryMatrix, unscripted}
 use mathlib.Core.Option.{Option, none, some}
-use Rattle.reading_words.specs.Meet.{Given, Input, Row, Until, bracketAt, intermediateAt, isNone, itemsAt, itemsFrom, lastAfter, linkNumber, readers, scriptFuncAt, stopOf}
+use Rattle.reading_words.specs.Meet.{Given, Input, Row, Until, bracketAt, intermediateAt, isNone, isPair, itemsAt, itemsFrom, lastAfter, linkNumber, readers, scriptFuncAt, stopOf}
 use mathlib.Core.List.{List, [], _∷_, _++_, append-assoc}
 use Rattle.reading.specs.Entries.{Entry, is}
 use Rattle.spans.specs.Spans.{byteAt, sameAt}
-use mathlib.Core.Bool.{Bool, _&&_, cond, false, true}
+use mathlib.Core.Bool.{Bool, _&&_, _||_, cond, false, true}
 use Rattle.records.specs.Record.{kindOf}
 use borrow.Author.Tests.{eq-eqb, eqb-false, eqb-true, le-ltb, lt-ltb, ltb-false, ltb-true, ne-eqb}
 use Rattle.lookahead.specs.Tests.{beginsKind, isKind, testAt}
@@ -18,7 +18,7 @@ use Rattle.brackets.specs.Brackets.{barAt, closesAt, makesAt, setAt}
 use lib.ListN.{getElem?, length}
 use native.Mathlib.Omega.{arith}
 use Rattle.tokens.specs.declared.token.Token.the-variants as token
-use Rattle.rows.specs.Rows.{likeAt}
+use Rattle.rows.specs.Rows.{pairAt, roundAt}
 use Rattle.tokens.specs.declared.token.Token.{Token}
 use Rattle.tokens.specs.Kinds.{numberOf}
 use Rattle.tokens.specs.Bytes.{same}
@@ -153,19 +153,6 @@ one-byte (c ∷ s) a b d h = go (eqb c a) refl h
 pub not-both : (X t K : List ℕ) (i a b : ℕ) → (a ≡ b → ⊥) → byteAt X t K i a ≡ true → byteAt X t K i b ≡ false
 unfolding byteAt
 not-both X t K i a b d h = one-byte _ a b d h
-
-pub alike-is : {X t : List ℕ} {n : ℕ} {K : List ℕ} {I : Input} {l r l2 r2 cols k : ℕ} (a b : reading.Row) → Given X t n K I → l < n → r < n → l2 < n → r2 < n → getElem? (I .es) l ≡ some (a .left) → getElem? (I .es) r ≡ some (a .right)
-    → getElem? (I .es) l2 ≡ some (b .left) → getElem? (I .es) r2 ≡ some (b .right) → cols ≡ count (a .cells) → k ≡ count (b .cells) → alike (I .text) (I .es) a b ≡ cond (eqb cols k) (likeAt X t K l r l2 r2) false
-unfolding alike likeAt
-alike-is {X} {t} {n} {K} {I} {l} {r} {l2} {r2} {cols} {k} a b g h1 h2 h3 h4 t1 t2 t3 t4 hc hk =
-    rw (same-text (I .text) (I .es) (a .left) (b .left) (g .text) (row-of g h1 t1) (row-of g h3 t3), same-text (I .text) (I .es) (a .right) (b .right) (g .text) (row-of g h2 t2) (row-of g h4 t4), ← hc, ← hk)
-    (go (sameAt X t K l l2) (eqb cols k) (sameAt X t K r r2))
-  where
-    go : (a b c : Bool) → (a && b && c) ≡ cond b (cond a c false) false
-    go true true c = refl
-    go true false c = refl
-    go false true c = refl
-    go false false c = refl
 
 -- the rows read so far before those to come
 abbrev pub withRows : List Nodes → Option (List Nodes) × State → Option (List Nodes) × State
@@ -324,6 +311,86 @@ by-kind d i stop sg I s en h q = ap (λ (k : Token). begun (I .text) (I .es) tru
 pub byte-at : {X t K : List ℕ} {i : ℕ} (text : List ℕ) (es : List Entry) (b : ℕ) (a : Entry) → text ≡ X → Row t K i a → isByte text es b (a .span) ≡ byteAt X t K i b
 unfolding isByte textOf byteAt
 byte-at text es b a h r = rw (h, r .start, r .len)
+
+-- a text that is one byte, compared with another
+same-one : (s u : List ℕ) (b : ℕ) → same s (b ∷ []) ≡ true → same s u ≡ same u (b ∷ [])
+unfolding same
+same-one [] u b h = let z : _≡_ {A = ℕ} 0 1 = cc in absurd (omega arith)
+same-one (c ∷ d ∷ s) u b h = let z : _≡_ {A = ℕ} 0 1 = never (eqb c b) h in absurd (omega arith)
+  where
+    never : (q : Bool) → (q && false) ≡ true → _≡_ {A = ℕ} 0 1
+    never true k = cc
+    never false k = cc
+same-one (c ∷ []) [] b h = refl
+same-one (c ∷ []) (d ∷ u) b h = go (eqb c b) refl h u
+  where
+    both-ways : (q : Bool) → eqb b d ≡ q → eqb d b ≡ q
+    both-ways true e = eq-eqb d b (sym (eqb-true b d e))
+    both-ways false e = ne-eqb d b (λ z. eqb-false b d e (sym z))
+
+    rest : (q : Bool) (u : List ℕ) → (q && same [] u) ≡ (q && same u [])
+    rest q [] = refl
+    rest q (e ∷ u) = refl
+
+    go : (q : Bool) → eqb c b ≡ q → (q && same [] []) ≡ true → (u : List ℕ) → (eqb c d && same [] u) ≡ (eqb d b && same u [])
+    go true e k u = rw (eqb-true c b e, both-ways (eqb b d) refl) (rest (eqb b d) u)
+    go false e k u = let z : _≡_ {A = ℕ} 0 1 = cc in absurd (omega arith)
+
+-- A row is like a first one of round brackets, or else of square ones, if it is a pair of such too and has as many cells.
+pub alike-pair : (I : Input) (round : Bool) (a b : reading.Row) {cols k : ℕ} → isPair I round a ≡ true → cols ≡ count (a .cells) → k ≡ count (b .cells) → alike (I .text) (I .es) a b ≡ cond (eqb cols k) (isPair I round b) false
+unfolding alike sameText isByte
+alike-pair I round a b {cols} {k} h hc hk = by round h
+  where
+    T : Span → List ℕ
+    T = textOf (I .text) (I .es)
+
+    order : (p q r : Bool) → (p && q && r) ≡ cond q (p && r) false
+    order true true r = refl
+    order true false r = refl
+    order false true r = refl
+    order false false r = refl
+
+    firsts : (p q : Bool) → (p && q) ≡ true → (p ≡ true) × (q ≡ true)
+    firsts true true e = (refl, refl)
+    firsts true false e = let z : _≡_ {A = ℕ} 0 1 = cc in absurd (omega arith)
+    firsts false q e = let z : _≡_ {A = ℕ} 0 1 = cc in absurd (omega arith)
+
+    of-pair : (x y : ℕ) → (same (T (a .left .span)) (x ∷ []) && same (T (a .right .span)) (y ∷ [])) ≡ true
+        → (same (T (a .left .span)) (T (b .left .span)) && eqb (count (a .cells)) (count (b .cells)) && same (T (a .right .span)) (T (b .right .span))) ≡ cond (eqb cols k) (same (T (b .left .span)) (x ∷ []) && same (T (b .right .span)) (y ∷ [])) false
+    of-pair x y e =
+        let f = firsts (same (T (a .left .span)) (x ∷ [])) (same (T (a .right .span)) (y ∷ [])) e in
+        rw (same-one (T (a .left .span)) (T (b .left .span)) x (f .0), same-one (T (a .right .span)) (T (b .right .span)) y (f .1), ← hc, ← hk) (order (same (T (b .left .span)) (x ∷ [])) (eqb cols k) (same (T (b .right .span)) (y ∷ [])))
+
+    by : (q : Bool) → isPair I q a ≡ true → alike (I .text) (I .es) a b ≡ cond (eqb cols k) (isPair I q b) false
+    by true e = of-pair 40 41 e
+    by false e = of-pair 91 93 e
+
+-- the same by the words of its brackets
+pub pair-is : {X t : List ℕ} {n : ℕ} {K : List ℕ} {I : Input} {l r : ℕ} (round : Bool) (row : reading.Row) → Given X t n K I → l < n → r < n → getElem? (I .es) l ≡ some (row .left) → getElem? (I .es) r ≡ some (row .right)
+    → isPair I round row ≡ pairAt X t K round l r
+unfolding pairAt
+pair-is {I = I} round row g hl hr tl tr =
+    let a = row-of g hl tl in
+    let b = row-of g hr tr in
+    rw (byte-at (I .text) (I .es) 40 (row .left) (g .text) a, byte-at (I .text) (I .es) 41 (row .right) (g .text) b, byte-at (I .text) (I .es) 91 (row .left) (g .text) a, byte-at (I .text) (I .es) 93 (row .right) (g .text) b, and-pick, and-pick)
+
+-- the first row: round brackets if its left one is
+pub brackets-are : {X t : List ℕ} {n : ℕ} {K : List ℕ} {I : Input} {l r : ℕ} (row : reading.Row) → Given X t n K I → l < n → r < n → getElem? (I .es) l ≡ some (row .left) → getElem? (I .es) r ≡ some (row .right)
+    → rowBrackets (I .text) (I .es) row ≡ pairAt X t K (roundAt X t K l) l r
+unfolding rowBrackets pairAt
+brackets-are {X} {t} {n} {K} {I} {l} {r} row g hl hr tl tr =
+    let a = row-of g hl tl in
+    let b = row-of g hr tr in
+    rw (byte-at (I .text) (I .es) 40 (row .left) (g .text) a, byte-at (I .text) (I .es) 41 (row .right) (g .text) b, byte-at (I .text) (I .es) 91 (row .left) (g .text) a, byte-at (I .text) (I .es) 93 (row .right) (g .text) b)
+    (go (byteAt X t K l 40) (byteAt X t K l 91) (byteAt X t K r 41) (byteAt X t K r 93) (not-both X t K l 40 91 (λ z. omega arith)))
+  where
+    go : (a c b d : Bool) → (a ≡ true → c ≡ false) → ((a && b) || (c && d)) ≡ cond a (cond a b false) (cond c d false)
+    go true true b d h = let z : true ≡ false = h refl in let w : _≡_ {A = ℕ} 0 1 = cc in absurd (omega arith)
+    go true false true d h = refl
+    go true false false d h = refl
+    go false true b true h = refl
+    go false true b false h = refl
+    go false false b d h = refl
 
 -- a scripted part
 module _ (d : ℕ) (stop sg : Bool) (deep : d < 256) where

@@ -4,14 +4,15 @@ use Prim.Native.Nat.{ℕ, zero, suc, _+_, _-_, _*_, _%_, _≤_, _<_, _^_}
 use mathlib.Core.Path.{_≡_}
 use mathlib.Core.List.{List}
 use mathlib.Core.Option.{Option, none, some}
-use mathlib.Core.Bool.{Bool, true, false}
+use mathlib.Core.Bool.{Bool, true, false, cond, _&&_}
 use lib.ListN.{length, drop, getD, getElem?}
 use Rattle.tokens.specs.declared.token.Token.the-variants as token
 use Rattle.tokens.specs.Kinds.{numberOf}
 use Rattle.tree.specs.Tree.{Head, Prefix, Node, node, Nodes, end, _▸_, _⧺_, one}
 use Rattle.reading.specs.Stop.{Stop}
 use Rattle.reading.specs.Entries.{Entry, is, hasSep}
-use Rattle.reading.specs.Reading.{State, M, return, _>>=_, if_then_else_, Readers, Scripted, level, closeOf, nextScript, nextIntermediate, intermediates, nextOpenCloseGroup, nextBracket, attempt, openMark, barBody, orMissingPart, orGlyph}
+use Rattle.reading.specs.Reading.{State, M, return, _>>=_, if_then_else_, Readers, Scripted, level, closeOf, nextScript, nextIntermediate, intermediates, nextOpenCloseGroup, nextBracket, attempt, openMark, barBody, orMissingPart, orGlyph, isByte}
+use Rattle.reading.specs.Reading as reading
 use Rattle.records.specs.Record.{afterClose, sepOf, marksOf, kindOf, startOf, lenOf, spaceStart, spaceLen}
 use Rattle.tokens.specs.Refusals.{bit}
 use Rattle.reading_words.specs.Entry.{marksWord}
@@ -72,6 +73,13 @@ pub record Known (X t : List ℕ) (n : ℕ) (K : List ℕ) : Type 0 where
   pub marked : List Bool
   pub given : Given X t n K input
   pub marks : Marks n K marked
+
+-- The brackets of a row are round ones, or else square ones.
+abbrev pub isPair : Input → Bool → reading.Row → Bool
+isPair I round r =
+    cond round
+    (isByte (I .text) (I .es) 40 (r .left .span) && isByte (I .text) (I .es) 41 (r .right .span))
+    (isByte (I .text) (I .es) 91 (r .left .span) && isByte (I .text) (I .es) 93 (r .right .span))
 
 -- the readers at depth d
 abbrev pub readers : ℕ → Input → Readers
