@@ -1,6 +1,6 @@
 -- The loop over items: what it keeps, and what each way out of it shows.
 use Prim.Native.Nat.{ℕ, zero, suc, _-_, _≤_}
-use mathlib.Core.Path.{_≡_, refl, sym, ap, _∙_}
+use mathlib.Core.Path.{_≡_, refl, sym, ap, subst, _∙_}
 use mathlib.Core.List.{List}
 use mathlib.Core.Option.{Option, none, some}
 use mathlib.Core.Bool.{Bool, true, false, not, cond}
@@ -18,7 +18,7 @@ use Rattle.closers_pass.specs.declared.cursor.Cursor.{Cursor}
 use Rattle.brackets.specs.Brackets.{barAt}
 use Rattle.reading_words.specs.Meet.{Input, readers, Until, lastAfter, isNone, stopOf, itemsAt, itemsFrom}
 use Rattle.closers_pass.specs.Meet.{At, Moves, Each, Gives, Listed, Intermediate, Intermediates, isMore, lineOf, linePart, endsOf}
-use Rattle.reading_words.proofs.Steps.{ended, ended-is, from-start, joined, last-more, nodes-nil, rejoin, turn-found, turn-met, turn-nothing}
+use Rattle.reading_words.proofs.Steps.{bar-kept, ended, ended-is, from-start, joined, last-more, nodes-nil, rejoin, turn-found, turn-met, turn-nothing}
 
 -- The Space kept before an item, as nodes, whatever follows.
 record Spaced (i : ℕ) (es : List Entry) (before : Option Node) : Type 0 where
@@ -89,6 +89,7 @@ pub record Along (X t : List ℕ) (n : ℕ) (L : List ℕ) (d turns : ℕ) (stop
 
 pub record Inv (X t : List ℕ) (n : ℕ) (K L : List ℕ) (u : ℕ) (stop first₀ sign₀ : Bool) (c cur : Cursor) (first sm line sign : Bool) : Type 0 where
   pub moves : Moves 0 n K L c cur
+  pub later : sm ≡ true → first ≡ false
   pub along : Each X t n K c (λ I s. (f : ℕ) → n - c .pos ≤ f → (until : Option Entry) → Until n I u until → (start : Option Node) → first₀ ≡ isNone start → sign₀ ≡ prefixes start → Along X t n L (c .depth) f stop I until start s cur first sm line sign)
 
 before-start : (start before : Option Node) (acc : Nodes) → before ≡ lastAfter start acc → isMore acc ≡ false → before ≡ start
@@ -99,6 +100,7 @@ module _ {X t : List ℕ} {n : ℕ} {K : List ℕ} (u : ℕ) (stop first₀ sign
   pub along-none : c .pos ≤ n → Inv X t n K K u stop first₀ sign₀ c c first₀ false false sign₀
   along-none k = record {
     moves = record { within = k; on = omega arith; depth = refl; kept = kept-refl K };
+    later = λ h. no-first h;
     along = λ I s at f hn until hu start hf hs. record { left = f; acc = end; before = start; state = s; whole = refl; enough = hn; at = at; isMore′ = refl; isLine = λ h. no-line I; isFirst = hf; isSign = hs; last = refl };
   }
 
@@ -110,6 +112,7 @@ module _ {X t : List ℕ} {n : ℕ} {K : List ℕ} (u : ℕ) (stop first₀ sign
         let w : bit (g .some) ≡ 1 = ap bit h in
         record {
           moves = record { within = p .moves .within; on = omega (arith, p .moves .on, i .moves .on); depth = p .moves .depth ∙ i .moves .depth; kept = kept-trans (i .moves .kept) (p .moves .kept) };
+          later = λ h. refl;
           along = λ I s at f hn until hu start hf hs.
               let a = i .along I s at f hn until hu start hf hs in
               let q = rw (i .moves .depth) at (p .means I (a .state) (a .at)) in
@@ -138,9 +141,10 @@ module _ {X t : List ℕ} {n : ℕ} {K : List ℕ} (u : ℕ) (stop first₀ sign
               };
         }
 
-    pub along-nothing : g .some ≡ false → Intermediates X t n K J u stop first₀ sign₀ c (record { cur = g .cur; some = sm; line = line; sign = sign })
+    pub along-nothing : g .some ≡ false → Intermediates X t n K J u stop first₀ sign₀ c (record { cur = g .cur; some = sm; line = line; sign = sign; met = false })
     along-nothing h = record {
       moves = record { within = p .moves .within; on = omega (arith, p .moves .on, i .moves .on); depth = p .moves .depth ∙ i .moves .depth; kept = kept-trans (i .moves .kept) (p .moves .kept) };
+      met = λ hs. sym (ap (barAt X t J n u) (p .stays h) ∙ bar-kept X t n u (cur .pos) (p .moves .kept) ∙ subst (λ (b : Bool). barAt X t L n (cond b n u) (cur .pos) ≡ false) (i .later hs) unmet);
       means = λ I s at f hn until hu start hf hs.
           let a = i .along I s at f hn until hu start hf hs in
           let q = rw (i .moves .depth) at (p .means I (a .state) (a .at)) in
@@ -156,9 +160,10 @@ module _ {X t : List ℕ} {n : ℕ} {K : List ℕ} (u : ℕ) (stop first₀ sign
     }
 
   pub along-met : {L : List ℕ} {cur : Cursor} {first sm line sign : Bool} → Inv X t n K L u stop first₀ sign₀ c cur first sm line sign → barAt X t L n (cond first n u) (cur .pos) ≡ true
-      → Intermediates X t n K L u stop first₀ sign₀ c (record { cur = cur; some = sm; line = line; sign = sign })
+      → Intermediates X t n K L u stop first₀ sign₀ c (record { cur = cur; some = sm; line = line; sign = sign; met = true })
   along-met {L} {cur} {first} i h = record {
     moves = i .moves;
+    met = λ hs. sym (subst (λ (b : Bool). barAt X t L n (cond b n u) (cur .pos) ≡ true) (i .later hs) h);
     means = λ I s at f hn until hu start hf hs.
         let a = i .along I s at f hn until hu start hf hs in
         record {

@@ -36,6 +36,10 @@ pub lack : (a : Option Node) → false ≡ isSome a → a ≡ none
 lack none h = refl
 lack (some x) h = let z : _≡_ {A = ℕ} 0 1 = cc in absurd (omega arith)
 
+-- a flag is not both
+pub no-false : {A : Type 0} → true ≡ false → A
+no-false h = let z : _≡_ {A = ℕ} 0 1 = cc in absurd (omega arith)
+
 pub runs-as : {A : Type 0} {r : A × State} {u : State} {a b : A} → r ≡ (a, u) → a ≡ b → r ≡ (b, u)
 runs-as {u = u} h k = h ∙ ap (λ x. (x, u)) k
 
@@ -44,12 +48,14 @@ module _ {X t : List ℕ} {n : ℕ} {K : List ℕ} (stop sg : Bool) {c : Cursor}
   pub simple-deep : Simple X t n K K stop sg c (nothingAt c)
   simple-deep = record {
     moves = record { within = k; on = omega arith; depth = refl; kept = kept-refl K };
+    stays = λ h. refl;
     means = λ I s at. record { answer = none; state = s; runs = ap (λ (f : Stop → Bool → M (Option Node)). f (stopOf stop) sg s) (deep-simple I (c .depth) h) ∙ ret _ _; at = at; besides = record { some = refl; ends = refl; bar = refl } };
   }
 
   pub script-deep : ScriptFunc X t n K K stop sg c (nothingAt c)
   script-deep = record {
     moves = record { within = k; on = omega arith; depth = refl; kept = kept-refl K };
+    stays = λ h. refl;
     means = λ I s at. record { answer = none; state = s; runs = ap (λ (f : Stop → Bool → M (Option Node)). f (stopOf stop) sg s) (deep-scriptFunc I (c .depth) h) ∙ ret _ _; at = at; besides = record { some = refl; ends = refl; bar = refl } };
   }
 
@@ -59,6 +65,7 @@ module _ {X t : List ℕ} {n : ℕ} {K : List ℕ} (stop sg : Bool) {c : Cursor}
   unfolding nextSimple
   simple-nothing h k = record {
     moves = record { within = k; on = omega arith; depth = refl; kept = kept-refl K };
+    stays = λ h. refl;
     means = λ I s at.
         let r = passed (beginsKind stop) at (same-begins stop) h in
         record { answer = none; state = r .state; runs = ap (λ (f : Stop → Bool → M (Option Node)). f (stopOf stop) sg s) (level-simple I (c .depth) deep) ∙ bind _ _ s (at-here s) ∙ bind _ _ _ (r .runs) ∙ ret _ _; at = r .at; besides = record { some = refl; ends = refl; bar = refl } };
@@ -70,6 +77,7 @@ module _ {X t : List ℕ} {n : ℕ} {K : List ℕ} (stop sg : Bool) {c : Cursor}
       let z : bit (g .some) ≡ 1 = ap bit (p .0) in
       record {
         moves = record { within = p .1 .moves .within; on = omega (arith, p .1 .moves .on); depth = refl; kept = p .1 .moves .kept };
+        stays = λ f. no-false (sym (p .0) ∙ f);
         means = λ I s at.
             let r = took (beginsKind stop) at (same-begins stop) h in
             let q = p .1 .means I (tick s) (at-tick at) (r .0 .entry) (r .0 .there) in
@@ -152,6 +160,7 @@ module _ {X t : List ℕ} {n : ℕ} {K L : List ℕ} (stop sg : Bool) {c : Curso
   pub term-nothing : g .some ≡ false → Term X t n K L stop sg c g
   term-nothing h = record {
     moves = p .moves;
+    stays = p .stays;
     means = λ I s at.
         let q = p .means I s at in
         let z = lack (q .answer) (sym h ∙ q .besides .some) in
@@ -164,6 +173,7 @@ module _ {X t : List ℕ} {n : ℕ} {K L : List ℕ} (stop sg : Bool) {c : Curso
       let w : bit (g .some) ≡ 1 = ap bit h in
       record {
         moves = record { within = p2 .moves .within; on = omega (arith, p .moves .on, p2 .moves .on); depth = p2 .moves .depth ∙ p .moves .depth; kept = kept-trans (p .moves .kept) (p2 .moves .kept) };
+        stays = λ f. no-false f;
         means = λ I s at.
             let q = p .means I s at in
             let z = got (q .answer) (sym h ∙ q .besides .some) in
@@ -182,6 +192,7 @@ module _ {X t : List ℕ} {n : ℕ} {K L : List ℕ} (stop sg : Bool) {c : Curso
   unfolding nextScriptFunc
   script-term {g} h p = record {
     moves = record { within = p .moves .within; on = p .moves .on; depth = refl; kept = p .moves .kept };
+    stays = p .stays;
     means = λ I s at.
         let r = passed (headsKind sg) at (same-heads sg) h in
         let q = p .means I (r .state) (r .at) in
@@ -192,6 +203,7 @@ module _ {X t : List ℕ} {n : ℕ} {K L : List ℕ} (stop sg : Bool) {c : Curso
   unfolding nextScriptFunc
   script-headed {d} h p = record {
     moves = record { within = p .moves .within; on = omega (arith, p .moves .on); depth = refl; kept = p .moves .kept };
+    stays = λ f. no-false f;
     means = λ I s at.
         let r = took (headsKind sg) at (same-heads sg) h in
         let q = p .means I (tick s) (at-tick at) (r .0 .entry) (r .0 .there) in
@@ -247,6 +259,7 @@ module _ {X t : List ℕ} {n : ℕ} {K L : List ℕ} (stop sg : Bool) {c : Curso
   unfolding nextIntermediate
   item-nothing h = record {
     moves = p .moves;
+    stays = p .stays;
     means = λ I s at.
         let q = p .means I s at in
         let z = lack (q .answer) (sym h ∙ q .besides .some) in
@@ -260,6 +273,7 @@ module _ {X t : List ℕ} {n : ℕ} {K L : List ℕ} (stop sg : Bool) {c : Curso
         let w : bit (g .some) ≡ 1 = ap bit h in
         record {
           moves = record { within = p .moves .within; on = omega (arith, p .moves .on); depth = p .moves .depth; kept = p .moves .kept };
+          stays = λ f. no-false f;
           means = λ I s at.
               let q = p .means I s at in
               let z = got (q .answer) (sym h ∙ q .besides .some) in
@@ -273,6 +287,7 @@ module _ {X t : List ℕ} {n : ℕ} {K L : List ℕ} (stop sg : Bool) {c : Curso
         let w : bit (g .some) ≡ 1 = ap bit h in
         record {
           moves = record { within = p2 .moves .within; on = omega (arith, p .moves .on, p2 .moves .on); depth = p2 .moves .depth ∙ p .moves .depth; kept = kept-trans (p .moves .kept) (p2 .moves .kept) };
+          stays = λ f. no-false f;
           means = λ I s at.
               let q = p .means I s at in
               let z = got (q .answer) (sym h ∙ q .besides .some) in

@@ -18,6 +18,7 @@ use Rattle.closers_pass.specs.declared.cursor.Tried.{Tried}
 use Rattle.records.specs.Record.{recordWords, closerOf, kindOf, Kept}
 use Rattle.lookahead.specs.Takes.{taken, looked}
 use Rattle.leaves.specs.Leaves.{leafEnds, leafBar}
+use Rattle.brackets.specs.Brackets.{barAt}
 use Rattle.tokens.specs.Refusals.{bit}
 use Rattle.reading_words.specs.Meet.{Input, stopOf, Given, Marks, readers, lastAfter, isNone, Until, simpleAt, scriptFuncAt, intermediateAt, scriptAt, itemsFrom, termAt, headedAt, barsAt, bracketAt}
 
@@ -109,6 +110,12 @@ module _ (X t : List ℕ) (n : ℕ) where
     pub moves : Moves gain n K L c d
     pub means : Each K c (λ I s. Gives L (m I) (also I) I s d)
 
+  -- A reader of a part: where it finds no node, it stays.
+  pub record Found (K L : List ℕ) (m : Input → M (Option Node)) (bars : Input → Option Node → Bool) (c : Cursor) (g : Part) : Type 0 where
+    pub moves : Moves (bit (g .some)) n K L c (g .cur)
+    pub stays : g .some ≡ false → g .cur .pos ≡ c .pos
+    pub means : Each K c (λ I s. Gives L (m I) (Says (bars I) g) I s (g .cur))
+
   -- What the entry i begins, which the reader has just taken.
   abbrev pub EachOf : List ℕ → ℕ → Cursor → (Input → State → Entry → Type 0) → Type 0
   EachOf K i c P = (I : Input) (s : State) → At X t n K (c .pos) (c .takes) I s → (en : Entry) → getElem? (I .es) i ≡ some en → P I s en
@@ -119,16 +126,16 @@ module _ (X t : List ℕ) (n : ℕ) where
 
   -- The readers' contracts.
   abbrev pub Simple : List ℕ → List ℕ → Bool → Bool → Cursor → Part → Type 0
-  Simple K L stop sg c g = Gave K L (bit (g .some)) (simpleAt (c .depth) stop sg) (λ I. Says (barOf I) g) c (g .cur)
+  Simple K L stop sg c g = Found K L (simpleAt (c .depth) stop sg) barOf c g
 
   abbrev pub ScriptFunc : List ℕ → List ℕ → Bool → Bool → Cursor → Part → Type 0
-  ScriptFunc K L stop sg c g = Gave K L (bit (g .some)) (scriptFuncAt (c .depth) stop sg) (λ I. Says (lineOf I) g) c (g .cur)
+  ScriptFunc K L stop sg c g = Found K L (scriptFuncAt (c .depth) stop sg) lineOf c g
 
   abbrev pub Term : List ℕ → List ℕ → Bool → Bool → Cursor → Part → Type 0
-  Term K L stop sg c g = Gave K L (bit (g .some)) (termAt (c .depth) stop sg) (λ I. Says (lineOf I) g) c (g .cur)
+  Term K L stop sg c g = Found K L (termAt (c .depth) stop sg) lineOf c g
 
   abbrev pub Intermediate : List ℕ → List ℕ → Bool → Bool → Cursor → Part → Type 0
-  Intermediate K L stop sg c g = Gave K L (bit (g .some)) (intermediateAt (c .depth) stop sg) (λ I. Says (lineOf I) g) c (g .cur)
+  Intermediate K L stop sg c g = Found K L (intermediateAt (c .depth) stop sg) lineOf c g
 
   abbrev pub Scripts : List ℕ → List ℕ → Cursor → code.Scripted → Type 0
   Scripts K L c g = Gave K L 0 (scriptAt (c .depth)) (λ I q. g .some ≡ scripts (q .0)) c (g .cur)
@@ -142,6 +149,7 @@ module _ (X t : List ℕ) (n : ℕ) where
 
   pub record Intermediates (K L : List ℕ) (u : ℕ) (stop first sign : Bool) (c : Cursor) (g : Items) : Type 0 where
     pub moves : Moves 0 n K L c (g .cur)
+    pub met : g .some ≡ true → g .met ≡ barAt X t L n u (g .cur .pos)
     pub means : Each K c (λ I s. (f : ℕ) → n - c .pos ≤ f → (until : Option Entry) → Until n I u until → (before : Option Node) → first ≡ isNone before → sign ≡ prefixes before → Gives L (itemsFrom (c .depth) f until stop before I) (Listed I before g) I s (g .cur))
 
   abbrev pub Headed : List ℕ → List ℕ → ℕ → Bool → Cursor → Cursor → Type 0

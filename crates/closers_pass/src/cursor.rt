@@ -135,12 +135,14 @@ pub(crate) struct Scripted {
     pub some: bool,
 }
 
-// Items: whether there are some, whether they are a bar alone, and whether a sign behind them prefixes.
+// Items: whether there are some, whether they are a bar alone, whether a sign behind them prefixes, and whether they ended at the bar that
+// was to end them.
 pub(crate) struct Items {
     pub cur: Cursor,
     pub some: bool,
     pub line: bool,
     pub sign: bool,
+    pub met: bool,
 }
 
 // A row's cells, and how many of them are no lines; whether the row ended at a closing bracket, and which.

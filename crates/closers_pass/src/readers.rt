@@ -244,27 +244,28 @@ pub(crate) fn extend(
     let mut some = false;
     let mut line = false;
     let mut sign = sign0;
-    'items: loop {
+    let met = 'items: loop {
         let pos = cur.pos as usize;
         let bar = choose(first, n, until);
         if bar_at(text, tok, work, n, bar, pos) {
-            break 'items;
+            break 'items true;
         }
         let g = next_intermediate(text, tok, n, work, cur, stop, sign);
         cur = g.cur;
         if !g.some {
-            break 'items;
+            break 'items false;
         }
         line = unless(some, g.bar);
         some = true;
         first = false;
         sign = !g.ends;
-    }
+    };
     Items {
         cur: cur,
         some: some,
         line: line,
         sign: sign,
+        met: met,
     }
 }
 
@@ -497,7 +498,7 @@ fn bars(
     if !run.some {
         return leaf(text, tok, work, cur, i, OPEN_CLOSE_BRACKET);
     }
-    if bar_at(text, tok, work, n, i, at) {
+    if run.met {
         note_closer(work, i, n, at);
         return operation(cur.next());
     }

@@ -92,7 +92,7 @@ pub record Places (K L : List ℕ) : Type 0 where
   pub long : length L ≡ length K
   pub place : (i : ℕ) → placeOf L i ≡ placeOf K i
 
-places-kept : {K L : List ℕ} → Kept K L → Places K L
+pub places-kept : {K L : List ℕ} → Kept K L → Places K L
 places-kept p = record { long = p .long; place = p .place }
 
 module _ {K L : List ℕ} (t : List ℕ) (p : Places K L) (i : ℕ) where

@@ -9,11 +9,11 @@ use mathlib.Core.List.{List, [], _∷_, _++_, append-assoc}
 use Rattle.reading.specs.Entries.{Entry, is}
 use Rattle.spans.specs.Spans.{byteAt, sameAt}
 use mathlib.Core.Bool.{Bool, _&&_, _||_, cond, false, true}
-use Rattle.records.specs.Record.{kindOf}
+use Rattle.records.specs.Record.{kindOf, Kept}
 use borrow.Author.Tests.{eq-eqb, eqb-false, eqb-true, le-ltb, lt-ltb, ltb-false, ltb-true, ne-eqb}
 use Rattle.lookahead.specs.Tests.{beginsKind, isKind, testAt}
 use lib.Dec.{eqb, ltb}
-use Rattle.reading_words.proofs.Kit.{at-here, at-none, at-some, bind, if-false, if-true, level-scriptFunc, past, ret, row-of, same-is, test-in, test-out}
+use Rattle.reading_words.proofs.Kit.{at-here, at-none, at-some, bind, if-false, if-true, level-scriptFunc, past, places-kept, ret, row-of, same-is, same-kind, same-len, same-start, test-in, test-out}
 use Rattle.brackets.specs.Brackets.{barAt, closesAt, makesAt, setAt}
 use lib.ListN.{getElem?, length}
 use native.Mathlib.Omega.{arith}
@@ -75,6 +75,10 @@ bar-out X t K n i j h = go (ltb i n)
 pub bar-none : (X t K : List ℕ) (n i j : ℕ) → n ≤ i → barAt X t K n i j ≡ false
 unfolding barAt
 bar-none X t K n i j h = rw (le-ltb i n h)
+
+pub bar-kept : (X t : List ℕ) {K L : List ℕ} (n i j : ℕ) → Kept K L → barAt X t L n i j ≡ barAt X t K n i j
+unfolding barAt testAt sameAt
+bar-kept X t n i j k = let p = places-kept k in rw (same-kind t p j, same-start t p i, same-len t p i, same-start t p j, same-len t p j)
 
 pub bar-is : {X t : List ℕ} {n : ℕ} {K : List ℕ} {I : Input} (i p : ℕ) (o : Entry) → Given X t n K I → i < n → getElem? (I .es) i ≡ some o → isAt (I .text) (I .es) (isBar (I .text) (I .es) o) p ≡ barAt X t K n i p
 unfolding isBar

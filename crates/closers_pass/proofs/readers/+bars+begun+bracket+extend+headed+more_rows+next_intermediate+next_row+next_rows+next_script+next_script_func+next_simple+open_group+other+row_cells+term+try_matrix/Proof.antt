@@ -111,7 +111,6 @@ pub +bars+begun+bracket+extend+headed+more-rows+next-intermediate+next-row+next-
     (bars-need.leaf-requires-2 t)
     (bars-need.same-length-2 t)
     (bars-need.returns-2 t)
-    (bars-need.bar-at-requires t)
     (bars-need.note-closer-requires t)
     (bars-need.next-requires t)
     (bars-need.operation-requires t)

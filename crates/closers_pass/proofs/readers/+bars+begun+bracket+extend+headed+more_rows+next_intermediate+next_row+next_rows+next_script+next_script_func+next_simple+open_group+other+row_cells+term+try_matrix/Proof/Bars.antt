@@ -1,5 +1,4 @@
 -- bars: what each way through it shows.
-use Rattle.brackets.proofs.bar_at.Reads as bar-at-reads
 use Rattle.closers_pass.proofs.readers.bars.Reads as bars
 use Rattle.closers_pass.proofs.readers.extend.Reads as extend
 use Rattle.marks.proofs.failed_at.Reads as failed-at-reads
@@ -21,7 +20,7 @@ use Rattle.closers_pass.proofs.Barred.{bars-known, bars-nought, bars-ma
 use Rattle.reading_words.proofs.Steps.{bar-below}
 
 abbrev pub uses : ℕ → bars-lts.Claims
-uses t = (open-mark-reads.Asked, open-mark-reads.Learnt, failed-at-reads.Asked, failed-at-reads.Learnt, leaf-reads.Asked, leaf-reads.Learnt, extend-below t, extend.Post, bar-at-reads.Asked, bar-at-reads.Learnt, note-closer-reads.Asked, note-closer-reads.Learnt, next-reads.Asked, next-reads.Learnt, operation-reads.Asked, operation-reads.Learnt, give-up-reads.Asked, give-up-reads.Learnt, rewind-reads.Asked, rewind-reads.Learnt)
+uses t = (open-mark-reads.Asked, open-mark-reads.Learnt, failed-at-reads.Asked, failed-at-reads.Learnt, leaf-reads.Asked, leaf-reads.Learnt, extend-below t, extend.Post, note-closer-reads.Asked, note-closer-reads.Learnt, next-reads.Asked, next-reads.Learnt, operation-reads.Asked, operation-reads.Learnt, give-up-reads.Asked, give-up-reads.Learnt, rewind-reads.Asked, rewind-reads.Learnt)
 
 pub open-mark-requires : (t : ℕ) → bars-lts.Need-open-mark-requires (uses t) (bars-at t) bars.Post
 open-mark-requires t c κs = search needs
@@ -53,14 +52,11 @@ same-length-2 t c = search needs
 pub returns-2 : (t : ℕ) → bars-lts.Need-returns-2 (uses t) (bars-at t) bars.Post
 returns-2 t c = rw (c .leaf2 .ensures) (bars-nought (c .before .before .before .before .before .before .before .before .before .before .before .before .before .before .before .before .before .args .i) (c .before .before .before .before .before .before .before .before .before .before .before .before .before .before .before .before .before .args .stop) (omega (arith, c .before .before .before .before .before .before .before .before .before .before .before .before .before .before .before .before .before .pre .1 .1, c .before .before .before .before .before .before .before .before .before .before .before .before .before .before .before .before .before .pre .1 .0 .here)) (c .before .before .before .before .before .before .before .before .before .before .before .before .before .before .before .before .before .pre .1 .1) (c .before .before .before .before .before .before .before .before .before .before .before .before .before .before .before .before .before .pre .1 .0 .here) (c .before .before .before .before .before .before .before .before .before .before .before .before .before .before .before .before .before .pre .1 .0 .few) (c .before .before .before .before .before .before .before .before .before .before .before .before .before .before .before .before .before .pre .1 .0 .fit) (rw (c .before .before .before .before .before .before .before .before .before .before .before .before .before .open-mark .ensures) at (sym (c .before .before .before .before .before .before .before .before .before .before .before .failed-at .ensures) ∙ c .before .before .before .before .before .before .before .before .before .before .if1 .left)) (c .before .before .before .before .before .before .before .before .extend .ensures) (not-true _ (c .before .before .if2 .taken)))
 
-pub bar-at-requires : (t : ℕ) → bars-lts.Need-bar-at-requires (uses t) (bars-at t) bars.Post
-bar-at-requires t c κs = search needs
-
 pub note-closer-requires : (t : ℕ) → bars-lts.Need-note-closer-requires (uses t) (bars-at t) bars.Post
 note-closer-requires t c κs = search needs
 
 pub next-requires : (t : ℕ) → bars-lts.Need-next-requires (uses t) (bars-at t) bars.Post
-next-requires t c κs = let b = bar-below _ _ _ (c .before .before .before .before .before .before .before .before .before .before .before .before .before .before .before .before .before .before .before .before .before .before .args .n) _ _ (sym (c .before .before .before .before .before .bar-at .ensures) ∙ c .before .before .before .before .if3 .taken) in omega (arith, c .before .before .before .before .before .before .before .before .before .before .before .before .before .before .before .before .before .before .before .before .before .before .pre .1 .0 .few)
+next-requires t c κs = let b = bar-below _ _ _ (c .before .before .before .before .before .before .before .before .before .before .before .before .before .before .before .before .before .before .before .before .args .n) _ _ (sym (c .before .before .before .before .before .before .before .before .before .before .before .extend .ensures .met (not-false _ (c .before .before .before .before .before .if2 .left))) ∙ c .before .before .before .before .if3 .taken) in omega (arith, c .before .before .before .before .before .before .before .before .before .before .before .before .before .before .before .before .before .before .before .before .pre .1 .0 .few)
 
 pub operation-requires : (t : ℕ) → bars-lts.Need-operation-requires (uses t) (bars-at t) bars.Post
 operation-requires t c κs = search needs
@@ -69,7 +65,7 @@ pub same-length-3 : (t : ℕ) → bars-lts.Need-same-length-3 (uses t) (bars-at 
 same-length-3 t c = search needs
 
 pub returns-3 : (t : ℕ) → bars-lts.Need-returns-3 (uses t) (bars-at t) bars.Post
-returns-3 t c = rw (c .operation .ensures, c .before .next .ensures) (bars-made (c .before .before .before .before .before .before .before .before .before .before .before .before .before .before .before .before .before .before .before .before .before .before .before .before .args .i) (c .before .before .before .before .before .before .before .before .before .before .before .before .before .before .before .before .before .before .before .before .before .before .before .before .args .stop) (omega (arith, c .before .before .before .before .before .before .before .before .before .before .before .before .before .before .before .before .before .before .before .before .before .before .before .before .pre .1 .1, c .before .before .before .before .before .before .before .before .before .before .before .before .before .before .before .before .before .before .before .before .before .before .before .before .pre .1 .0 .here)) (c .before .before .before .before .before .before .before .before .before .before .before .before .before .before .before .before .before .before .before .before .before .before .before .before .pre .1 .1) (c .before .before .before .before .before .before .before .before .before .before .before .before .before .before .before .before .before .before .before .before .before .before .before .before .pre .1 .0 .here) (c .before .before .before .before .before .before .before .before .before .before .before .before .before .before .before .before .before .before .before .before .before .before .before .before .pre .1 .0 .few) (c .before .before .before .before .before .before .before .before .before .before .before .before .before .before .before .before .before .before .before .before .before .before .before .before .pre .1 .0 .fit) (rw (c .before .before .before .before .before .before .before .before .before .before .before .before .before .before .before .before .before .before .before .before .open-mark .ensures) at (sym (c .before .before .before .before .before .before .before .before .before .before .before .before .before .before .before .before .before .before .failed-at .ensures) ∙ c .before .before .before .before .before .before .before .before .before .before .before .before .before .before .before .before .before .if1 .left)) (c .before .before .before .before .before .before .before .before .before .before .before .before .before .before .before .extend .ensures) (not-false _ (c .before .before .before .before .before .before .before .before .before .if2 .left)) (sym (c .before .before .before .before .before .before .before .bar-at .ensures) ∙ c .before .before .before .before .before .before .if3 .taken) (c .before .before .before .before .note-closer .ensures))
+returns-3 t c = rw (c .operation .ensures, c .before .next .ensures) (bars-made (c .before .before .before .before .before .before .before .before .before .before .before .before .before .before .before .before .before .before .before .before .before .before .args .i) (c .before .before .before .before .before .before .before .before .before .before .before .before .before .before .before .before .before .before .before .before .before .before .args .stop) (omega (arith, c .before .before .before .before .before .before .before .before .before .before .before .before .before .before .before .before .before .before .before .before .before .before .pre .1 .1, c .before .before .before .before .before .before .before .before .before .before .before .before .before .before .before .before .before .before .before .before .before .before .pre .1 .0 .here)) (c .before .before .before .before .before .before .before .before .before .before .before .before .before .before .before .before .before .before .before .before .before .before .pre .1 .1) (c .before .before .before .before .before .before .before .before .before .before .before .before .before .before .before .before .before .before .before .before .before .before .pre .1 .0 .here) (c .before .before .before .before .before .before .before .before .before .before .before .before .before .before .before .before .before .before .before .before .before .before .pre .1 .0 .few) (c .before .before .before .before .before .before .before .before .before .before .before .before .before .before .before .before .before .before .before .before .before .before .pre .1 .0 .fit) (rw (c .before .before .before .before .before .before .before .before .before .before .before .before .before .before .before .before .before .before .open-mark .ensures) at (sym (c .before .before .before .before .before .before .before .before .before .before .before .before .before .before .before .before .failed-at .ensures) ∙ c .before .before .before .before .before .before .before .before .before .before .before .before .before .before .before .if1 .left)) (c .before .before .before .before .before .before .before .before .before .before .before .before .before .extend .ensures) (not-false _ (c .before .before .before .before .before .before .before .if2 .left)) (sym (c .before .before .before .before .before .before .before .before .before .before .before .before .before .extend .ensures .met (not-false _ (c .before .before .before .before .before .before .before .if2 .left))) ∙ c .before .before .before .before .before .before .if3 .taken) (c .before .before .before .before .note-closer .ensures))
 
 pub cast-give-up : (t : ℕ) → bars-lts.Need-cast-give-up (uses t) (bars-at t) bars.Post
 cast-give-up t c = search needs
@@ -87,4 +83,4 @@ pub same-length-4 : (t : ℕ) → bars-lts.Need-same-length-4 (uses t) (bars-at 
 same-length-4 t c = search needs
 
 pub returns-4 : (t : ℕ) → bars-lts.Need-returns-4 (uses t) (bars-at t) bars.Post
-returns-4 t c = rw (c .leaf3 .ensures, c .before .rewind .ensures) (bars-lost (c .before .before .before .before .before .before .before .before .before .before .before .before .before .before .before .before .before .before .before .before .before .before .before .before .before .args .i) (c .before .before .before .before .before .before .before .before .before .before .before .before .before .before .before .before .before .before .before .before .before .before .before .before .before .args .stop) (omega (arith, c .before .before .before .before .before .before .before .before .before .before .before .before .before .before .before .before .before .before .before .before .before .before .before .before .before .pre .1 .1, c .before .before .before .before .before .before .before .before .before .before .before .before .before .before .before .before .before .before .before .before .before .before .before .before .before .pre .1 .0 .here)) (c .before .before .before .before .before .before .before .before .before .before .before .before .before .before .before .before .before .before .before .before .before .before .before .before .before .pre .1 .1) (c .before .before .before .before .before .before .before .before .before .before .before .before .before .before .before .before .before .before .before .before .before .before .before .before .before .pre .1 .0 .here) (c .before .before .before .before .before .before .before .before .before .before .before .before .before .before .before .before .before .before .before .before .before .before .before .before .before .pre .1 .0 .few) (c .before .before .before .before .before .before .before .before .before .before .before .before .before .before .before .before .before .before .before .before .before .before .before .before .before .pre .1 .0 .fit) (rw (c .before .before .before .before .before .before .before .before .before .before .before .before .before .before .before .before .before .before .before .before .before .open-mark .ensures) at (sym (c .before .before .before .before .before .before .before .before .before .before .before .before .before .before .before .before .before .before .before .failed-at .ensures) ∙ c .before .before .before .before .before .before .before .before .before .before .before .before .before .before .before .before .before .before .if1 .left)) (c .before .before .before .before .before .before .before .before .before .before .before .before .before .before .before .before .extend .ensures) (not-false _ (c .before .before .before .before .before .before .before .before .before .before .if2 .left)) (sym (c .before .before .before .before .before .before .before .before .bar-at .ensures) ∙ c .before .before .before .before .before .before .before .if3 .left) (rw (c .before .before .before .before .before .before .before .before .before .before .before .before .before .before .before .before .before .before .before .before .before .open-mark .ensures) at (c .before .before .before .before .before .give-up .ensures)))
+returns-4 t c = rw (c .leaf3 .ensures, c .before .rewind .ensures) (bars-lost (c .before .before .before .before .before .before .before .before .before .before .before .before .before .before .before .before .before .before .before .before .before .before .before .args .i) (c .before .before .before .before .before .before .before .before .before .before .before .before .before .before .before .before .before .before .before .before .before .before .before .args .stop) (omega (arith, c .before .before .before .before .before .before .before .before .before .before .before .before .before .before .before .before .before .before .before .before .before .before .before .pre .1 .1, c .before .before .before .before .before .before .before .before .before .before .before .before .before .before .before .before .before .before .before .before .before .before .before .pre .1 .0 .here)) (c .before .before .before .before .before .before .before .before .before .before .before .before .before .before .before .before .before .before .before .before .before .before .before .pre .1 .1) (c .before .before .before .before .before .before .before .before .before .before .before .before .before .before .before .before .before .before .before .before .before .before .before .pre .1 .0 .here) (c .before .before .before .before .before .before .before .before .before .before .before .before .before .before .before .before .before .before .before .before .before .before .before .pre .1 .0 .few) (c .before .before .before .before .before .before .before .before .before .before .before .before .before .before .before .before .before .before .before .before .before .before .before .pre .1 .0 .fit) (rw (c .before .before .before .before .before .before .before .before .before .before .before .before .before .before .before .before .before .before .before .open-mark .ensures) at (sym (c .before .before .before .before .before .before .before .before .before .before .before .before .before .before .before .before .before .failed-at .ensures) ∙ c .before .before .before .before .before .before .before .before .before .before .before .before .before .before .before .before .if1 .left)) (c .before .before .before .before .before .before .before .before .before .before .before .before .before .before .extend .ensures) (not-false _ (c .before .before .before .before .before .before .before .before .if2 .left)) (sym (c .before .before .before .before .before .before .before .before .before .before .before .before .before .before .extend .ensures .met (not-false _ (c .before .before .before .before .before .before .before .before .if2 .left))) ∙ c .before .before .before .before .before .before .before .if3 .left) (rw (c .before .before .before .before .before .before .before .before .before .before .before .before .before .before .before .before .before .before .before .open-mark .ensures) at (c .before .before .before .before .before .give-up .ensures)))
