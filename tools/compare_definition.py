@@ -4,7 +4,7 @@
     compare_definition.py ORACLE [--lists N] [--texts N] [--seed S] [--keep DIR]
 
 ORACLE is the program that tools/oracle/build.sh makes. Random token lists (all kinds, arbitrary spans) and random texts are read by
-the Rust; tree and takes of each are written as a table in a crate of a temporary repository, and `rt check` computes that the
+the Rust; tree, takes and closers of each are written as tables in a crate of a temporary repository, and `rt check` computes that the
 definition gives the same. Not part of the gate: some hundreds of short lists take minutes.
 """
 import argparse
@@ -115,14 +115,15 @@ def main():
 
     def ask(mode, lines):
         out = subprocess.run([opts.oracle, mode], input="\n".join(lines) + "\n", capture_output=True, text=True, check=True).stdout
-        return out.split("\n--\n")[:-1] if mode != "tokens" else out.split("\n")[:-1]
+        return out.split("\n--\n" if mode in ("tree", "list") else "\n")[:-1]
 
     cases = []
-    for text, answer, toks in zip(texts, ask("tree", [t.encode().hex() for t in texts]), ask("tokens", [t.encode().hex() for t in texts])):
-        cases.append((text, None, [tuple(map(int, t.split(","))) for t in toks.split()], answer))
+    shown = [t.encode().hex() for t in texts]
+    for text, answer, closers, toks in zip(texts, ask("tree", shown), ask("closers", shown), ask("tokens", shown)):
+        cases.append((text, None, [tuple(map(int, t.split(","))) for t in toks.split()], answer, closers))
     shown = [t.encode().hex() + "".join(" %d,%d,%d" % x for x in l) for t, l in lists]
-    for (text, toks), answer in zip(lists, ask("list", shown)):
-        cases.append((text, toks, toks, answer))
+    for (text, toks), answer, closers in zip(lists, ask("list", shown), ask("list_closers", shown)):
+        cases.append((text, toks, toks, answer, closers))
 
     repo = opts.keep or tempfile.mkdtemp()
     os.makedirs(repo, exist_ok=True)
@@ -143,24 +144,28 @@ def main():
     words = starred.split("starred-strings :")[1].split("unfolding")[1].split("starred-strings =")[0].split()
     opened = " ".join(w for w in words if w not in ("read", "said", "starred"))
     uses = "\n".join(l for l in starred.split("\n") if l.startswith("use ") and "the-variants.{" not in l)
-    uses = uses.replace("Rattle.reading.specs.", "Rattle.reading.specs.").replace("readText,", "readText, readTokens,")
+    uses = uses.replace("Rattle.reading.specs.", "Rattle.reading.specs.").replace("readText,", "readText, readTokens, closersOf,")
     mods = []
     for n in range(0, len(cases), PER_TABLE):
         name = f"Cases{n // PER_TABLE}"
         mods.append(f"pub mod {name}\n")
-        left, right = [], []
-        for text, toks, real, answer in cases[n:n + PER_TABLE]:
+        left, right, pairs, places = [], [], [], []
+        for text, toks, real, answer, closers in cases[n:n + PER_TABLE]:
             lines = answer.split("\n")
             first = dict(f.split("=") for f in lines[0].split())
             data = "".join(f"{b} ∷ " for b in text.encode()) + "[]"
             lex = "".join(f"lexeme {s} {l} {token(k)} ∷ " for s, l, k in real) + "[]"
             left.append(f"readTokens ({data}) ({lex})" if toks is not None else f"readText ({data})")
             right.append(f"record {{ tree = {tree_term(lines[1:])}; takes = {first['takes']} }}")
+            pairs.append(f"closersOf ({data}) ({lex})")
+            places.append("(" + "".join(f"{place} ∷ " for place in closers.split()) + "[])")
         with open(os.path.join(base, "specs", name + ".antt"), "w", encoding="utf-8") as f:
             f.write(uses + "\nuse Rattle.tokens.specs.declared.token.Token.the-variants as token\n")
             f.write("\nabbrev at : ℕ → ℕ → Span\nat s n = record { start = s; len = n }\n\n")
             f.write("cases : _≡_ {A = List Reading}\n    (" + " ∷\n    ".join(left) + " ∷ [])\n    (")
-            f.write(" ∷\n    ".join(right) + " ∷ [])\nunfolding " + opened + "\ncases = refl\n")
+            f.write(" ∷\n    ".join(right) + " ∷ [])\nunfolding " + opened + "\ncases = refl\n\n")
+            f.write("closers : _≡_ {A = List (List ℕ)}\n    (" + " ∷\n    ".join(pairs) + " ∷ [])\n    (")
+            f.write(" ∷\n    ".join(places) + " ∷ [])\nunfolding closersOf " + opened + "\nclosers = refl\n")
     with open(os.path.join(base, "specs", "Lib.antt"), "w") as f:
         f.write("".join(mods))
     ran = subprocess.run(["rt", "check", "compare"], cwd=repo, capture_output=True, text=True)

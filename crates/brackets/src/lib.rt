@@ -66,8 +66,8 @@ pub fn could_be_matrix(text: &[u8], tok: &[u32], work: &[u32], n: usize, i: usiz
 fn is_set(text: &[u8], tok: &[u32], work: &[u32], left: usize, p: usize) -> bool
     ensures { λ r. ⌜ r ≡ setAt (now (text .entry)) (now (tok .entry)) (now (work .entry)) left p ⌝ }
 {
-    if is_byte(text, tok, work, left, 40) {
-        is_byte(text, tok, work, p, 125)
+    if is_byte(text, tok, work, left, b'(') {
+        is_byte(text, tok, work, p, b'}')
     } else {
         false
     }

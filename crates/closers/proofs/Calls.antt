@@ -1,6 +1,7 @@
--- The calls: the records of an accepted list and what the pass leaves in them; and the tests in the order of the refusals.
+-- The calls: what the pass over an accepted list leaves; and the tests in the order of the refusals.
 use Prim.Native.Nat.{ℕ, zero, suc, _+_, _-_, _*_, _≤_, _<_}
-use mathlib.Core.Path.{_≡_, refl, sym, ap, _∙_, subst}
+use mathlib.Core.Path.{_≡_, refl, sym, ap, _∙_}
+use mathlib.Core.Bool.{true}
 use mathlib.Core.List.{List, [], _∷_, _++_}
 use mathlib.Core.Option.{none, some}
 use native.Mathlib.Omega.{arith}
@@ -9,29 +10,25 @@ use lib.Seq.{ext-getD}
 use borrow.Author.Tests.{lt-ltb, le-ltb}
 use Rattle.tokens.specs.Table.{tableWords, tokenList, countOthers}
 use Rattle.tokens.specs.Refusals.{Answer, accepted, refused, textRefusal, listRefusal}
-use Rattle.tokens.proofs.Accepted as lists
 use Rattle.tokens.proofs.Cases.{apart}
-use Rattle.tokens.proofs.TokenList.{others-few}
 use Rattle.lexing.specs.Rules.{tokens}
+use Rattle.tree.specs.Tree.{nowhere}
 use Rattle.reading.specs.Reading.{closersOf}
+use Rattle.bounds.proofs.Theorems.{entries-count}
+use Rattle.closers_laws.proofs.Nested.{nested}
 use Rattle.records.specs.Record.{recordWords}
 use Rattle.tokenizer.specs.declared.TokenizedUnder.{TokenizedUnder}
 use Rattle.tokenizer.specs.declared.TokenizedUnder.the-variants as under
 use Rattle.tokenizer.specs.Call.{tokenizedUnder}
 use Rattle.tokenizer.proofs.Under as listed
 use Rattle.tokenizer.proofs.Under.{by-answer}
-use Rattle.entries.specs.declared.Prepared.{Prepared}
-use Rattle.entries.specs.declared.Prepared.the-variants as records
-use Rattle.entries.specs.Prepared.{workWords, prepared}
-use Rattle.entries.proofs.Accepted as made
-use Rattle.reading_words.specs.Meet.{Given}
-use Rattle.reading_words.proofs.Records as recorded
-use Rattle.reading_words.proofs.Records.{inputOf}
 use Rattle.closers_notes.specs.Notes.{closerWords, withClosers}
 use Rattle.closers_notes.proofs.Notes.{length-words, word-is, room-enough}
-use Rattle.closers_pass.proofs.Records.{blank-records}
-use Rattle.closers_pass.specs.Meet.{Noted, Closed}
-use Rattle.closers_pass.specs.Top.{Blank, PairedAny}
+use Rattle.closers_pass.specs.declared.top.Pass.{Pass}
+use Rattle.closers_pass.specs.declared.top.Pass.the-variants as pass
+use Rattle.closers_pass.specs.Meet.{Noted}
+use Rattle.closers_pass.specs.Call.{pairedList}
+use Rattle.closers_pass.proofs.Answers as passed
 use Rattle.closers.specs.Call.{outRefusal, tokensRefusal, textRefusalOf, closersAfter, closedTokens, closedText}
 
 -- a number of a list, whatever stands for none
@@ -41,48 +38,42 @@ getD-in (x ∷ c) zero a b h = refl
 getD-in (x ∷ c) (suc i) a b h = getD-in c i a b (omega arith)
 
 -- the words of the closers noted in the records are those closers
-words-are : {n p : ℕ} {L c : List ℕ} → Noted n L c → Closed n p c → closerWords L n 0 n ≡ c
-words-are {n} {p} {L} {c} w k =
-    ext-getD 0 (closerWords L n 0 n) c (length-words L n 0 n ∙ sym (k .size))
+words-are : {n : ℕ} {L c : List ℕ} → Noted n L c → length c ≡ n → ((i : ℕ) → getD c i n ≤ n) → closerWords L n 0 n ≡ c
+words-are {n} {L} {c} w size most =
+    ext-getD 0 (closerWords L n 0 n) c (length-words L n 0 n ∙ sym size)
     (λ j l.
     let h : j < n = omega (arith, length-words L n 0 n) in
     let z : 0 + j ≡ j = omega arith in
-    let v : n - (n - getD c j n) ≡ getD c j n = omega (arith, k .few j) in
-    rw z at (word-is L n 0 n j h) ∙ ap (λ (m : ℕ). n - m) (w .words j h) ∙ v ∙ getD-in c j n 0 (omega (arith, k .size)))
+    let v : n - (n - getD c j n) ≡ getD c j n = omega (arith, most j) in
+    rw z at (word-is L n 0 n j h) ∙ ap (λ (m : ℕ). n - m) (w .words j h) ∙ v ∙ getD-in c j n 0 (omega (arith, size)))
 
--- a list has no more than 4,096 tokens other than Space
-module _ (text table : List ℕ) (count : ℕ) (ok : listRefusal text count table ≡ none) where
-  pub few-others : countOthers (tokenList count table) ≤ 4096
-  few-others = let a = lists.accepted text count table ok in omega (arith, a .few, others-few count table)
+-- what the pass over an accepted list answers, if it is asked for
+module _ (text table : List ℕ) (count : ℕ) (ok : listRefusal text count table ≡ none) (work : List ℕ)
+    (room : recordWords (countOthers (tokenList count table) + 1) ≤ length work)
+    (r : Pass) (L : List ℕ) (c : (r, L) ≡ pairedList text table count true work) where
+  pub not-refused : {A : Type 0} (k : ℕ) → r ≡ pass.Refused k → A
+  not-refused = passed.not-refused text table count ok work room true r L c
 
-  module _ (work : List ℕ) (room : recordWords (countOthers (tokenList count table) + 1) ≤ length work)
-      (r : Prepared) (K : List ℕ) (c : (r, K) ≡ prepared table count work) where
-    words : K ≡ workWords (tokenList count table) ++ drop (recordWords (countOthers (tokenList count table))) work
-    words = made.words text table count work ok room r K c
+  pub not-plain : {A : Type 0} (m : ℕ) → r ≡ pass.Plain m → A
+  not-plain m = passed.not-plain text table count ok work room true r L c m refl
 
-    pub not-refused : {A : Type 0} (k : ℕ) → r ≡ records.Refused k → A
-    not-refused = made.not-refused text table count work ok room r K c
+  module _ (n takes : ℕ) (q : r ≡ pass.Read n takes) where
+    n-is : n ≡ countOthers (tokenList count table)
+    n-is = passed.read-is text table count ok work room true r L c n takes q .0
 
-    given : Given text table (countOthers (tokenList count table)) K (inputOf text (tokenList count table))
-    given = recorded.given text table count ok K _ words
+    pub few-entries : n ≤ 4096
+    few-entries = omega (arith, n-is, passed.few text table count ok)
 
-    blank : Blank (countOthers (tokenList count table)) K
-    blank = blank-records text table count ok K _ words
-
-    module _ (n : ℕ) (q : r ≡ records.Entries n) where
-      pub n-is : n ≡ countOthers (tokenList count table)
-      n-is = made.number text table count work ok room r K c n q
-
-      -- the pass over the records, and its closers written
-      pub list-closers : (L : List ℕ) (takes : ℕ) → PairedAny text table n K L takes → length K ≡ length work → (x : List ℕ) → countOthers (tokenList count table) ≤ length x
-          → withClosers L n x ≡ closersAfter text (tokenList count table) x
-      unfolding closersAfter closersOf
-      list-closers L takes p l x h =
-          let p2 = subst (λ (m : ℕ). PairedAny text table m K L takes) n-is p in
-          let e = p2 .paired few-others (omega (arith, l)) .means (inputOf text (tokenList count table)) given blank in
-          rw n-is
-          (sym (room-enough L (countOthers (tokenList count table)) x h)
-          ∙ ap (λ (w : List ℕ). w ++ drop (countOthers (tokenList count table)) x) (words-are (e .noted) (e .closed)))
+    -- its closers, written
+    pub list-closed-words : (x : List ℕ) → countOthers (tokenList count table) ≤ length x → withClosers L n x ≡ closersAfter text (tokenList count table) x
+    unfolding closersAfter closersOf
+    list-closed-words x h =
+        let e = nested text (tokenList count table) in
+        let z = entries-count nowhere (tokenList count table) in
+        rw (n-is, passed.read-is text table count ok work room true r L c n takes q .2)
+        (sym (room-enough _ (countOthers (tokenList count table)) x h)
+        ∙ ap (λ (w : List ℕ). w ++ drop (countOthers (tokenList count table)) x)
+        (words-are (passed.read-closers text table count ok work room) (e .0 ∙ z) (rw z at (e .1))))
 
 -- the lent buffer
 few-words : {n m : ℕ} → m < n → outRefusal n m ≡ some 8

@@ -59,7 +59,7 @@ module _ (text : List ℕ) (ts : List Lexeme) (out : List ℕ) where
   answered =
       record { whole = ap (λ (m : ℕ). take m (c ++ drop n out)) (sym size) ∙ take-front c (drop n out); matched = matched }
 
--- "given-back attempts aside": whenever the call on a list accepts
+-- whenever the call on a list accepts
 pub tokens-answered : (text table : List ℕ) (count : ℕ) (out v y : List ℕ) → closedTokens text table count out ≡ (accepted v, y)
     → (v ≡ countOthers (tokenList count table) ∷ []) × Answered text (tokenList count table) y
 tokens-answered text table count out v y h =

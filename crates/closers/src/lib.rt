@@ -1,8 +1,7 @@
 // The bracket pass as calls: for each token other than Space the place of its closer, of a token list and of a text.
 use closers_notes::put_closers;
-use closers_pass::top::pair_entries;
-use entries::Prepared;
-use entries::prepare;
+use closers_pass::top::Pass;
+use closers_pass::top::pair_list;
 use lists::Checked;
 use lists::check_list;
 use tokenizer::TokenizedUnder;
@@ -31,32 +30,37 @@ pub enum PairedText {
     Refused(u8),
 }
 
+// Work words for a short list, of 128 tokens other than Space at most, and for any: 2 × (n + 1).
+const SMALL: usize = 128;
+
+const SMALL_WORK: usize = 258;
+
+const WORK: usize = 8194;
+
 // The closers of an accepted list, with these work words.
-fn pair_list(text: &[u8], table: &[u32], count: usize, work: &mut [u32], out: &mut [u32])
+fn list_closers(text: &[u8], table: &[u32], count: usize, work: &mut [u32], out: &mut [u32])
     requires { ⌜ listRefusal (now text) count (now table) ≡ none ⌝ }
     requires { ⌜ recordWords (countOthers (tokenList count (now table)) + 1) ≤ length (now work) ⌝ }
     requires { ⌜ countOthers (tokenList count (now table)) ≤ length (now out) ⌝ }
     ensures { λ _. ⌜ now (out .exit) ≡ closersAfter (now (text .entry)) (tokenList count (now (table .entry))) (now (out .entry)) ⌝ }
 {
-    match prepare(table, count, work) {
-        // never: the list is accepted, and has its words
-        Prepared::Refused(_) => {}
-        Prepared::Entries(n) => {
-            pair_entries(text, table, n, work);
-            put_closers(work, n as u32, out);
-        }
+    match pair_list(text, table, count, true, work) {
+        Pass::Read { entries, takes: _ } => put_closers(work, entries as u32, out),
+        // never: the list is accepted and has its words, and the pass is asked for
+        Pass::Plain(_) => {}
+        Pass::Refused(_) => {}
     }
 }
 
-// The same for 128 tokens other than Space at most, so that a short answer clears little.
+// The same for a short list, so that it clears little.
 fn pair_small(text: &[u8], table: &[u32], count: usize, out: &mut [u32])
     requires { ⌜ listRefusal (now text) count (now table) ≡ none ⌝ }
     requires { ⌜ countOthers (tokenList count (now table)) ≤ 128 ⌝ }
     requires { ⌜ countOthers (tokenList count (now table)) ≤ length (now out) ⌝ }
     ensures { λ _. ⌜ now (out .exit) ≡ closersAfter (now (text .entry)) (tokenList count (now (table .entry))) (now (out .entry)) ⌝ }
 {
-    let mut work = [0u32; 258];
-    pair_list(text, table, count, &mut work, out);
+    let mut work = [0u32; SMALL_WORK];
+    list_closers(text, table, count, &mut work, out);
 }
 
 // The same for any.
@@ -65,12 +69,9 @@ fn pair_large(text: &[u8], table: &[u32], count: usize, out: &mut [u32])
     requires { ⌜ countOthers (tokenList count (now table)) ≤ length (now out) ⌝ }
     ensures { λ _. ⌜ now (out .exit) ≡ closersAfter (now (text .entry)) (tokenList count (now (table .entry))) (now (out .entry)) ⌝ }
 {
-    let mut work = [0u32; 8194];
-    pair_list(text, table, count, &mut work, out);
+    let mut work = [0u32; WORK];
+    list_closers(text, table, count, &mut work, out);
 }
-
-// Up to so many tokens other than Space, the work words of `pair_small` are enough.
-const SMALL: usize = 128;
 
 fn pair_sized(text: &[u8], table: &[u32], count: usize, others: usize, out: &mut [u32])
     requires { ⌜ listRefusal (now text) count (now table) ≡ none ⌝ }

@@ -1,5 +1,5 @@
--- A reading that is run again from the marks that it left gives the same tree at the same place, and sets no mark: no attempt is
--- given back. At any depth, for any number of entries.
+-- The whole reading, run again from the marks that it left, gives the same tree and sets no mark: no attempt is given back. For any
+-- number of entries.
 use Prim.Native.Nat.{ℕ, zero, suc, _*_, _-_, _≤_, _<_}
 use mathlib.Core.Path.{_≡_, refl, sym, ap, _∙_, subst}
 use mathlib.Core.List.{List, [], _∷_}
@@ -588,6 +588,11 @@ module _ (text : List ℕ) (es : List Entry) where
   blank-long : (n : ℕ) → length (replicate n false) ≡ n
   blank-long zero = refl
   blank-long (suc n) = ap suc (blank-long n)
+
+  -- The whole reading keeps three marks for each entry.
+  pub marks-long : length (parseEntries text es true .1 .marks) ≡ 3 * length es
+  unfolding parseEntries
+  marks-long = parse-plays (suc (length es)) 256 end .run (start text es true) (blank-long (3 * length es)) .long
 
   -- The reading from the marks that the reading leaves, whatever its takes and closers: the same tree, and no mark is new.
   pub replay : (t : State) → t .pos ≡ 0 → t .marks ≡ parseEntries text es true .1 .marks →

@@ -8,7 +8,7 @@ ghost use Prim.Native.Nat.{_-_};
 ghost use Rattle.records.specs.Record.{closerOf, withCloser};
 ghost use Rattle.closers_notes.specs.Notes.{cleared, gaveUp, withClosers};
 
-// How far before the end no closer stands.
+// What is noted for no closer.
 const NONE: u32 = 0;
 
 // Of n entries, the one at k is the closer of the one at i.
@@ -16,7 +16,7 @@ pub fn note_closer(work: &mut [u32], i: usize, n: usize, k: usize)
     ensures { λ _. ⌜ now (work .exit) ≡ withCloser (now (work .entry)) i (n - k) ⌝ }
 {
     if k < n {
-        // as many bits as a closer has: all of them, for 4,096 entries
+        // cut to the bits of a closer; up to 4,096 entries nothing is lost
         set_closer(work, i, ((n - k) % (CLOSER_SIZE as usize)) as u32);
     } else {
         set_closer(work, i, NONE);

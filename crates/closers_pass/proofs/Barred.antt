@@ -1,24 +1,23 @@
 -- Brackets: the attempts at a matrix and at a bar's group, and what gives them back.
-use Prim.Native.Nat.{ℕ, zero, suc, _+_, _-_, _≤_, _<_}
+use Prim.Native.Nat.{ℕ, suc, _-_, _≤_, _<_}
 use mathlib.Core.Path.{_≡_, refl, sym, ap, _∙_, subst}
 use mathlib.Core.List.{List, [], _∷_}
 use mathlib.Core.Option.{Option, none, some}
-use mathlib.Core.Bool.{Bool, true, false, not, _&&_, _||_, cond}
+use mathlib.Core.Bool.{Bool, true, false, _&&_, _||_, cond}
 use native.Mathlib.Omega.{arith}
-use lib.ListN.{length, getD, getElem?, set, drop}
+use lib.ListN.{length, getD, getElem?, set}
 use lib.Dec.{eqb, ltb}
-use borrow.Author.Tests.{ltb-true, ltb-false, eqb-true, eq-eqb, ne-eqb}
+use borrow.Author.Tests.{eqb-true, eq-eqb, ne-eqb}
 use Rattle.tokens.specs.declared.token.Token.the-variants as token
 use Rattle.tokens.specs.Lexeme.{Span}
 use Rattle.tree.specs.Tree.{nowhere, Head, Node, node, Nodes, end, _▸_, count}
-use Rattle.reading.specs.Entries.{Entry, is, hasSep}
-use Rattle.reading.specs.Reading.{State, made, lost, nought, if_then_else_, here, closed, any, openMark, matrixMark, slot, isAt, isBar, isByte, closeOf, closes, couldBeMatrix, makesMatrix, matrixBody, tryMatrix, barBody, nextOpenGroup, nextOpenCloseGroup, nextBracket, glyphOf, endsOperand, look, atomEnds, isBarSymbol, prefixes, Row, Rows, splitColumnLines, lineCols, lineCells, keptCols}
+use Rattle.reading.specs.Entries.{Entry, is}
+use Rattle.reading.specs.Reading.{State, made, lost, nought, if_then_else_, here, closed, any, openMark, matrixMark, slot, isAt, isBar, closes, makesMatrix, matrixBody, tryMatrix, barBody, nextOpenGroup, nextOpenCloseGroup, nextBracket, glyphOf, endsOperand, look, atomEnds, isBarSymbol, prefixes, Row, Rows, splitColumnLines, lineCols, lineCells, keptCols}
 use Rattle.closers_laws.proofs.Nested.{Fit, Pairing, level-good, intermediates-pairs, nextIntermediate-pairs, nextMatrixRows-pairs}
 use Rattle.closers_laws.proofs.OneCell.{single, many}
 use Rattle.lookahead.specs.Tests.{testAt, isKind}
 use Rattle.lookahead.proofs.Testing.{test-below}
-use Rattle.spans.specs.Spans.{byteAt}
-use Rattle.brackets.specs.Brackets.{barAt, closesAt, couldBeMatrixAt, setAt, makesAt}
+use Rattle.brackets.specs.Brackets.{barAt, couldBeMatrixAt, setAt, makesAt}
 use Rattle.marks.specs.Marks.{isMarked}
 use Rattle.marks.specs.Marks as entry
 use Rattle.leaves.specs.Leaves.{leafEnds, leafBar}
@@ -28,104 +27,21 @@ use Rattle.closers_pass.specs.declared.cursor.Items.{Items}
 use Rattle.closers_pass.specs.declared.cursor.Tried.{Tried}
 use Rattle.closers_pass.specs.declared.cursor.Rows as rows
 use Rattle.rows.specs.Rows.{cellsLeft}
-use Rattle.records.specs.Record.{recordWords, withCloser, marksOf, kindOf, afterClose, sepOf}
-use Rattle.tokens.specs.Refusals.{bit}
+use Rattle.records.specs.Record.{recordWords, withCloser, marksOf}
 use Rattle.closers_notes.specs.Notes.{gaveUp}
 use Rattle.closers_notes.proofs.Notes.{cleared-kept}
-use Rattle.reading_words.specs.Meet.{Input, linkNumber, Given, readers, stopOf, intermediateAt, itemsAt, itemsFrom}
+use Rattle.reading_words.specs.Meet.{Input, Given, readers, stopOf, intermediateAt, itemsAt, itemsFrom}
 use Rattle.closers_pass.specs.Meet.{At, Moves, Gives, isSome, isMore, Grouped, Bracketed, Intermediates, OpenGroup, Bracket, TryMatrix, Bars, onward, seen, rewound, operationAt}
 use Rattle.closers_pass.specs.Matrix.{Counts, Behind, MatrixRows, rowsAt}
 use Rattle.stores.proofs.Stores.{kept-refl, kept-trans, marks-kept, closer-kept}
-use Rattle.reading_words.proofs.Kit.{shut, ret-closed, bind, ret, at-here, if-true, if-false, tick, row-of, advance-took, test-kind, same-is, past, at-some, at-none}
+use Rattle.reading_words.proofs.Kit.{shut, ret-closed, bind, ret, at-here, if-true, if-false, tick, row-of, advance-took, same-is}
 use Rattle.closers_pass.proofs.Kit.{at-tick, took, passed, at-shut, at-lost}
 use Rattle.reading_words.proofs.Attempts.{markNumber, mark-is, attempt-known, attempt-made, attempt-lost, attempt-nought}
 use Rattle.closers_pass.proofs.Simple.{got, lack, runs-as}
 use Rattle.closers_pass.proofs.Loop.{whole-items}
 use Rattle.closers_pass.proofs.Cells.{took-any}
-use Rattle.reading_words.proofs.Steps.{More, bar-below, bar-body, bar-is, barEnd, byte-at, is-at-is, linked-to, makes-below, matrix-runs, number-open}
-
-module _ {X t : List ℕ} {n : ℕ} {K : List ℕ} {I : Input} (g : Given X t n K I) {i : ℕ} {o : Entry} (inside : i < n) (there : getElem? (I .es) i ≡ some o) where
-  pub closes-is : (j : ℕ) → closes (I .text) (I .es) o i j ≡ closesAt X t K n i j
-  unfolding closes closesAt
-  closes-is j =
-      let r = row-of g inside there in
-      let ob : is token.OpenBracket o ≡ eqb (kindOf t K i) 20 = same-is token.OpenBracket o ∙ ap (λ (w : ℕ). eqb w 20) (sym (r .kind)) in
-      go (eqb (kindOf t K i) 20) refl ob
-    where
-      go : (b : Bool) → eqb (kindOf t K i) 20 ≡ b → is token.OpenBracket o ≡ b → closes (I .text) (I .es) o i j ≡ cond b (eqb (afterClose K i) (j + 1)) (barAt X t K n i j)
-      go true e h = rw (closes, h) (linked-to j (closeOf (I .text) (I .es) i)) ∙ ap (λ (w : ℕ). eqb w (j + 1)) (sym (g .linked i inside (eqb-true (kindOf t K i) 20 e) .close))
-      go false e h = rw (closes, h) (bar-is i j o g inside there)
-
-  gate-row : (c : Option ℕ) (w : ℕ) → w ≡ linkNumber c
-      → elim c as (λ _. Bool) [
-        | none ↦ false
-        | some c ↦ elim (isAt (I .text) (I .es) (is token.Sep) (suc c)) as (λ _. Bool) [
-          | true ↦ true
-          | false ↦ closes (I .text) (I .es) o i (suc c) && hasSep zero (drop (suc (suc i)) (I .es))
-        ]
-      ] ≡ cond (eqb w 0) false (cond (testAt t K n (isKind 3) w) true (cond (closesAt X t K n i w) (hasSep zero (drop (suc (suc i)) (I .es))) false))
-  gate-row none w h = rw h
-  gate-row (some c) w h =
-      let z : eqb w 0 ≡ false = ne-eqb w 0 (λ q. omega arith) in
-      let H = hasSep zero (drop (suc (suc i)) (I .es)) in
-      let C = closes (I .text) (I .es) o i (suc c) in
-      two (isAt (I .text) (I .es) (is token.Sep) (suc c)) C H
-      ∙ ap (λ (b : Bool). cond b true (cond C H false)) (is-at-is token.Sep (suc c) g)
-      ∙ ap (λ (b : Bool). cond (testAt t K n (isKind 3) (suc c)) true (cond b H false)) (closes-is (suc c))
-      ∙ ap (λ (j : ℕ). cond (testAt t K n (isKind 3) j) true (cond (closesAt X t K n i j) H false)) (sym h)
-      ∙ sym (ap (λ (b : Bool). cond b false (cond (testAt t K n (isKind 3) w) true (cond (closesAt X t K n i w) H false))) z)
-    where
-      two : (a b c : Bool) → elim a as (λ _. Bool) [ true ↦ true | false ↦ b && c ] ≡ cond a true (cond b c false)
-      two true b c = refl
-      two false true c = refl
-      two false false c = refl
-
-  bit-is : (b : Bool) → eqb (bit b) 1 ≡ b
-  bit-is true = refl
-  bit-is false = refl
-
-  pub gate-is : couldBeMatrix (I .text) (I .es) o i ≡ couldBeMatrixAt X t K n i
-  unfolding couldBeMatrix couldBeMatrixAt
-  gate-is =
-      let z : i + 1 ≡ suc i = omega arith in
-      rw (couldBeMatrix, z, is-at-is token.OpenBracket (suc i) g) (go (testAt t K n (isKind 20) (suc i)) refl)
-    where
-      go : (b : Bool) → testAt t K n (isKind 20) (suc i) ≡ b → elim b as (λ _. Bool) [
-        | false ↦ false
-        | true ↦ elim (closeOf (I .text) (I .es) (suc i)) as (λ _. Bool) [
-          | none ↦ false
-          | some c ↦ elim (isAt (I .text) (I .es) (is token.Sep) (suc c)) as (λ _. Bool) [
-            | true ↦ true
-            | false ↦ closes (I .text) (I .es) o i (suc c) && hasSep zero (drop (suc (suc i)) (I .es))
-          ]
-        ]
-      ] ≡ cond b (cond (eqb (afterClose K (suc i)) 0) false (cond (testAt t K n (isKind 3) (afterClose K (suc i))) true (cond (closesAt X t K n i (afterClose K (suc i))) (eqb (sepOf K (suc i)) 1) false))) false
-      go false e = refl
-      go true e =
-          let h : suc i < n = test-below t K n (isKind 20) (suc i) e in
-          let l = g .linked (suc i) h (eqb-true (kindOf t K (suc i)) 20 (test-kind t K n (isKind 20) (suc i) true h e)) in
-          rw (l .sep, bit-is (hasSep zero (drop (suc (suc i)) (I .es)))) (gate-row (closeOf (I .text) (I .es) (suc i)) (afterClose K (suc i)) (l .close))
-
-  pub makes-is : {l : ℕ} (k : ℕ) (r : Rows) (p : ℕ) → l < n → getElem? (I .es) l ≡ some (r .head .left) → ltb 1 ((splitColumnLines (I .text) (I .es) r) .1) ≡ ltb 1 k
-      → makesMatrix (I .text) (I .es) o i r p ≡ makesAt X t K n i l k p
-  unfolding makesMatrix makesAt setAt
-  makes-is {l} k r p hl tl hk = rw (closes-is p, hk) (go (ltb p n) refl)
-    where
-      both : (a b : Bool) → (a && b) ≡ cond a b false
-      both true b = refl
-      both false b = refl
-
-      last : (a b c : Bool) → (not (a && b) && (ltb 1 k && c)) ≡ cond (cond a b false) false (cond (ltb 1 k) c false)
-      last true true c = refl
-      last true false c = both (ltb 1 k) c
-      last false b c = both (ltb 1 k) c
-
-      go : (b : Bool) → ltb p n ≡ b → (isAt (I .text) (I .es) (λ e. not (isByte (I .text) (I .es) 40 (r .head .left .span) && isByte (I .text) (I .es) 125 (e .span))) p && (ltb 1 k && closesAt X t K n i p)) ≡ cond b (cond (setAt X t K l p) false (cond (ltb 1 k) (closesAt X t K n i p) false)) false
-      go true e =
-          let q = g .stands p (ltb-true p n e) in
-          rw (at-some (I .text) (I .es) (λ e. not (isByte (I .text) (I .es) 40 (r .head .left .span) && isByte (I .text) (I .es) 125 (e .span))) p (q .entry) (q .there), byte-at (I .text) (I .es) 40 (r .head .left) (g .text) (row-of g hl tl), byte-at (I .text) (I .es) 125 (q .entry) (g .text) (q .row))
-          (last (byteAt X t K l 40) (byteAt X t K p 125) (closesAt X t K n i p))
-      go false e = rw (at-none (I .text) (I .es) (λ e. not (isByte (I .text) (I .es) 40 (r .head .left .span) && isByte (I .text) (I .es) 125 (e .span))) p (past (I .es) p (omega (arith, ltb-false p n e, g .size))))
+use Rattle.reading_words.proofs.Steps.{More, bar-below, bar-body, bar-is, barEnd, byte-at, matrix-runs, number-open}
+use Rattle.reading_words.proofs.Matrices.{gate-is, makes-below, makes-is}
 
 -- the bar's own word says whether it has failed
 open-known : {X t : List ℕ} {n : ℕ} {K : List ℕ} {p u : ℕ} {I : Input} {s : State} (i : ℕ) (stop b : Bool) → At X t n K p u I s → i < n → isMarked (marksOf K i) (entry.openMark stop) ≡ b → getD (s .marks) (slot (openMark (stopOf stop)) i) false ≡ b

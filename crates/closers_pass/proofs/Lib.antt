@@ -8,3 +8,7 @@ pub mod Rows
 pub mod Barred
 pub mod Tops
 pub mod Records
+pub mod Noting
+pub mod Called
+pub mod Answers
+pub mod Example

@@ -2,15 +2,14 @@
 use Prim.Native.Nat.{ℕ, zero, suc, _+_, _*_, _-_, _≤_, _<_}
 use mathlib.Core.Path.{_≡_, refl, sym, ap, _∙_, subst}
 use mathlib.Core.List.{List}
-use mathlib.Core.Option.{Option, none, some}
+use mathlib.Core.Option.{Option, none}
 use mathlib.Core.Bool.{Bool, true, false}
 use native.Mathlib.Omega.{arith}
-use lib.ListN.{length, getD, replicate}
+use lib.ListN.{length, getD, replicate, length-replicate}
 use Rattle.tokens.specs.declared.token.Token.the-variants as token
 use Rattle.tree.specs.Tree.{nowhere, Head, Node, node, Nodes, end, _▸_, _⧺_}
 use Rattle.reading.specs.Stop.{Stop}
-use Rattle.reading.specs.Entries.{Entry, is}
-use Rattle.reading.specs.Reading.{State, advance, intermediates, level, parse, parseEntries, lastOf, unscripted, prefixes}
+use Rattle.reading.specs.Reading.{State, intermediates, level, parse, parseEntries, lastOf, unscripted, prefixes}
 use Rattle.lookahead.specs.Tests.{testAt, isKind}
 use Rattle.lookahead.proofs.Testing.{test-below}
 use Rattle.closers_pass.specs.declared.cursor.Cursor.{Cursor}
@@ -20,34 +19,15 @@ use Rattle.reading_words.specs.Meet.{Input, Given, isNone}
 use Rattle.closers_pass.specs.Meet.{At, Intermediates, onward, seen}
 use Rattle.closers_pass.specs.Top.{Blank, Passed, Paired}
 use Rattle.stores.proofs.Stores.{kept-refl, kept-trans}
-use Rattle.reading_words.proofs.Kit.{bind, ret, tick, same-is}
+use Rattle.reading_words.proofs.Kit.{tick, same-is}
 use Rattle.closers_pass.proofs.Kit.{at-tick, took, passed}
 use Rattle.closers_pass.proofs.Loop.{whole-items}
-use Rattle.reading_words.proofs.Steps.{absurd-bool, last-join, no-first, no-sign, some-after}
-
--- one turn of the definition
-module _ (X : List ℕ) (es : List Entry) (f : ℕ) (acc l : Nodes) (s t u : State)
-    (run : intermediates X es true (level X es true 256) (suc (length es)) none Stop.none (lastOf acc) s ≡ (l, t)) where
-  parse-open : (w : ℕ) → advance X es (is token.CloseBracket) t ≡ (none, u) → parse X es true (suc f) w acc s ≡ (acc ⧺ l, u)
-  unfolding parse
-  parse-open w h = bind _ _ s run ∙ bind _ _ t h ∙ ret _ _
-
-  parse-drop : (c : Entry) → advance X es (is token.CloseBracket) t ≡ (some c, u) → parse X es true (suc f) zero acc s ≡ parse X es true f zero (acc ⧺ l) u
-  unfolding parse
-  parse-drop c h = bind _ _ s run ∙ bind _ _ t h
-
-  parse-wrap : (w : ℕ) (c : Entry) → advance X es (is token.CloseBracket) t ≡ (some c, u) → parse X es true (suc f) (suc w) acc s ≡ parse X es true f w (unscripted (node (Head.group nowhere (c .span)) (acc ⧺ l)) ▸ end) u
-  unfolding parse
-  parse-wrap w c h = bind _ _ s run ∙ bind _ _ t h
+use Rattle.reading_words.proofs.Steps.{absurd-bool, last-join, no-first, no-sign, parse-drop, parse-open, parse-wrap, some-after}
 
 all-none : (k m j : ℕ) → getD (replicate k m) j m ≡ m
 all-none zero m j = refl
 all-none (suc k) m zero = refl
 all-none (suc k) m (suc j) = all-none k m j
-
-long-none : {A : Type 0} (k : ℕ) (m : A) → length (replicate k m) ≡ k
-long-none zero m = refl
-long-none (suc k) m = ap suc (long-none k m)
 
 -- At the loop's head.
 pub record Topping (X t : List ℕ) (n : ℕ) (K : List ℕ) (I : Input) (cur : Cursor) (first sign : Bool) (wraps : ℕ) : Type 0 where
@@ -84,7 +64,7 @@ round-none X t n K = record {
       given = g;
       marks = mk .marks;
       noted = mk .noted;
-      closed = record { size = long-none n n; few = λ i. omega (arith, all-none n n i); free = λ j h. all-none n n j };
+      closed = record { size = length-replicate n n; few = λ i. omega (arith, all-none n n i); free = λ j h. all-none n n j };
       pos = refl;
       takes = refl;
     };
@@ -114,7 +94,7 @@ module _ {X t : List ℕ} {n : ℕ} {K₀ K L : List ℕ} {cur : Cursor} {first 
         let q = turn I a in
         let v = passed (isKind 21) (q .at) (same-is token.CloseBracket) h in
         let w : parseEntries (I .text) (I .es) true ≡ (a .acc ⧺ q .l, v .state) = a .whole ∙ parse-open (I .text) (I .es) (a .left) (a .acc) (q .l) (a .state) (q .u) (v .state) (q .run) (256 - wraps) (v .runs) in
-        subst (λ (r : Nodes × State). Passed n L (seen n (g .cur) .takes) (r .1)) (sym w) (record { marks = v .at .marks; noted = v .at .noted; closed = v .at .closed; count = v .at .takes });
+        subst (λ (r : Nodes × State). Passed n L (seen n (g .cur) .takes) (r .1)) (sym w) (record { marks = v .at .marks; noted = v .at .noted; count = v .at .takes });
   }
 
   module _ (h : testAt t L n (isKind 21) (g .cur .pos) ≡ true) where

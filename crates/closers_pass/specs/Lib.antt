@@ -1,3 +1,4 @@
 pub mod Meet
 pub mod Matrix
 pub mod Top
+pub mod Call

@@ -86,7 +86,7 @@ abbrev pub isMore : Nodes → Bool
 isMore end = false
 isMore (x ▸ l) = true
 
--- no script
+-- there is a script
 abbrev pub scripts : Script → Bool
 scripts Script.none = false
 scripts Script.sub = true

@@ -1,13 +1,13 @@
 -- The whole reading by the bracket pass: its takes, marks and closers.
-use Prim.Native.Nat.{ℕ, _*_, _%_, _≤_, _<_, _^_}
+use Prim.Native.Nat.{ℕ, _*_, _%_, _^_}
 use mathlib.Core.Path.{_≡_}
 use mathlib.Core.List.{List}
 use mathlib.Core.Bool.{true, false}
-use lib.ListN.{length, replicate}
+use lib.ListN.{replicate}
 use Rattle.reading.specs.Reading.{State, parseEntries}
-use Rattle.records.specs.Record.{recordWords, Kept}
+use Rattle.records.specs.Record.{Kept}
 use Rattle.reading_words.specs.Meet.{Input, Given, Marks}
-use Rattle.closers_pass.specs.Meet.{Noted, Closed}
+use Rattle.closers_pass.specs.Meet.{Noted}
 
 -- No mark is set, and no entry has a closer.
 pub record Blank (n : ℕ) (K : List ℕ) : Type 0 where
@@ -18,16 +18,9 @@ pub record Blank (n : ℕ) (K : List ℕ) : Type 0 where
 pub record Passed (n : ℕ) (L : List ℕ) (takes : ℕ) (r : State) : Type 0 where
   pub marks : Marks n L (r .marks)
   pub noted : Noted n L (r .closers)
-  pub closed : Closed n (r .pos) (r .closers)
   pub count : takes % 2 ^ 32 ≡ r .takes % 2 ^ 32
 
 -- The pass over n records: of any input that they stand for it leaves the whole reading's marks and closers.
 pub record Paired (X t : List ℕ) (n : ℕ) (K L : List ℕ) (takes : ℕ) : Type 0 where
   pub kept : Kept K L
   pub means : (I : Input) → Given X t n K I → Blank n K → Passed n L takes ((parseEntries (I .text) (I .es) true) .1)
-
--- The same for any number: over 4,096 entries, and where they have not their words, nothing changes.
-pub record PairedAny (X t : List ℕ) (n : ℕ) (K L : List ℕ) (takes : ℕ) : Type 0 where
-  pub paired : n ≤ 4096 → recordWords n ≤ length K → Paired X t n K L takes
-  pub many : 4096 < n → L ≡ K
-  pub short : length K < recordWords n → L ≡ K

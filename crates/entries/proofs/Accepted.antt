@@ -16,7 +16,7 @@ use Rattle.entries.specs.Prepared.{workWords, prepared}
 
 module _ (text table : List ℕ) (count : ℕ) (work : List ℕ) (ok : listRefusal text count table ≡ none)
     (room : recordWords (countOthers (tokenList count table) + 1) ≤ length work) where
-  prepared-is : prepared table count work ≡ (records.Entries (countOthers (tokenList count table)), workWords (tokenList count table) ++ drop (recordWords (countOthers (tokenList count table))) work)
+  pub prepared-is : prepared table count work ≡ (records.Entries (countOthers (tokenList count table)), workWords (tokenList count table) ++ drop (recordWords (countOthers (tokenList count table))) work)
   unfolding prepared
   prepared-is =
       let a = accepted text count table ok in

@@ -78,12 +78,12 @@ module _ (table : List ℕ) (j : ℕ) where
   back : j + 1 - 1 ≡ j
   back = omega arith
 
-  after-space : getD table (3 * j + 2) 0 ≡ 23 → tokenAt table j .span ≡ spaceAt table (j + 1)
+  after-space : 23 ≤ getD table (3 * j + 2) 0 → tokenAt table j .span ≡ spaceAt table (j + 1)
   after-space z =
       let w : (k : ℕ) → spaceWord table (j + 1) k ≡ getD table (3 * j + k) 0 = λ k. space-there table (j + 1) k (λ e. omega arith) (rw back z) ∙ rw back in
       rw (w 0, w 1, add-zero (3 * j))
 
-  after-other : (getD table (3 * j + 2) 0 ≡ 23 → ⊥) → nowhere ≡ spaceAt table (j + 1)
+  after-other : getD table (3 * j + 2) 0 < 23 → nowhere ≡ spaceAt table (j + 1)
   after-other z =
       let w : (k : ℕ) → spaceWord table (j + 1) k ≡ 0 = λ k. space-absent table (j + 1) k (λ e. omega arith) (rw back z) in
       rw (w 0, w 1)
@@ -113,22 +113,28 @@ pub record Recorded (count : ℕ) (table K : List ℕ) (es : List Entry) (i : �
   pub marks : marksOf K i ≡ 0
   pub closer : closerOf K i ≡ 0
 
--- the entries are those of the tokens at these places, which are in the table
+-- the entries are those of the tokens at these places, which are in the table and no Spaces
 record Placed (count : ℕ) (table ps : List ℕ) (es : List Entry) : Type 0 where
   made : es ≡ map (entryAt table) ps
   inside : (i : ℕ) → i < length ps → getD ps i 0 < count
+  other : (i : ℕ) → i < length ps → getD table (3 * getD ps i 0 + 2) 0 < 23
 
-placed-more : (count : ℕ) (table : List ℕ) (j : ℕ) {ps : List ℕ} {es : List Entry} → j < count → Placed count table ps es → Placed count table (j ∷ ps) (entryAt table j ∷ es)
-placed-more count table j {ps} h q = record { made = ap (λ (l : List Entry). entryAt table j ∷ l) (q .made); inside = at }
+placed-more : (count : ℕ) (table : List ℕ) (j : ℕ) {ps : List ℕ} {es : List Entry} → j < count → getD table (3 * j + 2) 0 < 23 → Placed count table ps es
+    → Placed count table (j ∷ ps) (entryAt table j ∷ es)
+placed-more count table j {ps} h o q = record { made = ap (λ (l : List Entry). entryAt table j ∷ l) (q .made); inside = at; other = kind }
   where
     at : (i : ℕ) → i < suc (length ps) → getD (j ∷ ps) i 0 < count
     at zero l = h
     at (suc i) l = q .inside i (omega arith)
 
-module _ (count : ℕ) (table : List ℕ) (kinds : (j : ℕ) → j < count → getD table (3 * j + 2) 0 ≤ 23) where
+    kind : (i : ℕ) → i < suc (length ps) → getD table (3 * getD (j ∷ ps) i 0 + 2) 0 < 23
+    kind zero l = o
+    kind (suc i) l = q .other i (omega arith)
+
+module _ (count : ℕ) (table : List ℕ) where
   placed : (m j : ℕ) → count ≡ j + m → Placed count table (places j (tokensFrom count table j)) (entries (spaceAt table j) (tokensFrom count table j))
   unfolding places entries
-  placed zero j e = rw (tokens-none count table j (omega arith)) record { made = refl; inside = λ i l. absurd (omega arith) }
+  placed zero j e = rw (tokens-none count table j (omega arith)) record { made = refl; inside = λ i l. absurd (omega arith); other = λ i l. absurd (omega arith) }
   placed (suc m) j e =
       let h : j < count = omega arith in
       let t = tokenAt table j in
@@ -140,13 +146,13 @@ module _ (count : ℕ) (table : List ℕ) (kinds : (j : ℕ) → j < count → g
       (λ l.
       let z = kind-other k l in
       let p = ap (places j) next ∙ places-other j nowhere t ts z ∙ ap (λ (i : ℕ). j ∷ places i ts) (sym (add-one j)) in
-      let r = ap (entries (spaceAt table j)) next ∙ entries-other j (spaceAt table j) t ts z ∙ ap (λ (g : Span). entryAt table j ∷ entries g ts) (after-other table j (λ x. omega arith)) in
+      let r = ap (entries (spaceAt table j)) next ∙ entries-other j (spaceAt table j) t ts z ∙ ap (λ (g : Span). entryAt table j ∷ entries g ts) (after-other table j l) in
       subst⁻¹ (λ (ps : List ℕ). Placed count table ps (entries (spaceAt table j) (tokensFrom count table j))) p
-      (subst⁻¹ (λ (es : List Entry). Placed count table (j ∷ places (j + 1) ts) es) r (placed-more count table j h q)))
+      (subst⁻¹ (λ (es : List Entry). Placed count table (j ∷ places (j + 1) ts) es) r (placed-more count table j h l q)))
       (λ l.
       let z = kind-space k l in
       let p = ap (places j) next ∙ places-space j nowhere t ts z ∙ ap (λ (i : ℕ). places i ts) (sym (add-one j)) in
-      let r = ap (entries (spaceAt table j)) next ∙ entries-space j (spaceAt table j) t ts z ∙ ap (λ (g : Span). entries g ts) (after-space table j (omega (arith, kinds j h))) in
+      let r = ap (entries (spaceAt table j)) next ∙ entries-space j (spaceAt table j) t ts z ∙ ap (λ (g : Span). entries g ts) (after-space table j l) in
       subst⁻¹ (λ (ps : List ℕ). Placed count table ps (entries (spaceAt table j) (tokensFrom count table j))) p
       (subst⁻¹ (λ (es : List Entry). Placed count table (places (j + 1) ts) es) r q))
 
@@ -173,6 +179,9 @@ module _ (count : ℕ) (table : List ℕ) (kinds : (j : ℕ) → j < count → g
     listed : i < length (places 0 (tokenList count table))
     listed = omega (arith, length-places 0 (tokenList count table))
 
+    kind-is : getD table (3 * placeOf K i + 2) 0 < 23
+    kind-is = rw place-is (all-placed .other i listed)
+
     there-is : getElem? (entries nowhere (tokenList count table)) i ≡ some (entryAt table (placeOf K i))
     there-is = rw (all-placed .made, place-is) (get-map (entryAt table) (places 0 (tokenList count table)) i 0 listed)
 
@@ -194,7 +203,7 @@ module _ (count : ℕ) (table : List ℕ) (kinds : (j : ℕ) → j < count → g
           entry = entryAt table (placeOf K i);
           there = there-is;
           inside = l;
-          kind = rw p (sym (number-of-token (getD table (3 * placeOf K i + 2) 0) (omega (arith, kinds (placeOf K i) l))));
+          kind = rw p (sym (number-of-token (getD table (3 * placeOf K i + 2) 0) (omega (arith, kind-is))));
           start = rw p;
           len = rw p;
           space = rw p;

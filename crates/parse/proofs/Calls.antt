@@ -29,54 +29,86 @@ use Rattle.lists.specs.Checks.{answer}
 use Rattle.tokens.proofs.Accepted as lists
 use Rattle.tokens.proofs.Accepted.{met}
 use Rattle.records.specs.Record.{recordWords}
-use Rattle.entries.specs.declared.Prepared.{Prepared}
-use Rattle.entries.specs.declared.Prepared.the-variants as records
-use Rattle.entries.specs.Prepared.{workWords, prepared}
-use Rattle.entries.proofs.Accepted as made
 use Rattle.parse.specs.declared.ParsedTokens.{ParsedTokens}
 use Rattle.parse.specs.declared.ParsedTokens.the-variants as read
 use Rattle.parse.specs.declared.top.Reading.{Reading}
 use Rattle.parse.specs.Top.{TopReady, Reads}
 use Rattle.parse.specs.Call.{listAnswerOf, parseRefusal, parseRefusalBy, parseTokensRefusal, parseTokensRefusalBy, values, workAfter, treeAfter, parsedText, parsedTextBy, parsedTokens, parsedTokensBy}
 use Rattle.bounds.proofs.Theorems.{entries-count}
-use Rattle.closers_pass.specs.Top.{Blank}
-use Rattle.closers_pass.proofs.Records.{blank-records}
-use Rattle.reading_words.proofs.Records.{inputOf, given, few-entries}
+use Rattle.closers_pass.specs.declared.top.Pass.{Pass}
+use Rattle.closers_pass.specs.declared.top.Pass.the-variants as pass
+use Rattle.closers_pass.specs.Call.{readTo, pairedList}
+use Rattle.closers_pass.proofs.Answers as passed
+use Rattle.reading_words.specs.Meet.{Input, Given, Marks}
+use Rattle.reading_words.proofs.Kit.{safe-kept}
+use Rattle.reading_words.proofs.Records.{inputOf, small-takes}
 use Rattle.parse.proofs.Ready.{top-ready}
-use Rattle.parse.proofs.Wrapping.{small-takes}
-use Rattle.reading_words.specs.Meet.{Given}
+use Rattle.parse.proofs.Second.{both-read}
 
--- the records of an accepted list
+-- what the bracket pass over an accepted list answers, and what the second part needs of the records that it leaves
 module _ (text table : List ℕ) (count : ℕ) (work tree : List ℕ) (ok : listRefusal text count table ≡ none)
-    (fit : roomRefusal (countOthers (tokenList count table)) (length work) (length tree) ≡ none) where
-  enough-work : recordWords (countOthers (tokenList count table) + 1) ≤ length work
-  enough-work = has-room entryWords (countOthers (tokenList count table)) (length work) (length tree) fit .0
+    (fit : roomRefusal (countOthers (tokenList count table)) (length work) (length tree) ≡ none)
+    (r : Pass) (L : List ℕ) (c : (r, L) ≡ pairedList text table count false work) where
+  abbrev ts : List Lexeme
+  ts = tokenList count table
 
-  module _ (r : Prepared) (K : List ℕ) (c : (r, K) ≡ prepared table count work) where
-    words : K ≡ workWords (tokenList count table) ++ drop (recordWords (countOthers (tokenList count table))) work
-    words = made.words text table count work ok enough-work r K c
+  room : (recordWords (countOthers ts + 1) ≤ length work) × (32 * (countOthers ts + 1) ≤ length tree)
+  room = has-room entryWords (countOthers ts) (length work) (length tree) fit
 
-    pub not-refused : {A : Type 0} (k : ℕ) → r ≡ records.Refused k → A
-    not-refused = made.not-refused text table count work ok enough-work r K c
+  pub not-refused : {A : Type 0} (k : ℕ) → r ≡ pass.Refused k → A
+  not-refused = passed.not-refused text table count ok work (room .0) false r L c
 
-    module _ (n : ℕ) (q : r ≡ records.Entries n) where
-      pub n-is : n ≡ countOthers (tokenList count table)
-      n-is = made.number text table count work ok enough-work r K c n q
+  -- the records as `prepare` makes them
+  made-ready : TopReady (countOthers ts) text table (passed.made-words text table count ok work (room .0)) tree
+  made-ready = top-ready text table count ok _ _ refl (passed.fit text table count ok work (room .0)) tree (room .1)
 
-      pub ready : length K ≡ length work → TopReady n text table K tree
-      ready l =
-          let h = has-room entryWords (countOthers (tokenList count table)) (length work) (length tree) fit in
-          subst (λ (m : ℕ). TopReady m text table K tree) (sym n-is)
-          (top-ready text table count ok K _ words (omega (arith, l)) tree (h .1))
+  pub few-here : length (entries nowhere ts) ≤ 4096
+  few-here = omega (arith, passed.few text table count ok, entries-count nowhere ts)
 
-      pub given-here : Given text table n K (inputOf text (tokenList count table))
-      given-here = subst (λ (m : ℕ). Given text table m K (inputOf text (tokenList count table))) (sym n-is) (given text table count ok K _ words)
+  module _ (n : ℕ) (q : r ≡ pass.Plain n) where
+    is : (n ≡ countOthers ts) × (L ≡ passed.made-words text table count ok work (room .0))
+    is = passed.plain-is text table count ok work (room .0) false r L c n q
 
-      pub blank-here : Blank n K
-      blank-here = subst (λ (m : ℕ). Blank m K) (sym n-is) (blank-records text table count ok K _ words)
+    pub plain-number : n ≡ countOthers ts
+    plain-number = is .0
 
-      pub few-here : length (entries nowhere (tokenList count table)) ≤ 4096
-      few-here = few-entries text table count ok K _ words
+    pub plain-ready : TopReady n text table L tree
+    plain-ready = rw (is .0, is .1) made-ready
+
+    pub plain-reads : {len : ℕ} {y : List ℕ} {g : Reading}
+        → ((I : Input) → Given text table n L I → (m : List Bool) → Marks n L m → Reads I m len y g)
+        → Reads (inputOf text ts) (replicate (3 * n) false) len y g
+    plain-reads h =
+        h (inputOf text ts) (rw (is .0, is .1) (passed.made-given text table count ok work (room .0))) (replicate (3 * n) false)
+        (rw (is .0, is .1) (passed.made-blank text table count ok work (room .0)))
+
+  module _ (n takes : ℕ) (q : r ≡ pass.Read n takes) where
+    are : (n ≡ countOthers ts) × (takes ≡ readTo text ts .takes) × (L ≡ passed.read-words text table count ok work (room .0))
+    are = passed.read-is text table count ok work (room .0) false r L c n takes q
+
+    pub read-number : n ≡ countOthers ts
+    read-number = are .0
+
+    pub read-ready : TopReady n text table L tree
+    read-ready =
+        rw (are .0, are .2)
+        (record {
+          safe = safe-kept (passed.read-kept text table count ok work (room .0)) (made-ready .safe);
+          input = inputOf text ts;
+          given = passed.read-given text table count ok work (room .0);
+          marked = readTo text ts .marks;
+          marks = passed.read-marks text table count ok work (room .0);
+          room = room .1;
+        })
+
+    pub read-reads : {len : ℕ} {y : List ℕ} {g : Reading}
+        → ((I : Input) → Given text table n L I → (m : List Bool) → Marks n L m → Reads I m len y g)
+        → Reads (inputOf text ts) (replicate (3 * n) false) len y (record { takes = takes; end = g .end; items = g .items })
+    read-reads {len} {y} {g} h =
+        both-read (inputOf text ts) n takes len y g (entries-count nowhere ts ∙ sym (are .0))
+        (are .1 ∙ sym (small-takes text (entries nowhere ts) few-here))
+        (h (inputOf text ts) (rw (are .0, are .2) (passed.read-given text table count ok work (room .0))) (readTo text ts .marks)
+        (rw (are .0, are .2) (passed.read-marks text table count ok work (room .0))))
 
 -- no items: the root is blank
 blank-count : (text : List ℕ) (l : Nodes) → eqb (count l) 0 ≡ blank text l

@@ -1,31 +1,26 @@
 -- What each way through the attempt at a matrix shows.
-use Prim.Native.Nat.{ℕ, zero, suc, _+_, _*_, _-_, _≤_, _<_}
+use Prim.Native.Nat.{ℕ, suc, _+_, _*_, _-_, _≤_, _<_}
 use mathlib.Core.Path.{_≡_, refl, sym, ap, _∙_, subst}
 use mathlib.Core.List.{List, [], _∷_, _++_, append-assoc}
-use mathlib.Core.Option.{Option, none, some}
-use mathlib.Core.Bool.{Bool, true, false, not, _&&_, cond}
+use mathlib.Core.Option.{Option, some}
+use mathlib.Core.Bool.{true, false}
 use native.Mathlib.Omega.{arith}
-use lib.ListN.{length, length-append, getD, getElem?, take, drop}
-use lib.Dec.{eqb, ltb}
+use lib.ListN.{length, length-append, getD, getElem?, take}
+use lib.Dec.{ltb}
 use lib.Seq.{sets, length-sets, take-take, take-at, length-take-le, getD-take, getD-append-add}
-use borrow.Author.Tests.{ltb-true, ltb-false, eqb-true, ne-eqb}
-use Rattle.tokens.specs.declared.token.Token.the-variants as token
 use Rattle.tree.specs.Tree.{Head, Node, node, Nodes, end, _▸_, _⧺_, count}
 use Rattle.tree.specs.Words.{encode, encodes, encodeItems}
-use Rattle.reading.specs.Entries.{Entry, is, hasSep}
-use Rattle.reading.specs.Reading.{State, M, matrixMark, made, lost, isAt, isByte, closeOf, closes, couldBeMatrix, makesMatrix, tryMatrix, endsOperand, look, Rows, joinRows, matrixBody, splitColumnLines}
+use Rattle.reading.specs.Entries.{Entry}
+use Rattle.reading.specs.Reading.{State, M, matrixMark, made, lost, makesMatrix, tryMatrix, endsOperand, look, Rows, joinRows, matrixBody, splitColumnLines}
 use Rattle.parse.specs.declared.cursor.Cursor.{Cursor}
 use Rattle.parse.specs.declared.cursor.Step.the-variants.{Found, Nothing}
 use Rattle.parse.specs.Buffer.{Wrote}
-use Rattle.records.specs.Record.{afterClose, sepOf, marksOf, kindOf, Whole, Kept}
-use Rattle.lookahead.specs.Tests.{testAt, isKind}
-use Rattle.spans.specs.Spans.{byteAt}
-use Rattle.brackets.specs.Brackets.{barAt, closesAt, couldBeMatrixAt, setAt, makesAt}
+use Rattle.records.specs.Record.{marksOf, Whole, Kept}
+use Rattle.brackets.specs.Brackets.{couldBeMatrixAt, makesAt}
 use Rattle.marks.specs.Marks.{isMarked}
 use Rattle.nodes.specs.Nodes.{matrixWords}
 use Rattle.parse.specs.Meet.{Moves, Misses, Each, TryMatrix, onward, rewound}
 use Rattle.parse.proofs.Buffer.{fill, back, wrote-none}
-use Rattle.lookahead.proofs.Testing.{test-below}
 use Rattle.parse.specs.declared.cursor.Cells.{Cells}
 use Rattle.columns.specs.declared.Split.{Split}
 use Rattle.columns.specs.Columns.{cellsEnd}
@@ -34,12 +29,11 @@ use Rattle.parse.specs.Columns.{SplitReady, MatrixAt, Splits}
 use Rattle.parse.specs.Matrix.{Broke, Filled, Fails, HasMatrix, rowsAt}
 use Rattle.parse.proofs.Cells.{took-any, cell-words}
 use Rattle.parse.proofs.Scripting.{count-append}
-use Rattle.tokens.specs.Refusals.{bit}
-use Rattle.reading_words.specs.Meet.{Input, Row, linkNumber, Given, At, Known, readers}
+use Rattle.reading_words.specs.Meet.{Input, Row, At, Known, readers}
 use Rattle.stores.proofs.Stores.{kept-refl, kept-trans, marks-kept}
-use Rattle.reading_words.proofs.Kit.{shut, ret-closed, at-shut, bind, ret, at-here, if-true, if-false, tick, at-tick, row-of, test-kind, same-is, past, at-some, at-none}
+use Rattle.reading_words.proofs.Kit.{shut, ret-closed, at-shut, bind, ret, at-here, if-true, if-false, tick, at-tick, row-of}
 use Rattle.reading_words.proofs.Attempts.{mark-is, at-lost, known-lost, attempt-known, attempt-made, attempt-lost, marked}
-use Rattle.reading_words.proofs.Steps.{bar-is, byte-at, is-at-is, joined, linked-to, makes-below}
+use Rattle.reading_words.proofs.Matrices.{gate-is, makes-below, makes-is}
 
 -- the words of the cells chain by their headers
 after : {x₀ x v : List ℕ} {e E : ℕ} (u : List ℕ) → Wrote x₀ e x E (u ++ v) → E ≤ length x → Wrote x (e + length u) x E v
@@ -103,89 +97,6 @@ split-ready {y = y} {e = e} {k = k} {E = E} w h1 h2 h3 h4 = record {
   few = omega arith;
   room = omega arith;
 }
-
-module _ {X t : List ℕ} {n : ℕ} {K : List ℕ} {I : Input} (g : Given X t n K I) {i : ℕ} {o : Entry} (inside : i < n) (there : getElem? (I .es) i ≡ some o) where
-  pub closes-is : (j : ℕ) → closes (I .text) (I .es) o i j ≡ closesAt X t K n i j
-  unfolding closes closesAt
-  closes-is j =
-      let r = row-of g inside there in
-      let ob : is token.OpenBracket o ≡ eqb (kindOf t K i) 20 = same-is token.OpenBracket o ∙ ap (λ (w : ℕ). eqb w 20) (sym (r .kind)) in
-      go (eqb (kindOf t K i) 20) refl ob
-    where
-      go : (b : Bool) → eqb (kindOf t K i) 20 ≡ b → is token.OpenBracket o ≡ b → closes (I .text) (I .es) o i j ≡ cond b (eqb (afterClose K i) (j + 1)) (barAt X t K n i j)
-      go true e h = rw (closes, h) (linked-to j (closeOf (I .text) (I .es) i)) ∙ ap (λ (w : ℕ). eqb w (j + 1)) (sym (g .linked i inside (eqb-true (kindOf t K i) 20 e) .close))
-      go false e h = rw (closes, h) (bar-is i j o g inside there)
-
-  gate-row : (c : Option ℕ) (w : ℕ) → w ≡ linkNumber c
-      → elim c as (λ _. Bool) [
-        | none ↦ false
-        | some c ↦ elim (isAt (I .text) (I .es) (is token.Sep) (suc c)) as (λ _. Bool) [
-          | true ↦ true
-          | false ↦ closes (I .text) (I .es) o i (suc c) && hasSep zero (drop (suc (suc i)) (I .es))
-        ]
-      ] ≡ cond (eqb w 0) false (cond (testAt t K n (isKind 3) w) true (cond (closesAt X t K n i w) (hasSep zero (drop (suc (suc i)) (I .es))) false))
-  gate-row none w h = rw h
-  gate-row (some c) w h =
-      let z : eqb w 0 ≡ false = ne-eqb w 0 (λ q. omega arith) in
-      let H = hasSep zero (drop (suc (suc i)) (I .es)) in
-      let C = closes (I .text) (I .es) o i (suc c) in
-      two (isAt (I .text) (I .es) (is token.Sep) (suc c)) C H
-      ∙ ap (λ (b : Bool). cond b true (cond C H false)) (is-at-is token.Sep (suc c) g)
-      ∙ ap (λ (b : Bool). cond (testAt t K n (isKind 3) (suc c)) true (cond b H false)) (closes-is (suc c))
-      ∙ ap (λ (j : ℕ). cond (testAt t K n (isKind 3) j) true (cond (closesAt X t K n i j) H false)) (sym h)
-      ∙ sym (ap (λ (b : Bool). cond b false (cond (testAt t K n (isKind 3) w) true (cond (closesAt X t K n i w) H false))) z)
-    where
-      two : (a b c : Bool) → elim a as (λ _. Bool) [ true ↦ true | false ↦ b && c ] ≡ cond a true (cond b c false)
-      two true b c = refl
-      two false true c = refl
-      two false false c = refl
-
-  bit-is : (b : Bool) → eqb (bit b) 1 ≡ b
-  bit-is true = refl
-  bit-is false = refl
-
-  pub gate-is : couldBeMatrix (I .text) (I .es) o i ≡ couldBeMatrixAt X t K n i
-  unfolding couldBeMatrix couldBeMatrixAt
-  gate-is =
-      let z : i + 1 ≡ suc i = omega arith in
-      rw (couldBeMatrix, z, is-at-is token.OpenBracket (suc i) g) (go (testAt t K n (isKind 20) (suc i)) refl)
-    where
-      go : (b : Bool) → testAt t K n (isKind 20) (suc i) ≡ b → elim b as (λ _. Bool) [
-        | false ↦ false
-        | true ↦ elim (closeOf (I .text) (I .es) (suc i)) as (λ _. Bool) [
-          | none ↦ false
-          | some c ↦ elim (isAt (I .text) (I .es) (is token.Sep) (suc c)) as (λ _. Bool) [
-            | true ↦ true
-            | false ↦ closes (I .text) (I .es) o i (suc c) && hasSep zero (drop (suc (suc i)) (I .es))
-          ]
-        ]
-      ] ≡ cond b (cond (eqb (afterClose K (suc i)) 0) false (cond (testAt t K n (isKind 3) (afterClose K (suc i))) true (cond (closesAt X t K n i (afterClose K (suc i))) (eqb (sepOf K (suc i)) 1) false))) false
-      go false e = refl
-      go true e =
-          let h : suc i < n = test-below t K n (isKind 20) (suc i) e in
-          let l = g .linked (suc i) h (eqb-true (kindOf t K (suc i)) 20 (test-kind t K n (isKind 20) (suc i) true h e)) in
-          rw (l .sep, bit-is (hasSep zero (drop (suc (suc i)) (I .es)))) (gate-row (closeOf (I .text) (I .es) (suc i)) (afterClose K (suc i)) (l .close))
-
-  pub makes-is : {l k : ℕ} (r : Rows) (p : ℕ) → l < n → getElem? (I .es) l ≡ some (r .head .left) → (splitColumnLines (I .text) (I .es) r) .1 ≡ k
-      → makesMatrix (I .text) (I .es) o i r p ≡ makesAt X t K n i l k p
-  unfolding makesMatrix makesAt setAt
-  makes-is {l} {k} r p hl tl hk = rw (closes-is p, hk) (go (ltb p n) refl)
-    where
-      both : (a b : Bool) → (a && b) ≡ cond a b false
-      both true b = refl
-      both false b = refl
-
-      last : (a b c : Bool) → (not (a && b) && (ltb 1 k && c)) ≡ cond (cond a b false) false (cond (ltb 1 k) c false)
-      last true true c = refl
-      last true false c = both (ltb 1 k) c
-      last false b c = both (ltb 1 k) c
-
-      go : (b : Bool) → ltb p n ≡ b → (isAt (I .text) (I .es) (λ e. not (isByte (I .text) (I .es) 40 (r .head .left .span) && isByte (I .text) (I .es) 125 (e .span))) p && (ltb 1 k && closesAt X t K n i p)) ≡ cond b (cond (setAt X t K l p) false (cond (ltb 1 k) (closesAt X t K n i p) false)) false
-      go true e =
-          let q = g .stands p (ltb-true p n e) in
-          rw (at-some (I .text) (I .es) (λ e. not (isByte (I .text) (I .es) 40 (r .head .left .span) && isByte (I .text) (I .es) 125 (e .span))) p (q .entry) (q .there), byte-at (I .text) (I .es) 40 (r .head .left) (g .text) (row-of g hl tl), byte-at (I .text) (I .es) 125 (q .entry) (g .text) (q .row))
-          (last (byteAt X t K l 40) (byteAt X t K p 125) (closesAt X t K n i p))
-      go false e = rw (at-none (I .text) (I .es) (λ e. not (isByte (I .text) (I .es) 40 (r .head .left .span) && isByte (I .text) (I .es) 125 (e .span))) p (past (I .es) p (omega (arith, ltb-false p n e, g .size))))
 
 matrix-encoded : {t K : List ℕ} {i j k : ℕ} {a b : Entry} (cols v : ℕ) (lines : List ℕ) (cells : Nodes) → Row t K i a → Row t K j b → count cells ≡ k → length lines ≡ v
     → encode (node (Head.matrix (a .span) (b .span) cols lines) cells) ≡ matrixWords t K i j k cols v ++ (encodes cells ++ lines)
@@ -258,7 +169,7 @@ module _ {X t : List ℕ} {n : ℕ} {K : List ℕ} (i : ℕ) (c : Cursor) (e : �
           λ I s at en there.
               let w = split-at I s at in
               let q = w .has in
-              let m : makesMatrix (I .text) (I .es) en i (q .rows) (q .state .pos) ≡ false = ap (makesMatrix (I .text) (I .es) en i (q .rows)) (sym (q .at .pos)) ∙ makes-is (q .at .given) inside there (q .rows) (d .pos) hl (q .left) (w .mat .size) ∙ h in
+              let m : makesMatrix (I .text) (I .es) en i (q .rows) (q .state .pos) ≡ false = ap (makesMatrix (I .text) (I .es) en i (q .rows)) (sym (q .at .pos)) ∙ makes-is (q .at .given) inside there (sp .cells) (q .rows) (d .pos) hl (q .left) (ap (ltb 1) (w .mat .size)) ∙ h in
               lost-runs d at there (bind _ _ s (q .runs) ∙ bind _ _ _ (at-here (q .state)) ∙ if-false _ _ _ m ∙ ret _ _) (q .at) fit hn (back e (w .mat .wrote) (omega arith) (omega (arith, f .room, sl .within))),
         )
 
@@ -271,7 +182,7 @@ module _ {X t : List ℕ} {n : ℕ} {K : List ℕ} (i : ℕ) (c : Cursor) (e : �
                   let v = split-at I s at in
                   let q = v .has in
                   let u = took-any (q .at) b in
-                  let m : makesMatrix (I .text) (I .es) en i (q .rows) (q .state .pos) ≡ true = ap (makesMatrix (I .text) (I .es) en i (q .rows)) (sym (q .at .pos)) ∙ makes-is (q .at .given) inside there (q .rows) (d .pos) hl (q .left) (v .mat .size) ∙ h in
+                  let m : makesMatrix (I .text) (I .es) en i (q .rows) (q .state .pos) ≡ true = ap (makesMatrix (I .text) (I .es) en i (q .rows)) (sym (q .at .pos)) ∙ makes-is (q .at .given) inside there (sp .cells) (q .rows) (d .pos) hl (q .left) (ap (ltb 1) (v .mat .size)) ∙ h in
                   let mn : (splitColumnLines (I .text) (I .es) (q .rows)) .0 (en .span) (u .0 .entry .span) ≡ node (Head.matrix (en .span) (u .0 .entry .span) (sp .cols) (v .mat .lines)) (v .mat .cells) = v .mat .made (en .span) (u .0 .entry .span) in
                   record {
                     node = node (Head.matrix (en .span) (u .0 .entry .span) (sp .cols) (v .mat .lines)) (v .mat .cells);

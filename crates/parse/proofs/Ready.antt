@@ -27,12 +27,12 @@ module _ (text table : List ℕ) (count : ℕ) (ok : listRefusal text count tabl
         safe =
             record {
               few = omega (arith, a .few, others-few count table);
-              placed = λ i h. record { fit = omega arith; inside = omega (arith, records.place text table count ok K rest work i h, a .words) };
-              spans = records.spans text table count ok K rest work fit;
+              placed = λ i h. record { fit = omega arith; inside = omega (arith, records.place text table count (a .few) (a .words) K rest work i h, a .words) };
+              spans = records.spans text table count (a .few) (a .words) K rest work ok fit;
             };
         input = records.inputOf text (tokenList count table);
-        given = records.given text table count ok K rest work;
+        given = records.given text table count (a .few) (a .words) K rest work;
         marked = replicate (3 * length (entries nowhere (tokenList count table))) false;
-        marks = records.blank text table count ok K rest work;
+        marks = records.blank text table count (a .few) (a .words) K rest work;
         room = room;
       }

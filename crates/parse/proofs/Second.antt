@@ -1,24 +1,20 @@
 -- The second part: read from the marks that the bracket pass leaves, the words are those of the whole reading's tree, and nothing is
 -- given back.
-use Prim.Native.Nat.{ℕ, zero, suc, _+_, _-_, _*_, _%_, _^_, _≤_, _<_}
+use Prim.Native.Nat.{ℕ, _+_, _-_, _*_, _%_, _^_, _<_}
 use mathlib.Core.Path.{_≡_, refl, sym, ap, _∙_}
 use mathlib.Core.List.{List, _++_}
 use mathlib.Core.Bool.{Bool, true, false}
-use native.Mathlib.Omega.{arith}
-use native.Mathlib.Nat.{mod-eq-of-lt}
 use lib.ListN.{length, replicate, getD}
 use Rattle.tree.specs.Tree.{Nodes, count}
 use Rattle.tree.specs.Words.{encodeItems}
 use Rattle.reading.specs.Reading.{State, parseEntries}
 use Rattle.closers_laws.proofs.Replay.{replay}
-use Rattle.records.specs.Record.{recordWords, marksOf}
-use Rattle.reading_words.specs.Entry.{marksWord, Safe}
+use Rattle.records.specs.Record.{marksOf}
+use Rattle.reading_words.specs.Entry.{marksWord}
 use Rattle.reading_words.specs.Meet.{Input, Given, Marks}
-use Rattle.reading_words.proofs.Kit.{given-kept, safe-kept}
-use Rattle.closers_pass.specs.Top.{Blank, Paired, PairedAny}
 use Rattle.parse.specs.declared.top.Reading.{Reading}
 use Rattle.parse.specs.declared.top.Wrapped.{Wrapped}
-use Rattle.parse.specs.Top.{readFrom, TopReady, Reads, Topped}
+use Rattle.parse.specs.Top.{readFrom, Reads, Topped}
 
 module _ (I : Input) (len : ℕ) (y : List ℕ) (r : Reading) (d : Reads I (parseEntries (I .text) (I .es) true .1 .marks) len y r) where
   pub second-end : r .end ≡ length (encodeItems (parseEntries (I .text) (I .es) true .0))
@@ -45,36 +41,16 @@ blank-start : (I : Input) (n : ℕ) → length (I .es) ≡ n → readFrom I (rep
 unfolding parseEntries
 blank-start I n e = ap (λ (m : ℕ). readFrom I (replicate (3 * m) false)) (sym e)
 
--- entries that are placed have their words
-whole-records : (n : ℕ) {X t K : List ℕ} → Safe n X t K → recordWords n ≤ length K
-whole-records zero q = omega arith
-whole-records (suc m) q = omega (arith, q .placed m (omega arith) .fit)
-
--- The two passes: what the bracket pass leaves is what the second part needs, and together they are the whole reading.
-module _ {X t : List ℕ} {n : ℕ} {K L x : List ℕ} {takes : ℕ} (q : TopReady n X t K x) (b : Blank n K) (p : PairedAny X t n K L takes) where
-  paired : Paired X t n K L takes
-  paired = p .paired (q .safe .few) (whole-records n (q .safe))
-
-  pub second-ready : TopReady n X t L x
-  second-ready = record {
-    safe = safe-kept (paired .kept) (q .safe);
-    input = q .input;
-    given = given-kept (paired .kept) (q .given);
-    marked = parseEntries (q .input .text) (q .input .es) true .1 .marks;
-    marks = paired .means (q .input) (q .given) b .marks;
-    room = q .room;
-  }
-
-  pub both-read : {len : ℕ} {y : List ℕ} {r : Reading} → takes < 2 ^ 32
-      → ((I : Input) → Given X t n L I → (m : List Bool) → Marks n L m → Reads I m len y r)
-      → (I : Input) → Given X t n K I → Reads I (replicate (3 * n) false) len y (record { takes = takes; end = r .end; items = r .items })
-  both-read {len} {y} {r} small h I g =
-      let e = paired .means I g b in
-      let d = h I (given-kept (paired .kept) g) (parseEntries (I .text) (I .es) true .1 .marks) (e .marks) in
-      let z = sym (blank-start I n (g .size)) in
-      record {
-        end = second-end I len y r d ∙ ap (λ (w : Nodes × State). length (encodeItems (w .0))) z;
-        tree = second-tree I len y r d ∙ ap (λ (w : Nodes × State). encodeItems (w .0) ++ replicate (len - r .end) 0) z;
-        items = second-items I len y r d ∙ ap (λ (w : Nodes × State). count (w .0)) z;
-        takes = sym (mod-eq-of-lt small) ∙ e .count ∙ ap (λ (w : Nodes × State). w .1 .takes % 2 ^ 32) z;
-      }
+-- The two passes together are the whole reading: the takes that the bracket pass counts, and the tree that the second part builds from
+-- its marks.
+pub both-read : (I : Input) (n takes len : ℕ) (y : List ℕ) (r : Reading) → length (I .es) ≡ n → takes ≡ parseEntries (I .text) (I .es) true .1 .takes % 2 ^ 32
+    → Reads I (parseEntries (I .text) (I .es) true .1 .marks) len y r
+    → Reads I (replicate (3 * n) false) len y (record { takes = takes; end = r .end; items = r .items })
+both-read I n takes len y r e k d =
+    let z = sym (blank-start I n e) in
+    record {
+      end = second-end I len y r d ∙ ap (λ (w : Nodes × State). length (encodeItems (w .0))) z;
+      tree = second-tree I len y r d ∙ ap (λ (w : Nodes × State). encodeItems (w .0) ++ replicate (len - r .end) 0) z;
+      items = second-items I len y r d ∙ ap (λ (w : Nodes × State). count (w .0)) z;
+      takes = k ∙ ap (λ (w : Nodes × State). w .1 .takes % 2 ^ 32) z;
+    }

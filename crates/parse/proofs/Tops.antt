@@ -2,7 +2,7 @@
 use Prim.Native.Nat.{ℕ, zero, suc, _+_, _*_, _-_, _≤_, _<_}
 use mathlib.Core.Path.{_≡_, refl, sym, ap, _∙_, subst}
 use mathlib.Core.List.{List, [], _∷_, _++_, append-nil, append-assoc}
-use mathlib.Core.Option.{Option, none, some}
+use mathlib.Core.Option.{Option, none}
 use mathlib.Core.Bool.{Bool, true, false}
 use native.Mathlib.Omega.{arith}
 use lib.ListN.{length, take, replicate}
@@ -11,8 +11,8 @@ use Rattle.tokens.specs.declared.token.Token.the-variants as token
 use Rattle.tree.specs.Tree.{nowhere, Head, Node, node, Nodes, end, _▸_, _⧺_, count}
 use Rattle.tree.specs.Words.{encode, encodes, encodeItem, encodeItems}
 use Rattle.reading.specs.Stop.{Stop}
-use Rattle.reading.specs.Entries.{Entry, is}
-use Rattle.reading.specs.Reading.{State, advance, level, intermediates, unscripted, prefixes, parse, lastOf}
+use Rattle.reading.specs.Entries.{Entry}
+use Rattle.reading.specs.Reading.{State, level, intermediates, unscripted, prefixes, parse, lastOf}
 use Rattle.parse.specs.declared.cursor.Cursor.{Cursor}
 use Rattle.parse.specs.declared.cursor.Items.{Items}
 use Rattle.records.specs.Record.{afterClose, sepOf, marksOf, kindOf, startOf, lenOf, InHalf, Whole, withClose, withSep, Kept}
@@ -26,8 +26,8 @@ use Rattle.parse.proofs.Scripting.{count-append}
 use Rattle.parse.proofs.Loop.{encodeItems-append}
 use Rattle.reading_words.specs.Entry.{Safe}
 use Rattle.reading_words.specs.Meet.{Input, Row, Given, Marks, At, Known, isNone}
-use Rattle.reading_words.proofs.Kit.{bind, ret, tick, at-tick, same-kind, same-start, same-len, same-row, Places, safe-same, safe-kept, took, passed, test-kind, same-is}
-use Rattle.reading_words.proofs.Steps.{absurd-bool, last-join, no-first, no-sign, some-after}
+use Rattle.reading_words.proofs.Kit.{tick, at-tick, same-kind, same-start, same-len, same-row, Places, safe-same, safe-kept, took, passed, test-kind, same-is}
+use Rattle.reading_words.proofs.Steps.{absurd-bool, last-join, no-first, no-sign, parse-drop, parse-open, parse-wrap, some-after}
 
 -- A wrap noted: only two fields of its closing bracket change.
 module _ (K : List ℕ) (i a k : ℕ) where
@@ -100,21 +100,6 @@ wraps-same : (t : List ℕ) {K L : List ℕ} (ws : List Wrap) → Places K L →
 unfolding wrapsWords
 wraps-same t [] p = refl
 wraps-same t (w ∷ ws) p = rw (same-start t p (w .closer), same-len t p (w .closer), wraps-same t ws p)
-
--- one turn of the definition
-module _ (X : List ℕ) (es : List Entry) (f : ℕ) (acc l : Nodes) (s t u : State)
-    (run : intermediates X es true (level X es true 256) (suc (length es)) none Stop.none (lastOf acc) s ≡ (l, t)) where
-  parse-open : (w : ℕ) → advance X es (is token.CloseBracket) t ≡ (none, u) → parse X es true (suc f) w acc s ≡ (acc ⧺ l, u)
-  unfolding parse
-  parse-open w h = bind _ _ s run ∙ bind _ _ t h ∙ ret _ _
-
-  parse-drop : (c : Entry) → advance X es (is token.CloseBracket) t ≡ (some c, u) → parse X es true (suc f) zero acc s ≡ parse X es true f zero (acc ⧺ l) u
-  unfolding parse
-  parse-drop c h = bind _ _ s run ∙ bind _ _ t h
-
-  parse-wrap : (w : ℕ) (c : Entry) → advance X es (is token.CloseBracket) t ≡ (some c, u) → parse X es true (suc f) (suc w) acc s ≡ parse X es true f w (unscripted (node (Head.group nowhere (c .span)) (acc ⧺ l)) ▸ end) u
-  unfolding parse
-  parse-wrap w c h = bind _ _ s run ∙ bind _ _ t h
 
 -- the words of a wrap
 one-item : (x : Node) → encodeItems (x ▸ end) ≡ encodeItem x

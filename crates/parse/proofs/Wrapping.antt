@@ -142,12 +142,6 @@ wrapped-all {t = t} {K = K} {wraps = wraps} x stp {y = y} {z = z} w ly h p hz =
     rw (e, hz) (fill 0 (wrapsWords t K (p .list)) w (omega (arith, wraps-length t K (p .list), p .number)) (omega arith) .body)
 
 -- The whole reading.
-pub small-takes : (X : List ℕ) (es : List Entry) → length es ≤ 4096 → (parseEntries X es true) .1 .takes % 2 ^ 32 ≡ (parseEntries X es true) .1 .takes
-small-takes X es h =
-    let q : suc (length es) ≤ 4097 = omega arith in
-    let m : suc (length es) * suc (length es) ≤ 4097 * 4097 = mul-le-mul q q in
-    mod-eq-of-lt (omega (arith, takes-bound X es, m))
-
 pub parsed : {X t : List ℕ} {n : ℕ} {K L y v : List ℕ} {g : Wrapped} {len e : ℕ} (z : List ℕ) → n ≤ 4096 → g .cur .takes < 2 ^ 32 → (p : Topped X t n K L y g) → e ≡ g .end + 13 * g .wraps
     → take (g .end + 13 * g .wraps) z ≡ wrapsWords t L (p .noted .list) ++ take (g .end) y → length y ≡ len → length z ≡ len → v ≡ take e z ++ replicate (length z - e) 0
     → (I : Input) → Given X t n K I → (m : List Bool) → Marks n K m → Reads I m len v (record { takes = g .cur .takes; end = e; items = g .count })

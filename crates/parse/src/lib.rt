@@ -6,8 +6,8 @@ mod tests;
 mod top;
 mod write;
 
-use entries::Prepared;
-use entries::prepare;
+use closers_pass::top::Pass;
+use closers_pass::top::pair_list;
 use lists::Checked;
 use lists::check_list;
 use room::Room;
@@ -16,11 +16,13 @@ use room::lacking;
 use room::room_for;
 use tokenizer::TokenizedUnder;
 use tokenizer::tokenize_under;
-use top::parse_entries;
+use top::build_tree;
 ghost use mathlib.Core.Path.{_≡_};
 ghost use mathlib.Core.Option.{none};
+ghost use mathlib.Core.List.{[], _∷_};
+ghost use lib.Dec.{eqb};
 ghost use lib.ListN.{length};
-ghost use Rattle.tokens.specs.Refusals.{listRefusal, roomRefusal};
+ghost use Rattle.tokens.specs.Refusals.{accepted, bit, listRefusal, roomRefusal};
 ghost use Rattle.tokens.specs.Table.{tokenList, countOthers};
 ghost use Rattle.parse.specs.Call.{answerOf, listAnswerOf, parsedText, parsedTokens};
 
@@ -43,7 +45,19 @@ pub enum ParsedTokens {
     Refused(u8),
 }
 
-// The reading of an accepted list for which the buffers are long enough.
+// What is answered of a reading.
+fn answer(takes: u32, items: u32) -> ParsedTokens
+    ensures { λ r. ⌜ listAnswerOf r ≡ accepted (takes ∷ items ∷ bit (eqb items 0) ∷ []) ⌝ }
+{
+    ParsedTokens::Read {
+        takes: takes as u64,
+        items: items,
+        blank: items == 0,
+    }
+}
+
+// The reading of an accepted list for which the buffers are long enough: the bracket pass, which decides every attempt, and the second
+// part from its marks.
 fn read_list(
     text: &[u8],
     table: &[u32],
@@ -59,16 +73,17 @@ fn read_list(
         ≡ parsedTokens (now (text .entry)) (now (table .entry)) count (now (work .entry)) (now (tree .entry))
         ⌝ }
 {
-    match prepare(table, count, work) {
-        Prepared::Refused(k) => ParsedTokens::Refused(k),
-        Prepared::Entries(n) => {
-            let r = parse_entries(text, table, n, work, tree);
-            ParsedTokens::Read {
-                takes: r.takes,
-                items: r.items,
-                blank: r.items == 0,
-            }
+    match pair_list(text, table, count, false, work) {
+        Pass::Read { entries, takes } => {
+            let r = build_tree(text, table, entries, work, tree);
+            answer(takes, r.items)
         }
+        // no attempt to make: the second part alone is the whole reading
+        Pass::Plain(n) => {
+            let r = build_tree(text, table, n, work, tree);
+            answer(r.takes, r.items)
+        }
+        Pass::Refused(k) => ParsedTokens::Refused(k),
     }
 }
 

@@ -3,10 +3,8 @@ use crate::cursor::Cursor;
 use crate::readers::extend;
 use crate::write::put1;
 use crate::write::put6;
-use brackets::has_attempts;
 use buffer::clear_from;
 use buffer::shift;
-use closers_pass::top::pair_entries;
 use fields::after_close;
 use fields::sep_of;
 use lookahead::tests::is_at;
@@ -19,18 +17,17 @@ use tree::kinds::NODE_GROUP;
 use tree::kinds::NODE_SIMPLE;
 ghost use mathlib.Core.Path.{_≡_};
 ghost use mathlib.Core.List.{List, _++_};
-ghost use mathlib.Core.Bool.{Bool, false};
+ghost use mathlib.Core.Bool.{Bool};
 ghost use Prim.Native.Nat.{_+_, _*_, _≤_};
 ghost use lib.ListN.{length, take, replicate};
 ghost use lib.Seq.{sets};
 ghost use Rattle.records.specs.Record.{sepOf, startOf, lenOf, withClose, withSep};
-ghost use Rattle.closers_pass.specs.Top.{Blank};
 ghost use Rattle.parse.specs.Top.{Noted, wrapWords, wrapsWords, TopReady, Topped, Reads};
 ghost use Rattle.reading_words.specs.Entry.{Placed};
 ghost use Rattle.reading_words.specs.Meet.{Input, Given, Marks};
 
 pub(crate) struct Reading {
-    pub takes: u64,
+    pub takes: u32,
     pub end: usize,
     pub items: u32,
 }
@@ -44,6 +41,9 @@ pub(crate) struct Wrapped {
     pub last: usize,
 }
 
+// A closing bracket that nothing opened closes all before it so many times at most.
+const MOST_WRAPS: usize = 256;
+
 // Notes the wrap of `count` items that the closing bracket at i makes; the one before it is `last`.
 fn note_wrap(work: &mut [u32], i: usize, last: usize, count: u32)
     requires { ⌜ last ≤ 4096 ⌝ }
@@ -53,7 +53,7 @@ fn note_wrap(work: &mut [u32], i: usize, last: usize, count: u32)
     set_sep(work, i, count);
 }
 
-// All items; a closing bracket that nothing opened closes all before it, 256 times at most.
+// All items; a closing bracket that nothing opened closes all before it.
 fn read_items(text: &[u8], tok: &[u32], n: usize, work: &mut [u32], tree: &mut [u32]) -> Wrapped
     requires { ⌜ TopReady n (now text) (now tok) (now work) (now tree) ⌝ }
     ensures { λ r. ⌜ Topped (now (text .entry)) (now (tok .entry)) n (now (work .entry)) (now (work .exit)) (now (tree .exit)) r ⌝ }
@@ -79,7 +79,7 @@ fn read_items(text: &[u8], tok: &[u32], n: usize, work: &mut [u32], tree: &mut [
         sign = run.sign;
         if is_at(tok, work, n, at, CLOSE_BRACKET) {
             cur = rc.next();
-            if wraps < 256 {
+            if wraps < MOST_WRAPS {
                 note_wrap(work, at, last, count);
                 last = at;
                 count = 1;
@@ -160,7 +160,13 @@ fn wrap_items(
 }
 
 // The second part: the tree's words, read from the marks in the records, zeros behind them, and the work words all zero.
-fn build_tree(text: &[u8], tok: &[u32], n: usize, work: &mut [u32], tree: &mut [u32]) -> Reading
+pub(crate) fn build_tree(
+    text: &[u8],
+    tok: &[u32],
+    n: usize,
+    work: &mut [u32],
+    tree: &mut [u32],
+) -> Reading
     requires { ⌜ TopReady n (now text) (now tok) (now work) (now tree) ⌝ }
     ensures { λ r. ⌜ ((I : Input) → Given (now (text .entry)) (now (tok .entry)) n (now (work .entry)) I → (m : List Bool) → Marks n (now (work .entry)) m → Reads I m (length (now (tree .entry))) (now (tree .exit)) r) ⌝ }
     ensures { λ r. ⌜ now (work .exit) ≡ replicate (length (now (work .entry))) 0 ⌝ }
@@ -172,34 +178,8 @@ fn build_tree(text: &[u8], tok: &[u32], n: usize, work: &mut [u32], tree: &mut [
     clear_from(tree, end);
     clear_from(work, 0);
     Reading {
-        takes: cur.takes as u64,
+        takes: cur.takes,
         end: end,
         items: run.count,
-    }
-}
-
-// The whole reading of the entries: the bracket pass, which decides every attempt, and the second part from its marks. With no attempt
-// to make there is nothing to decide, and the second part counts the takes.
-pub(crate) fn parse_entries(
-    text: &[u8],
-    tok: &[u32],
-    n: usize,
-    work: &mut [u32],
-    tree: &mut [u32],
-) -> Reading
-    requires { ⌜ TopReady n (now text) (now tok) (now work) (now tree) ⌝ }
-    requires { ⌜ Blank n (now work) ⌝ }
-    ensures { λ r. ⌜ ((I : Input) → Given (now (text .entry)) (now (tok .entry)) n (now (work .entry)) I → Reads I (replicate (3 * n) false) (length (now (tree .entry))) (now (tree .exit)) r) ⌝ }
-    ensures { λ r. ⌜ now (work .exit) ≡ replicate (length (now (work .entry))) 0 ⌝ }
-{
-    if !has_attempts(text, tok, work, n) {
-        return build_tree(text, tok, n, work, tree);
-    }
-    let takes = pair_entries(text, tok, n, work);
-    let r = build_tree(text, tok, n, work, tree);
-    Reading {
-        takes: takes as u64,
-        end: r.end,
-        items: r.items,
     }
 }

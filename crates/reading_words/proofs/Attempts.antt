@@ -76,9 +76,6 @@ mark-is {l = l} (openMark Stop.none) i q h = ap (λ (w : ℕ). isMarked w 1) (q 
 mark-is {l = l} (openMark Stop.sep) i q h = ap (λ (w : ℕ). isMarked w 2) (q .words i h) ∙ (marks-second (getD l (3 * i) false) (getD l (3 * i + 1) false) (getD l (3 * i + 2) false)) .0
 mark-is {l = l} matrixMark i q h = ap (λ (w : ℕ). isMarked w 4) (q .words i h) ∙ (marks-third (getD l (3 * i) false) (getD l (3 * i + 1) false) (getD l (3 * i + 2) false)) .0
 
-pub mark-below : {n : ℕ} {K : List ℕ} {l : List Bool} (i : ℕ) → Marks n K l → i < n → marksOf K i < 8
-mark-below {l = l} i q h = omega (arith, q .words i h, marks-small (getD l (3 * i) false) (getD l (3 * i + 1) false) (getD l (3 * i + 2) false))
-
 -- a failed attempt sets it
 module _ (l : List Bool) (p : ℕ) where
   here-true : p < length l → getD (set l p true) p false ≡ true

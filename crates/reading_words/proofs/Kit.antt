@@ -58,14 +58,14 @@ if-false m n s h = rw h
 abbrev pub tick : State → State
 tick s = record { pos = suc (s .pos); takes = suc (s .takes); marks = s .marks; closers = s .closers }
 
-abbrev pub peek : State → State
+abbrev peek : State → State
 peek s = record { pos = s .pos; takes = suc (s .takes); marks = s .marks; closers = s .closers }
 
 pub advance-took : (text : List ℕ) (es : List Entry) (ok : Entry → Bool) (s : State) (e : Entry) → getElem? es (s .pos) ≡ some e → ok e ≡ true → advance text es ok s ≡ (some e, tick s)
 unfolding advance
 advance-took text es ok s e h k = rw (advance, h, k)
 
-pub advance-passed : (text : List ℕ) (es : List Entry) (ok : Entry → Bool) (s : State) (e : Entry) → getElem? es (s .pos) ≡ some e → ok e ≡ false → advance text es ok s ≡ (none, peek s)
+advance-passed : (text : List ℕ) (es : List Entry) (ok : Entry → Bool) (s : State) (e : Entry) → getElem? es (s .pos) ≡ some e → ok e ≡ false → advance text es ok s ≡ (none, peek s)
 unfolding advance
 advance-passed text es ok s e h k = rw (h, advance, k)
 
@@ -152,9 +152,6 @@ module _ {X t : List ℕ} {n : ℕ} {K : List ℕ} {I : Input} {s : State} where
   pub at-shut : {p u : ℕ} (i : ℕ) → At X t n K p u I s → At X t n K p u I (shut i s)
   at-shut i a = record { given = a .given; marks = a .marks; pos = a .pos; takes = a .takes }
 
-  pub known-of : {p u : ℕ} → At X t n K p u I s → Known X t n K
-  known-of a = record { input = I; marked = s .marks; given = a .given; marks = a .marks }
-
 -- some state stands at any position
 pub some-at : {X t : List ℕ} {n : ℕ} {K : List ℕ} (k : Known X t n K) (p u : ℕ) → At X t n K p u (k .input) (record { pos = p; takes = u; marks = k .marked; closers = [] })
 some-at k p u = record { given = k .given; marks = k .marks; pos = refl; takes = refl }
@@ -217,7 +214,7 @@ module _ {X t : List ℕ} {n : ℕ} {K : List ℕ} {I : Input} {s : State} {p u 
           record { state = s; runs = advance-end (I .text) (I .es) ok s (past (I .es) (s .pos) (omega (arith, a .pos, a .given .size))); at = record { given = a .given; marks = a .marks; pos = a .pos; takes = rw e (a .takes) }; closers = refl }
 
 -- Each of the definition's tests, by number.
-pub eqb-sym : (a b : ℕ) → eqb a b ≡ eqb b a
+eqb-sym : (a b : ℕ) → eqb a b ≡ eqb b a
 eqb-sym a b = go (eqb a b) refl
   where
     go : (r : Bool) → eqb a b ≡ r → r ≡ eqb b a

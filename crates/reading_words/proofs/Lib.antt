@@ -4,3 +4,4 @@ pub mod Attempts
 pub mod Records
 pub mod Plain
 pub mod Steps
+pub mod Matrices

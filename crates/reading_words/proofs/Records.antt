@@ -1,10 +1,11 @@
--- The records of an accepted list stand for its entries, with no mark set.
-use Prim.Native.Nat.{ℕ, zero, suc, _+_, _*_, _≤_, _<_}
+-- The records of a list that has its words in the table stand for its entries, with no mark set.
+use Prim.Native.Nat.{ℕ, zero, suc, _+_, _*_, _%_, _^_, _≤_, _<_}
 use mathlib.Core.Path.{_≡_, refl, sym, ap, _∙_}
 use mathlib.Core.Bool.{Bool, true, false, cond}
 use mathlib.Core.List.{List, _++_}
 use mathlib.Core.Option.{Option, none, some}
 use native.Mathlib.Omega.{arith}
+use native.Mathlib.Nat.{mod-eq-of-lt, mul-le-mul}
 use lib.ListN.{length, drop, replicate, getD, length-replicate}
 use borrow.Author.Tests.{eq-eqb}
 use Rattle.tokens.specs.declared.token.Token.the-variants as token
@@ -14,8 +15,9 @@ use Rattle.tokens.specs.Table.{tokenList, countOthers}
 use Rattle.tokens.specs.Refusals.{listRefusal, bit}
 use Rattle.tokens.proofs.TokenList.{others-few}
 use Rattle.tree.specs.Tree.{nowhere}
-use Rattle.reading.specs.Entries.{is, entries, hasSep}
-use Rattle.reading.specs.Reading.{closeOf}
+use Rattle.reading.specs.Entries.{Entry, is, entries, hasSep}
+use Rattle.reading.specs.Reading.{closeOf, parseEntries}
+use Rattle.bounds.proofs.Takes.{takes-bound}
 use Rattle.bounds.proofs.Theorems.{entries-count}
 use Rattle.tokens.proofs.Accepted.{accepted}
 use Rattle.entries.specs.Prepared.{workWords}
@@ -41,13 +43,13 @@ get-false zero j = refl
 get-false (suc k) zero = refl
 get-false (suc k) (suc j) = get-false k j
 
-pub blank-marks : {n : ℕ} {K : List ℕ} (m : ℕ) → ((i : ℕ) → i < n → marksOf K i ≡ 0) → m ≡ n → Marks n K (replicate (3 * m) false)
+blank-marks : {n : ℕ} {K : List ℕ} (m : ℕ) → ((i : ℕ) → i < n → marksOf K i ≡ 0) → m ≡ n → Marks n K (replicate (3 * m) false)
 blank-marks m h e = record { held = length-replicate (3 * m) false ∙ ap (λ (k : ℕ). 3 * k) e; words = λ i l. h i l ∙ sym (rw (get-false (3 * m) (3 * i), get-false (3 * m) (3 * i + 1), get-false (3 * m) (3 * i + 2))) }
 
-module _ (text table : List ℕ) (count : ℕ) (ok : listRefusal text count table ≡ none) (K rest : List ℕ)
+module _ (text table : List ℕ) (count : ℕ) (few : count ≤ 4096) (words : 3 * count ≤ length table) (K rest : List ℕ)
     (work : K ≡ workWords (tokenList count table) ++ rest) where
   at : (i : ℕ) → i < countOthers (tokenList count table) → Recorded count table K (entries nowhere (tokenList count table)) i
-  at i h = let a = accepted text count table ok in recorded count table (λ j l. a .sound j l .kind) (a .few) (a .words) K rest work i h
+  at = recorded count table few words K rest work
 
   pub place : (i : ℕ) → i < countOthers (tokenList count table) → placeOf K i < count
   place i h = at i h .inside
@@ -71,12 +73,11 @@ module _ (text table : List ℕ) (count : ℕ) (ok : listRefusal text count tabl
   pub given : Given text table (countOthers (tokenList count table)) K (inputOf text (tokenList count table))
   given = record { text = refl; size = entries-count nowhere (tokenList count table); stands = stands; linked = linked }
 
-  pub spans : recordWords (countOthers (tokenList count table)) ≤ length K → (i : ℕ) → i < countOthers (tokenList count table) → startOf table K i + lenOf table K i ≤ length text
+  pub spans : listRefusal text count table ≡ none → recordWords (countOthers (tokenList count table)) ≤ length K → (i : ℕ) → i < countOthers (tokenList count table) → startOf table K i + lenOf table K i ≤ length text
   unfolding startOf lenOf
-  spans fit i h =
-      let a = accepted text count table ok in
-      let p : isPlaced table K i ≡ true = is-placed table K i (omega arith) (omega (arith, place i h, a .words)) in
-      rw p (a .sound (placeOf K i) (place i h) .span)
+  spans ok fit i h =
+      let p : isPlaced table K i ≡ true = is-placed table K i (omega arith) (omega (arith, place i h)) in
+      rw p (accepted text count table ok .sound (placeOf K i) (place i h) .span)
 
   pub blank : Marks (countOthers (tokenList count table)) K (replicate (3 * length (entries nowhere (tokenList count table))) false)
   blank = blank-marks (length (entries nowhere (tokenList count table))) (λ i h. at i h .marks) (entries-count nowhere (tokenList count table))
@@ -85,4 +86,11 @@ module _ (text table : List ℕ) (count : ℕ) (ok : listRefusal text count tabl
   no-closer i h = at i h .closer
 
   pub few-entries : length (entries nowhere (tokenList count table)) ≤ 4096
-  few-entries = let a = accepted text count table ok in omega (arith, a .few, others-few count table, entries-count nowhere (tokenList count table))
+  few-entries = omega (arith, others-few count table, entries-count nowhere (tokenList count table))
+
+-- so few entries are read with fewer than 2^32 takes
+pub small-takes : (X : List ℕ) (es : List Entry) → length es ≤ 4096 → (parseEntries X es true) .1 .takes % 2 ^ 32 ≡ (parseEntries X es true) .1 .takes
+small-takes X es h =
+    let q : suc (length es) ≤ 4097 = omega arith in
+    let m : suc (length es) * suc (length es) ≤ 4097 * 4097 = mul-le-mul q q in
+    mod-eq-of-lt (omega (arith, takes-bound X es, m))

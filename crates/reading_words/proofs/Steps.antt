@@ -1,10 +1,10 @@
 -- The definition's steps as equations, and the tests of brackets, bars and rows, as both passes use them.
 use mathlib.Core.Path.{_∙_, _≡_, ap, refl, sym}
 use Rattle.tree.specs.Tree.{Head, Node, Nodes, _▸_, _⧺_, count, end, node, nowhere, one}
-use Prim.Native.Nat.{_+_, _-_, _<_, _≤_, suc, ℕ}
-use Rattle.reading.specs.Reading.{M, Readers, State, Try, _>>=_, advance, alike, any, atOpenClose, barBody, begun, closed, endsFirst, endsOperand, here, if_then_else_, intermediates, isAt, isBar, isByte, lastOf, look, lost, made, moreRows, nextBracket, nextIntermediate, nextMatrixRow, nextOpenCloseGroup, nextScriptFunc, nought, openMark, prefixes, return, rowBrackets, rowCells, sameText, spaced, textOf, tryMatrix, unscripted}
+use Prim.Native.Nat.{_+_, _-_, _<_, _≤_, suc, zero, ℕ}
+use Rattle.reading.specs.Reading.{M, Readers, State, Try, _>>=_, advance, alike, any, atOpenClose, barBody, begun, closed, endsFirst, endsOperand, here, if_then_else_, intermediates, isAt, isBar, isByte, lastOf, level, look, lost, made, moreRows, nextBracket, nextIntermediate, nextMatrixRow, nextOpenCloseGroup, nextScriptFunc, nought, openMark, parse, prefixes, return, rowBrackets, rowCells, sameText, spaced, textOf, tryMatrix, unscripted}
 use mathlib.Core.Option.{Option, none, some}
-use Rattle.reading_words.specs.Meet.{Given, Input, Row, Until, bracketAt, intermediateAt, isNone, isPair, itemsAt, itemsFrom, lastAfter, linkNumber, readers, scriptFuncAt, stopOf}
+use Rattle.reading_words.specs.Meet.{Given, Input, Row, Until, bracketAt, intermediateAt, isNone, isPair, itemsAt, itemsFrom, lastAfter, readers, scriptFuncAt, stopOf}
 use mathlib.Core.List.{List, [], _∷_, _++_, append-assoc}
 use Rattle.reading.specs.Entries.{Entry, is}
 use Rattle.spans.specs.Spans.{byteAt, sameAt}
@@ -14,7 +14,7 @@ use borrow.Author.Tests.{eq-eqb, eqb-false, eqb-true, le-ltb, lt-ltb, ltb-false,
 use Rattle.lookahead.specs.Tests.{beginsKind, isKind, testAt}
 use lib.Dec.{eqb, ltb}
 use Rattle.reading_words.proofs.Kit.{at-here, at-none, at-some, bind, if-false, if-true, level-scriptFunc, past, places-kept, ret, row-of, same-is, same-kind, same-len, same-start, test-in, test-out}
-use Rattle.brackets.specs.Brackets.{barAt, closesAt, makesAt, setAt}
+use Rattle.brackets.specs.Brackets.{barAt}
 use lib.ListN.{getElem?, length}
 use native.Mathlib.Omega.{arith}
 use Rattle.tokens.specs.declared.token.Token.the-variants as token
@@ -41,7 +41,7 @@ nodes-nil (x ▸ l) = ap (λ (w : Nodes). x ▸ w) (nodes-nil l)
 abbrev pub joined : Nodes → Nodes × State → Nodes × State
 joined acc r = (acc ⧺ r .0, r .1)
 
-pub last-append : (b : Option Node) (l m : Nodes) → lastAfter b (l ⧺ m) ≡ lastAfter (lastAfter b l) m
+last-append : (b : Option Node) (l m : Nodes) → lastAfter b (l ⧺ m) ≡ lastAfter (lastAfter b l) m
 last-append b end m = refl
 last-append b (x ▸ l) m = last-append (some x) l m
 
@@ -52,7 +52,7 @@ pub rejoin : (acc nodes : Nodes) (x : Node) (l : Nodes) → acc ⧺ (nodes ⧺ (
 rejoin acc nodes x l = ap (λ (w : Nodes). acc ⧺ w) (sym (nodes-assoc nodes (x ▸ end) l)) ∙ sym (nodes-assoc acc (nodes ⧺ (x ▸ end)) l)
 
 -- The code's tests of texts.
-pub same-text : {X t K : List ℕ} {i j : ℕ} (text : List ℕ) (es : List Entry) (a b : Entry) → text ≡ X → Row t K i a → Row t K j b → sameText text es (a .span) (b .span) ≡ sameAt X t K i j
+same-text : {X t K : List ℕ} {i j : ℕ} (text : List ℕ) (es : List Entry) (a b : Entry) → text ≡ X → Row t K i a → Row t K j b → sameText text es (a .span) (b .span) ≡ sameAt X t K i j
 unfolding sameText textOf sameAt
 same-text text es a b h r q = rw (h, r .start, r .len, q .start, q .len)
 
@@ -60,11 +60,11 @@ pub and-pick : (a b : Bool) → (a && b) ≡ cond a b false
 and-pick true b = refl
 and-pick false b = refl
 
-pub bar-in : (X t K : List ℕ) (n i j : ℕ) → i < n → j < n → barAt X t K n i j ≡ cond (eqb (kindOf t K j) 22) (sameAt X t K i j) false
+bar-in : (X t K : List ℕ) (n i j : ℕ) → i < n → j < n → barAt X t K n i j ≡ cond (eqb (kindOf t K j) 22) (sameAt X t K i j) false
 unfolding barAt
 bar-in X t K n i j h k = rw (lt-ltb i n h, test-in t K n (isKind 22) j k)
 
-pub bar-out : (X t K : List ℕ) (n i j : ℕ) → n ≤ j → barAt X t K n i j ≡ false
+bar-out : (X t K : List ℕ) (n i j : ℕ) → n ≤ j → barAt X t K n i j ≡ false
 unfolding barAt
 bar-out X t K n i j h = go (ltb i n)
   where
@@ -72,7 +72,7 @@ bar-out X t K n i j h = go (ltb i n)
     go true = rw (test-out t K n (isKind 22) j h)
     go false = refl
 
-pub bar-none : (X t K : List ℕ) (n i j : ℕ) → n ≤ i → barAt X t K n i j ≡ false
+bar-none : (X t K : List ℕ) (n i j : ℕ) → n ≤ i → barAt X t K n i j ≡ false
 unfolding barAt
 bar-none X t K n i j h = rw (le-ltb i n h)
 
@@ -93,7 +93,7 @@ bar-is {X} {t} {n} {K} {I} i p o g h there = go (ltb p n) refl
         ∙ sym (bar-in X t K n i p h l)
     go false e = at-none (I .text) (I .es) _ p (past (I .es) p (omega (arith, ltb-false p n e, g .size))) ∙ sym (bar-out X t K n i p (ltb-false p n e))
 
-pub until-is : {X t : List ℕ} {n : ℕ} {K : List ℕ} (u : ℕ) (I : Input) (until : Option Entry) (p : ℕ) → Given X t n K I → Until n I u until → atOpenClose (I .text) (I .es) until p ≡ barAt X t K n u p
+until-is : {X t : List ℕ} {n : ℕ} {K : List ℕ} (u : ℕ) (I : Input) (until : Option Entry) (p : ℕ) → Given X t n K I → Until n I u until → atOpenClose (I .text) (I .es) until p ≡ barAt X t K n u p
 unfolding atOpenClose
 until-is {X} {t} {n} {K} u I none p g h = sym (bar-none X t K n u p h)
 until-is u I (some o) p g h = bar-is u p o g (h .0) (h .1)
@@ -145,7 +145,7 @@ is-at-is {X} {t} {n} {K} {I} k p g = go (ltb p n) refl
         at-some (I .text) (I .es) (is k) p (q .entry) (q .there) ∙ same-is k (q .entry) ∙ ap (λ (w : ℕ). eqb w (numberOf k)) (sym (q .row .kind)) ∙ sym (test-in t K n (isKind (numberOf k)) p l)
     go false e = at-none (I .text) (I .es) (is k) p (past (I .es) p (omega (arith, ltb-false p n e, g .size))) ∙ sym (test-out t K n (isKind (numberOf k)) p (ltb-false p n e))
 
-pub one-byte : (s : List ℕ) (a b : ℕ) → (a ≡ b → ⊥) → same s (a ∷ []) ≡ true → same s (b ∷ []) ≡ false
+one-byte : (s : List ℕ) (a b : ℕ) → (a ≡ b → ⊥) → same s (a ∷ []) ≡ true → same s (b ∷ []) ≡ false
 unfolding same
 one-byte [] a b d h = refl
 one-byte (c ∷ s) a b d h = go (eqb c a) refl h
@@ -229,26 +229,6 @@ pub row-taken : (I : Input) (R : Readers) (s u : State) (o : Entry) (q : Option 
     → nextMatrixRow (I .text) (I .es) true R s ≡ elim q as (λ _. M (Option reading.Row)) [ none ↦ return none | some m ↦ closed (s .pos) (some (record { left = o; right = m .1; cells = m .0 })) ] v
 unfolding nextMatrixRow
 row-taken I R s u o q v h k r = bind _ _ s (at-here s) ∙ bind _ _ s h ∙ if-true _ _ u k ∙ bind _ _ u r
-
--- The gate and the last test, as the definition's.
-pub eqb-suc : (a b : ℕ) → eqb (suc a) (b + 1) ≡ eqb a b
-eqb-suc a b = go (eqb a b) refl
-  where
-    go : (r : Bool) → eqb a b ≡ r → eqb (suc a) (b + 1) ≡ r
-    go true h = eq-eqb (suc a) (b + 1) (omega (arith, eqb-true a b h))
-    go false h = ne-eqb (suc a) (b + 1) (λ z. eqb-false a b h (omega arith))
-
-pub linked-to : (j : ℕ) (q : Option ℕ) → elim q as (λ _. Bool) [ none ↦ false | some k ↦ eqb k j ] ≡ eqb (linkNumber q) (j + 1)
-linked-to j none = sym (ne-eqb 0 (j + 1) (λ z. omega arith))
-linked-to j (some k) = sym (eqb-suc k j)
-
-pub makes-below : (X t K : List ℕ) (n i l k p : ℕ) → makesAt X t K n i l k p ≡ true → p < n
-unfolding makesAt
-makes-below X t K n i l k p h = go (ltb p n) refl h
-  where
-    go : (b : Bool) → ltb p n ≡ b → cond b (cond (setAt X t K l p) false (cond (ltb 1 k) (closesAt X t K n i p) false)) false ≡ true → p < n
-    go true e q = ltb-true p n e
-    go false e q = let z : _≡_ {A = ℕ} 0 1 = cc in absurd (omega arith)
 
 pub number-open : (stop : Bool) → markNumber (openMark (stopOf stop)) ≡ marks.openMark stop
 number-open true = refl
@@ -401,13 +381,28 @@ module _ (d : ℕ) (stop sg : Bool) (deep : d < 256) where
   pub script-runs : (I : Input) (s : State) {r : Option Node × State} → nextScriptFunc (I .text) (I .es) true (readers (d + 1) I) (stopOf stop) sg s ≡ r → scriptFuncAt d stop sg I s ≡ r
   script-runs I s h = ap (λ (f : Stop → Bool → M (Option Node)). f (stopOf stop) sg s) (level-scriptFunc I d deep) ∙ h
 
+-- one turn of the definition's loop over all items
+module _ (X : List ℕ) (es : List Entry) (f : ℕ) (acc l : Nodes) (s t u : State)
+    (run : intermediates X es true (level X es true 256) (suc (length es)) none Stop.none (lastOf acc) s ≡ (l, t)) where
+  pub parse-open : (w : ℕ) → advance X es (is token.CloseBracket) t ≡ (none, u) → parse X es true (suc f) w acc s ≡ (acc ⧺ l, u)
+  unfolding parse
+  parse-open w h = bind _ _ s run ∙ bind _ _ t h ∙ ret _ _
+
+  pub parse-drop : (c : Entry) → advance X es (is token.CloseBracket) t ≡ (some c, u) → parse X es true (suc f) zero acc s ≡ parse X es true f zero (acc ⧺ l) u
+  unfolding parse
+  parse-drop c h = bind _ _ s run ∙ bind _ _ t h
+
+  pub parse-wrap : (w : ℕ) (c : Entry) → advance X es (is token.CloseBracket) t ≡ (some c, u) → parse X es true (suc f) (suc w) acc s ≡ parse X es true f w (unscripted (node (Head.group nowhere (c .span)) (acc ⧺ l)) ▸ end) u
+  unfolding parse
+  parse-wrap w c h = bind _ _ s run ∙ bind _ _ t h
+
 -- The last item.
-pub last-is : (b : Node) (l : Nodes) → lastOf (b ▸ l) ≡ lastAfter (some b) l
+last-is : (b : Node) (l : Nodes) → lastOf (b ▸ l) ≡ lastAfter (some b) l
 unfolding lastOf
 last-is b end = refl
 last-is b (x ▸ l) = last-is x l
 
-pub last-of : (l : Nodes) → lastOf l ≡ lastAfter none l
+last-of : (l : Nodes) → lastOf l ≡ lastAfter none l
 unfolding lastOf
 last-of end = refl
 last-of (x ▸ l) = last-is x l

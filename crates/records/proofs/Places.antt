@@ -36,10 +36,10 @@ module _ (t : List ℕ) (j k : ℕ) where
   unfolding spaceWord
   space-first h = rw (eq-eqb j 0 h)
 
-  pub space-there : (j ≡ 0 → ⊥) → getD t (3 * (j - 1) + 2) 0 ≡ 23 → spaceWord t j k ≡ getD t (3 * (j - 1) + k) 0
+  pub space-there : (j ≡ 0 → ⊥) → 23 ≤ getD t (3 * (j - 1) + 2) 0 → spaceWord t j k ≡ getD t (3 * (j - 1) + k) 0
   unfolding spaceWord
-  space-there h e = rw (ne-eqb j 0 h, eq-eqb _ _ e)
+  space-there h e = rw (ne-eqb j 0 h, le-ltb _ _ e)
 
-  pub space-absent : (j ≡ 0 → ⊥) → (getD t (3 * (j - 1) + 2) 0 ≡ 23 → ⊥) → spaceWord t j k ≡ 0
+  pub space-absent : (j ≡ 0 → ⊥) → getD t (3 * (j - 1) + 2) 0 < 23 → spaceWord t j k ≡ 0
   unfolding spaceWord
-  space-absent h e = rw (ne-eqb j 0 h, ne-eqb _ _ e)
+  space-absent h e = rw (ne-eqb j 0 h, lt-ltb _ _ e)

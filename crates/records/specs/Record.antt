@@ -122,9 +122,9 @@ startOf t K i = cond (isPlaced t K i) (getD t (3 * placeOf K i) 0) 0
 unfoldable pub lenOf : List ℕ → List ℕ → ℕ → ℕ
 lenOf t K i = cond (isPlaced t K i) (getD t (3 * placeOf K i + 1) 0) 0
 
--- a word of the Space directly before the token j, or 0
+-- a word of the Space directly before the token j, or 0; as in a token list, a number above 23 is a Space's too
 unfoldable pub spaceWord : List ℕ → ℕ → ℕ → ℕ
-spaceWord t j k = cond (eqb j 0) 0 (cond (eqb (getD t (3 * (j - 1) + 2) 0) 23) (getD t (3 * (j - 1) + k) 0) 0)
+spaceWord t j k = cond (eqb j 0) 0 (cond (ltb (getD t (3 * (j - 1) + 2) 0) 23) 0 (getD t (3 * (j - 1) + k) 0))
 
 unfoldable pub spaceStart : List ℕ → List ℕ → ℕ → ℕ
 spaceStart t K i = cond (isPlaced t K i) (spaceWord t (placeOf K i) 0) 0

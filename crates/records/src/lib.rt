@@ -1,4 +1,4 @@
-// The record of an entry, a token other than Space, in the work words: docs/LAYOUT.md. Its token, the Space before it, and the halves of
+// The record of an entry, a token other than Space, in the work words: docs/LAYOUT.md. Its token, the Space before it, and the bits of
 // its words.
 pub mod bits;
 pub mod record;

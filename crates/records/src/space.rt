@@ -8,7 +8,7 @@ ghost use Prim.Native.Nat.{_+_, _*_, _<_};
 ghost use lib.ListN.{length};
 ghost use Rattle.records.specs.Record.{placeOf, isPlaced, spaceWord, spaceStart, spaceLen};
 
-// A word of the Space directly before the token j, or 0.
+// A word of the Space directly before the token j, or 0. A number above that of a Space stands for one too.
 fn space_word(tok: &[u32], j: usize, k: usize) -> u32
     requires { ⌜ 3 * j + 2 < length (now tok) ⌝ }
     requires { ⌜ k < 2 ⌝ }
@@ -16,10 +16,10 @@ fn space_word(tok: &[u32], j: usize, k: usize) -> u32
 {
     if j == 0 {
         0
-    } else if tok[3 * (j - 1) + 2] == SPACE {
-        tok[3 * (j - 1) + k]
-    } else {
+    } else if tok[3 * (j - 1) + 2] < SPACE {
         0
+    } else {
+        tok[3 * (j - 1) + k]
     }
 }
 

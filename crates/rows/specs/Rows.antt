@@ -1,4 +1,4 @@
--- What the readers ask of the brackets of rows, by their texts. X is the text, t are the words of the token table, K the work words.
+-- What the readers ask of the brackets of rows, by their texts, and of the number of cells. X is the text, t are the words of the token table, K the work words.
 use Prim.Native.Nat.{ℕ}
 use mathlib.Core.List.{List}
 use mathlib.Core.Bool.{Bool, false, cond}

@@ -33,8 +33,8 @@ pub fn is_pair(
     false
 }
 
-// A number of cells that is above 1 exactly if the rows are all read and the matrix's is: with one row, of so many columns, of which
-// some are no lines.
+// Above 1 exactly if all rows are read and the matrix has more than one cell: two rows have always; one row has the cells that are no
+// lines, or all its cells if all are lines.
 pub fn cells_left(done: bool, more: bool, cols: usize, kept: usize) -> usize
     ensures { λ r. ⌜ r ≡ cellsLeft done more cols kept ⌝ }
 {

@@ -264,6 +264,9 @@ module _ (K : List ℕ) (i v : ℕ) where
   unfolding closerOf
   closer-of-marks = field-beside 1 Marks K i v (omega arith) Closer tt 1
 
+  pub marks-beyond : (x : ℕ) → recordWords (i + 1) ≤ x → getD (withMarks K i v) x 0 ≡ getD K x 0
+  marks-beyond = field-beyond 1 Marks K i v (omega arith)
+
   -- Another closer.
   pub closer-length : length (withCloser K i v) ≡ length K
   closer-length = field-length 1 Closer K i v
@@ -291,6 +294,9 @@ module _ (K : List ℕ) (i v : ℕ) where
   pub marks-of-closer : (j : ℕ) → marksOf (withCloser K i v) j ≡ marksOf K j
   unfolding marksOf
   marks-of-closer = field-beside 1 Closer K i v (omega arith) Marks tt 1
+
+  pub closer-beyond : (x : ℕ) → recordWords (i + 1) ≤ x → getD (withCloser K i v) x 0 ≡ getD K x 0
+  closer-beyond = field-beyond 1 Closer K i v (omega arith)
 
 -- a closer is stored by its low bits
 pub closer-low : (K : List ℕ) (i v : ℕ) → withCloser K i (v % closerSize) ≡ withCloser K i v

@@ -10,10 +10,19 @@ use crate::faults::cut_bytes;
 use crate::faults::first_bytes;
 use crate::faults::first_fault;
 use crate::faults::text_of;
+use closers::PairedText;
 use parse::Parsed;
 use print::Printed;
 use tokenizer::Counted;
 use tokenizer::Tokenized;
+
+pub(crate) enum Call {
+    CountTokens,
+    Tokenize,
+    ClosersText,
+    Parse,
+    Print,
+}
 
 // The refusal that a call answered, or 0.
 fn count_answer(c: Counted) -> u8 {
@@ -27,6 +36,16 @@ fn table_answer(t: Tokenized) -> u8 {
     match t {
         Tokenized::Refused(k) => k,
         Tokenized::Tokens(_) => 0,
+    }
+}
+
+fn closers_answer(p: PairedText) -> u8 {
+    match p {
+        PairedText::Refused(k) => k,
+        PairedText::Found {
+            tokens: _,
+            others: _,
+        } => 0,
     }
 }
 
@@ -63,6 +82,17 @@ fn tokenize(text: &[u8], set: usize) -> u8 {
     kept(number, &table)
 }
 
+fn closers(text: &[u8], set: usize) -> u8 {
+    let mut table = [7u32; 9];
+    let mut out = [7u32; 2];
+    let number = closers_answer(closers::closers_text(
+        text,
+        cut(&mut table, set, 4),
+        cut(&mut out, set, 8),
+    ));
+    kept(kept(number, &table), &out)
+}
+
 fn parse(text: &[u8], set: usize) -> u8 {
     let mut table = [7u32; 9];
     let mut work = [7u32; 6];
@@ -92,22 +122,23 @@ fn print(text: &[u8], set: usize) -> u8 {
 }
 
 // A call on `a b`, or on 4,097 bytes, with buffers one word or byte short, by the set of faults.
-fn ask(call: usize, text: &[u8], set: usize) -> u8 {
+fn ask(call: Call, text: &[u8], set: usize) -> u8 {
     match call {
-        0 => count(text),
-        1 => tokenize(text, set),
-        2 => parse(text, set),
-        _ => print(text, set),
+        Call::CountTokens => count(text),
+        Call::Tokenize => tokenize(text, set),
+        Call::ClosersText => closers(text, set),
+        Call::Parse => parse(text, set),
+        Call::Print => print(text, set),
     }
 }
 
 // A set of faults 1, 2, 7, 8, 9, 10.
-fn try_set(call: usize, set: usize) -> bool {
+fn try_set(call: Call, set: usize) -> bool {
     let text = text_of(set);
     ask(call, first_bytes(&text, set), set) == first_fault(set, &[1, 2, 7, 8, 9, 10])
 }
 
-pub(crate) fn all_sets(call: usize, sets: usize) -> bool {
+pub(crate) fn all_sets(call: Call, sets: usize) -> bool {
     let mut set = 0;
     while set < sets {
         if !try_set(call, set) {

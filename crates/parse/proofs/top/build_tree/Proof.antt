@@ -32,10 +32,7 @@ same-length-2 : tie.Need-same-length-2
 same-length-2 c = search needs
 
 returns : tie.Need-returns
-returns c = let r = c .before .before .before .before .before .before .before .before .before .before .before .before .before .before .before .before .before .before .before .before .before .read-items .ensures in let hy = c .before .before .before .before .before .before .before .before .before .before .before .before .before .before .before .before .before .before .before .before .before .read-items .kept .1 .1 .1 .1 .0 in let z : length (c .before .before .before .before .before .before .before .before .before .before .before .before .before .before .before .before .before .before .before .before .before .read-items .last .1 .1 .1 .0) - 0 ≡ length (c .before .before .before .before .before .before .before .before .before .before .before .before .before .before .before .before .before .before .before .before .before .before .before .before .before .before .before .before .args .work .now) = omega (arith, c .before .before .before .before .before .before .before .before .before .before .before .before .before .before .before .before .before .before .before .before .before .read-items .kept .1 .1 .1 .0) in (parsed (c .before .before .before .before .before .before .before .before .before .before .before .before .before .wrap-items .last .1 .1 .1 .0) (c .before .before .before .before .before .before .before .before .before .before .before .before .before .before .before .before .before .before .before .before .before .before .before .before .before .before .before .before .pre .safe .few) (c .before .before .before .before .before .before .before .before .before .before .struct-known .given .0 .1 .1 .0 .fits) r refl (c .before .before .before .before .before .before .before .before .before .before .before .before .before .wrap-items .ensures (r .noted)) hy (c .before .before .before .before .before .before .before .before .before .before .before .before .before .wrap-items .kept .1 .1 .1 .0 ∙ hy) (c .before .before .before .before .before .before .before .clear-from .ensures), c .before .before .before .clear-from2 .ensures ∙ ap (λ (k : ℕ). replicate k 0) z)
-
-cast-t23 : tie.Need-cast-t23
-cast-t23 c = search needs
+returns c = let r = c .before .before .before .before .before .before .before .before .before .before .before .before .before .before .before .before .before .before .before .before .read-items .ensures in let hy = c .before .before .before .before .before .before .before .before .before .before .before .before .before .before .before .before .before .before .before .before .read-items .kept .1 .1 .1 .1 .0 in let z : length (c .before .before .before .before .before .before .before .before .before .before .before .before .before .before .before .before .before .before .before .before .read-items .last .1 .1 .1 .0) - 0 ≡ length (c .before .before .before .before .before .before .before .before .before .before .before .before .before .before .before .before .before .before .before .before .before .before .before .before .before .before .before .args .work .now) = omega (arith, c .before .before .before .before .before .before .before .before .before .before .before .before .before .before .before .before .before .before .before .before .read-items .kept .1 .1 .1 .0) in (parsed (c .before .before .before .before .before .before .before .before .before .before .before .before .wrap-items .last .1 .1 .1 .0) (c .before .before .before .before .before .before .before .before .before .before .before .before .before .before .before .before .before .before .before .before .before .before .before .before .before .before .before .pre .safe .few) (c .before .before .before .before .before .before .before .before .before .struct-known .given .0 .1 .1 .0 .fits) r refl (c .before .before .before .before .before .before .before .before .before .before .before .before .wrap-items .ensures (r .noted)) hy (c .before .before .before .before .before .before .before .before .before .before .before .before .wrap-items .kept .1 .1 .1 .0 ∙ hy) (c .before .before .before .before .before .before .clear-from .ensures), c .before .before .clear-from2 .ensures ∙ ap (λ (k : ℕ). replicate k 0) z)
 
 pub build-tree-spec : {M : Type 1} → statement M
 build-tree-spec =
@@ -47,7 +44,6 @@ build-tree-spec =
     add-end
     clear-from-requires
     clear-from-requires-2
-    cast-t23
     same-length
     same-length-2
     returns)

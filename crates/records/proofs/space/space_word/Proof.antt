@@ -39,10 +39,10 @@ returns : tie.Need-returns
 returns c = sym (space-first (c .before .args .tok .now) (c .before .args .j) (c .before .args .k) (c .if1 .taken))
 
 returns-2 : tie.Need-returns-2
-returns-2 c = sym (space-there (c .before .before .before .before .args .tok .now) (c .before .before .before .before .args .j) (c .before .before .before .before .args .k) (c .before .before .before .if1 .left) (c .before .if2 .taken))
+returns-2 c = sym (space-absent (c .before .before .before .args .tok .now) (c .before .before .before .args .j) (c .before .before .before .args .k) (c .before .before .if1 .left) (c .if2 .taken))
 
 returns-3 : tie.Need-returns-3
-returns-3 c = sym (space-absent (c .before .before .before .args .tok .now) (c .before .before .before .args .j) (c .before .before .before .args .k) (c .before .before .if1 .left) (c .if2 .left))
+returns-3 c = sym (space-there (c .before .before .before .before .args .tok .now) (c .before .before .before .before .args .j) (c .before .before .before .before .args .k) (c .before .before .before .if1 .left) (c .before .if2 .left))
 
 pub space-word-spec : {M : Type 1} → statement M
 space-word-spec =

@@ -5,10 +5,10 @@ use Rattle.trials.proofs.lists.all_sets.Statement.{statement}
 use Rattle.trials.proofs.lists.all_sets.Tie as tie
 
 abbrev Inv-loop : tie.InvT-loop
-Inv-loop set₀ set = set ≤ 256
+Inv-loop call sets set₀ set = set ≤ sets
 
 abbrev μ-loop : tie.MeasureT-loop
-μ-loop set₀ set = 256 - set
+μ-loop call sets set₀ set = sets - set
 
 loop-holds : tie.Need-loop-holds Inv-loop μ-loop
 loop-holds c = search needs

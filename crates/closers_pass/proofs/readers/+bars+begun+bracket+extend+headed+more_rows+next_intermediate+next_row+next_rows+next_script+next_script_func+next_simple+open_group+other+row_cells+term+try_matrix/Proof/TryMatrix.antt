@@ -17,7 +17,7 @@ use Prim.Native.Nat.{ℕ, _-_}
 use native.Mathlib.Omega.{arith}
 use borrow.Author.Tests.{not-true, not-false}
 use Rattle.closers_pass.proofs.Barred.{try-shut, try-known, try-lost, try-found}
-use Rattle.reading_words.proofs.Steps.{makes-below}
+use Rattle.reading_words.proofs.Matrices.{makes-below}
 
 abbrev pub uses : ℕ → try-matrix-lts.Claims
 uses t = (could-be-matrix-reads.Asked, could-be-matrix-reads.Learnt, failed-at-reads.Asked, failed-at-reads.Learnt, next-rows-below t, next-rows.Post, cells-left-reads.Asked, cells-left-reads.Learnt, makes-matrix-reads.Asked, makes-matrix-reads.Learnt, note-closer-reads.Asked, note-closer-reads.Learnt, next-reads.Asked, next-reads.Learnt, give-up-reads.Asked, give-up-reads.Learnt, rewind-reads.Asked, rewind-reads.Learnt)

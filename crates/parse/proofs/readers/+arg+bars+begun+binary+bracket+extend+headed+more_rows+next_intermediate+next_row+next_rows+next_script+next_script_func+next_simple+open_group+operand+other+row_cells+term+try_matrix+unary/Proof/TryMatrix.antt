@@ -21,7 +21,7 @@ use lib.ListN.{length}
 use borrow.Author.Tests.{not-true, not-false}
 use Rattle.parse.proofs.Choices.{rows-failed}
 use Rattle.reading_words.proofs.Kit.{safe-kept, some-at}
-use Rattle.reading_words.proofs.Steps.{makes-below}
+use Rattle.reading_words.proofs.Matrices.{makes-below}
 
 abbrev pub uses : ℕ → try-matrix-lts.Claims
 uses t = (could-be-matrix-reads.Asked, could-be-matrix-reads.Learnt, failed-at-reads.Asked, failed-at-reads.Learnt, next-rows-below t, next-rows.Post, split-column-lines-reads.Asked, split-column-lines-reads.Learnt, makes-matrix-reads.Asked, makes-matrix-reads.Learnt, put-matrix-reads.Asked, put-matrix-reads.Learnt, next-reads.Asked, next-reads.Learnt, mark-failed-reads.Asked, mark-failed-reads.Learnt, rewind-reads.Asked, rewind-reads.Learnt)
