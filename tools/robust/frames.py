@@ -22,7 +22,7 @@ def frames(lines):
     sites, name, height, body, call, pages = {}, None, 0, None, None, None
     for line in lines:
         if m := re.match(r"^[0-9a-f]+ <(.*)>:", line):
-            name, height, body, call = m[1], 8, None, None
+            name, height, body, call, pages = m[1], 8, None, None, None
             sites[name] = {"": 8}
         elif name is None:
             continue

@@ -3,7 +3,7 @@
 -- finished tree alone. Each reader of Reading.antt is counted step by step. That a count is of its reader, and leaves no
 -- step out, is in its type. The numbers are those of docs/LAYOUT.md; a node's own words stand in front of the nodes below it, so
 -- they are put before those are read.
-use Prim.Native.Nat.{ℕ, zero, suc, _+_, _*_, max}
+use Prim.Native.Nat.{ℕ, zero, suc, _+_, max}
 use mathlib.Core.List.{List, [], _∷_}
 use mathlib.Core.Option.{Option, none, some}
 use mathlib.Core.Bool.{Bool, true, false}

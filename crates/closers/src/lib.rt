@@ -4,6 +4,7 @@ use closers_pass::top::Pass;
 use closers_pass::top::pair_list;
 use lists::Checked;
 use lists::check_list;
+use records::RECORD_WORDS;
 use tokenizer::TokenizedUnder;
 use tokenizer::tokenize_under;
 ghost use mathlib.Core.Path.{_≡_};
@@ -30,12 +31,15 @@ pub enum PairedText {
     Refused(u8),
 }
 
-// Work words for a short list, of 128 tokens other than Space at most, and for any: 2 × (n + 1).
+// A short list has so many tokens other than Space at most, and any list so many.
 const SMALL: usize = 128;
 
-const SMALL_WORK: usize = 258;
+const MOST: usize = 4096;
 
-const WORK: usize = 8194;
+// Work words for a short list, and for any.
+const SMALL_WORK: usize = RECORD_WORDS * (SMALL + 1);
+
+const WORK: usize = RECORD_WORDS * (MOST + 1);
 
 // The closers of an accepted list, with these work words.
 fn list_closers(text: &[u8], table: &[u32], count: usize, work: &mut [u32], out: &mut [u32])

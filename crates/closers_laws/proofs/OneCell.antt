@@ -9,7 +9,7 @@ use lib.ListN.{length}
 use borrow.Author.Tests.{lt-ltb, eqb-true, eqb-false}
 use Rattle.tree.specs.Tree.{Nodes, end, _▸_, _⧺_, count}
 use Rattle.reading.specs.Entries.{Entry}
-use Rattle.reading.specs.Reading.{Row, Rows, keptCols, keepCells, joinRows, lineCells, lineCols, bothLines, isColumnLine, splitColumnLines}
+use Rattle.reading.specs.Reading.{Row, keptCols, keepCells, joinRows, lineCells, lineCols, bothLines, isColumnLine, splitColumnLines}
 
 count-end : (l : Nodes) → count (l ⧺ end) ≡ count l
 count-end end = refl

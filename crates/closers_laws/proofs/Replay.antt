@@ -6,11 +6,11 @@ use mathlib.Core.List.{List, [], _∷_}
 use mathlib.Core.Option.{Option, none, some}
 use mathlib.Core.Bool.{Bool, true, false}
 use native.Mathlib.Omega.{arith}
-use lib.ListN.{length, getD, set, replicate, getElem?, length-set}
+use lib.ListN.{length, getD, replicate, getElem?, length-set}
 use lib.Seq.{getD-set-same, getD-set-other}
 use Rattle.tokens.specs.declared.token.Token.{Token}
 use Rattle.tokens.specs.declared.token.Token.the-variants as token
-use Rattle.tree.specs.Tree.{Node, Nodes, end, one}
+use Rattle.tree.specs.Tree.{Node, Nodes, end}
 use Rattle.reading.specs.Stop.{Stop}
 use Rattle.reading.specs.Entries.{Entry, is}
 use Rattle.reading.specs.Reading.{State, M, return, _>>=_, here, current, closed, Mark, openMark, matrixMark, slot, Try, made, lost, nought, Readers, advance, failed, giveUp, attempt, argument, nextScript, nextScriptFunc, nextIntermediate, intermediates, Row, nextMatrixRow, rowCells, moreRows, nextMatrixRows, matrixBody, tryMatrix, nextOpenGroup, barBody, nextOpenCloseGroup, nextBracket, begun, nextSimple, step, level, parse, parseEntries, start, orGlyph, couldBeMatrix, prefixes, any, marksScript, heads, begins, if_then_else_}

@@ -1,6 +1,6 @@
 -- What the call's answer says of an accepted list with work words enough: what callers need to know of the pass.
-use Prim.Native.Nat.{ℕ, _+_, _*_, _≤_, _<_}
-use mathlib.Core.Path.{_≡_, refl, sym, ap, _∙_, subst⁻¹}
+use Prim.Native.Nat.{ℕ, _+_, _*_, _≤_}
+use mathlib.Core.Path.{_≡_, refl, sym, ap, _∙_}
 use mathlib.Core.Bool.{Bool, true, false, cond, _||_}
 use mathlib.Core.List.{List, _++_}
 use mathlib.Core.Option.{none}
@@ -9,7 +9,7 @@ use lib.ListN.{length, drop, replicate, length-append}
 use Rattle.tokens.specs.Lexeme.{Lexeme}
 use Rattle.tokens.specs.Table.{tokenList, countOthers}
 use Rattle.tokens.specs.Refusals.{listRefusal}
-use Rattle.tokens.proofs.Accepted.{Accepted, accepted}
+use Rattle.tokens.proofs.Accepted.{accepted}
 use Rattle.tokens.proofs.Cases.{by-test, apart}
 use Rattle.tokens.proofs.TokenList.{others-few}
 use Rattle.tree.specs.Tree.{nowhere}
@@ -18,7 +18,7 @@ use Rattle.bounds.proofs.Theorems.{entries-count}
 use Rattle.closers_laws.proofs.Replay.{marks-long}
 use Rattle.records.specs.Record.{recordWords, Kept}
 use Rattle.entries.specs.declared.Prepared.{Prepared}
-use Rattle.entries.specs.Prepared.{workWords, prepared}
+use Rattle.entries.specs.Prepared.{workWords}
 use Rattle.entries.proofs.Accepted.{prepared-is}
 use Rattle.entries.proofs.Answers.{made}
 use Rattle.brackets.specs.Brackets.{hasAttempts}

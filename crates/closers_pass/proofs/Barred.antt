@@ -12,7 +12,7 @@ use Rattle.tokens.specs.declared.token.Token.the-variants as token
 use Rattle.tokens.specs.Lexeme.{Span}
 use Rattle.tree.specs.Tree.{nowhere, Head, Node, node, Nodes, end, _▸_, count}
 use Rattle.reading.specs.Entries.{Entry, is}
-use Rattle.reading.specs.Reading.{State, made, lost, nought, if_then_else_, here, closed, any, openMark, matrixMark, slot, isAt, isBar, closes, makesMatrix, matrixBody, tryMatrix, barBody, nextOpenGroup, nextOpenCloseGroup, nextBracket, glyphOf, endsOperand, look, atomEnds, isBarSymbol, prefixes, Row, Rows, splitColumnLines, lineCols, lineCells, keptCols}
+use Rattle.reading.specs.Reading.{State, made, lost, nought, closed, any, openMark, matrixMark, slot, isAt, isBar, makesMatrix, matrixBody, tryMatrix, barBody, nextOpenGroup, nextOpenCloseGroup, nextBracket, glyphOf, endsOperand, look, atomEnds, isBarSymbol, prefixes, Row, Rows, splitColumnLines, lineCols, lineCells, keptCols}
 use Rattle.closers_laws.proofs.Nested.{Fit, Pairing, level-good, intermediates-pairs, nextIntermediate-pairs, nextMatrixRows-pairs}
 use Rattle.closers_laws.proofs.OneCell.{single, many}
 use Rattle.lookahead.specs.Tests.{testAt, isKind}
@@ -30,22 +30,17 @@ use Rattle.rows.specs.Rows.{cellsLeft}
 use Rattle.records.specs.Record.{recordWords, withCloser, marksOf}
 use Rattle.closers_notes.specs.Notes.{gaveUp}
 use Rattle.closers_notes.proofs.Notes.{cleared-kept}
-use Rattle.reading_words.specs.Meet.{Input, Given, readers, stopOf, intermediateAt, itemsAt, itemsFrom}
+use Rattle.reading_words.specs.Meet.{Input, Given, readers, stopOf, intermediateAt, itemsAt, itemsFrom, rowsAt}
 use Rattle.closers_pass.specs.Meet.{At, Moves, Gives, isSome, isMore, Grouped, Bracketed, Intermediates, OpenGroup, Bracket, TryMatrix, Bars, onward, seen, rewound, operationAt}
-use Rattle.closers_pass.specs.Matrix.{Counts, Behind, MatrixRows, rowsAt}
+use Rattle.closers_pass.specs.Matrix.{Counts, Behind, MatrixRows}
 use Rattle.stores.proofs.Stores.{kept-refl, kept-trans, marks-kept, closer-kept}
 use Rattle.reading_words.proofs.Kit.{shut, ret-closed, bind, ret, at-here, if-true, if-false, tick, row-of, advance-took, same-is}
 use Rattle.closers_pass.proofs.Kit.{at-tick, took, passed, at-shut, at-lost}
 use Rattle.reading_words.proofs.Attempts.{markNumber, mark-is, attempt-known, attempt-made, attempt-lost, attempt-nought}
 use Rattle.closers_pass.proofs.Simple.{got, lack, runs-as}
 use Rattle.closers_pass.proofs.Loop.{whole-items}
-use Rattle.closers_pass.proofs.Cells.{took-any}
-use Rattle.reading_words.proofs.Steps.{More, bar-below, bar-body, bar-is, barEnd, byte-at, matrix-runs, number-open}
+use Rattle.reading_words.proofs.Steps.{More, bar-below, bar-body, bar-is, barEnd, byte-at, matrix-runs, number-open, open-known, took-any}
 use Rattle.reading_words.proofs.Matrices.{gate-is, makes-below, makes-is}
-
--- the bar's own word says whether it has failed
-open-known : {X t : List ℕ} {n : ℕ} {K : List ℕ} {p u : ℕ} {I : Input} {s : State} (i : ℕ) (stop b : Bool) → At X t n K p u I s → i < n → isMarked (marksOf K i) (entry.openMark stop) ≡ b → getD (s .marks) (slot (openMark (stopOf stop)) i) false ≡ b
-open-known i stop b at h k = sym (mark-is (openMark (stopOf stop)) i (at .marks) h) ∙ ap (isMarked _) (number-open stop) ∙ k
 
 -- What a reader closes lies behind its start.
 fit-of : {X t : List ℕ} {n : ℕ} {K : List ℕ} {p u : ℕ} {I : Input} {s : State} → At X t n K p u I s → p ≤ n → Fit (I .text) (I .es) s
@@ -63,7 +58,7 @@ module _ {X t : List ℕ} {n : ℕ} {K : List ℕ} {p u : ℕ} {I : Input} {s : 
   at-n : (v : State) → Low (length (I .es)) v s → Low n v s
   at-n v l j k = subst (λ (m : ℕ). getD (v .closers) j m ≡ getD (s .closers) j m) (a .given .size) (l j k)
 
-  rows-low : {A : Option Rows} {v : State} → rowsAt X t n d I s ≡ (A, v) → Low n v s
+  rows-low : {A : Option Rows} {v : State} → rowsAt d I s ≡ (A, v) → Low n v s
   rows-low {v = v} r = at-n v (subst (λ (w : Option Rows × State). Low (length (I .es)) (w .1) s) r (nextMatrixRows-pairs (I .text) (I .es) (readers d I) (level-good (I .text) (I .es) (256 - d)) .run s (fit-of a h) .low))
 
   items-low : (f : ℕ) (until : Option Entry) (stop : Bool) {l : Nodes} {v : State} → itemsFrom d f until stop none I s ≡ (l, v) → Low n v s
@@ -187,7 +182,7 @@ module _ {X t : List ℕ} {n : ℕ} {K : List ℕ} (i : ℕ) (c : Cursor) (insid
               means = λ I s at en there.
                   let b = rw h at (p .1) in
                   let q = b .2 I s at in
-                  let u = took-any (q .at) l in
+                  let u = took-any (q .at .given) (q .at .pos) l in
                   let m : makesMatrix (I .text) (I .es) en i (q .rows) (q .state .pos) ≡ true = ap (makesMatrix (I .text) (I .es) en i (q .rows)) (sym (q .at .pos)) ∙ makes-is (q .at .given) inside there (cellsLeft true (g .more) (g .cols) (g .kept)) (q .rows) (g .cur .pos) (b .1) (q .left) (cells-are I (q .rows .head) (q .rows .others) (g .more) (q .counts) (b .0) (q .behind)) ∙ k in
                   record {
                     answer = some ((splitColumnLines (I .text) (I .es) (q .rows)) .0 (en .span) (u .0 .entry .span));
@@ -265,7 +260,7 @@ module _ {X t : List ℕ} {n : ℕ} {K : List ℕ} (i : ℕ) (stop : Bool) {c : 
     refl,
     record {
       moves = record { within = here-n; on = omega arith; depth = refl; kept = kept-refl K };
-      means = λ I s at en there. record { answer = glyphOf en; state = s; runs = bind _ _ s (attempt-known (I .text) (I .es) (openMark (stopOf stop)) i _ s (open-known i stop true at inside h)) ∙ ret _ _; at = at; besides = alone c inside (at .given) there };
+      means = λ I s at en there. record { answer = glyphOf en; state = s; runs = bind _ _ s (attempt-known (I .text) (I .es) (openMark (stopOf stop)) i _ s (open-known i stop true (at .marks) inside h)) ∙ ret _ _; at = at; besides = alone c inside (at .given) there };
     },
   )
 
@@ -279,7 +274,7 @@ module _ {X t : List ℕ} {n : ℕ} {K : List ℕ} (i : ℕ) (stop : Bool) {c : 
         means = λ I s at en there.
             let q = p .means I s at (suc (length (I .es))) (omega (arith, at .given .size)) (some en) (inside, there) none refl refl in
             let body : barBody (I .text) (I .es) true (readers (c .depth) I) en i (stopOf stop) s ≡ (nought, q .state) = bar-body I (c .depth) i en stop s (q .runs) ∙ ap (λ (l : Nodes). barEnd I i en l (q .state)) (more-none (q .answer) (sym hc ∙ q .besides .some)) ∙ ret _ _ in
-            record { answer = glyphOf en; state = q .state; runs = bind _ _ s (attempt-nought (I .text) (I .es) (openMark (stopOf stop)) i _ s (open-known i stop false at inside h) body) ∙ ret _ _; at = q .at; besides = alone (g .cur) inside (q .at .given) there };
+            record { answer = glyphOf en; state = q .state; runs = bind _ _ s (attempt-nought (I .text) (I .es) (openMark (stopOf stop)) i _ s (open-known i stop false (at .marks) inside h) body) ∙ ret _ _; at = q .at; besides = alone (g .cur) inside (q .at .given) there };
       },
     )
 
@@ -302,7 +297,7 @@ module _ {X t : List ℕ} {n : ℕ} {K : List ℕ} (i : ℕ) (stop : Bool) {c : 
                   record {
                     answer = node (Head.group (en .span) (st .entry .span)) (k .head ▸ k .rest);
                     state = shut i (tick (q .state));
-                    runs = bind _ _ s (attempt-made (I .text) (I .es) (openMark (stopOf stop)) i _ s (open-known i stop false at inside h) (node (Head.group (en .span) (st .entry .span)) (k .head ▸ k .rest)) body) ∙ ret _ _;
+                    runs = bind _ _ s (attempt-made (I .text) (I .es) (openMark (stopOf stop)) i _ s (open-known i stop false (at .marks) inside h) (node (Head.group (en .span) (st .entry .span)) (k .head ▸ k .rest)) body) ∙ ret _ _;
                     at = at-shut i (g .cur .pos) (at-tick (q .at)) (omega (arith, p .moves .on)) refl (omega arith) few (omega (arith, p .moves .kept .long)) hn;
                     besides = record { ends = refl; bar = refl };
                   };
@@ -326,7 +321,7 @@ module _ {X t : List ℕ} {n : ℕ} {K : List ℕ} (i : ℕ) (stop : Bool) {c : 
                   record {
                     answer = glyphOf en;
                     state = record { pos = s .pos; takes = q .state .takes; marks = set (q .state .marks) (slot (openMark (stopOf stop)) i) true; closers = s .closers };
-                    runs = bind _ _ s (attempt-lost (I .text) (I .es) (openMark (stopOf stop)) i _ s (open-known i stop false at inside h) body) ∙ ret _ _;
+                    runs = bind _ _ s (attempt-lost (I .text) (I .es) (openMark (stopOf stop)) i _ s (open-known i stop false (at .marks) inside h) body) ∙ ret _ _;
                     at = at2;
                     besides = alone (rewound (c .pos) (g .cur)) inside (at2 .given) there;
                   };

@@ -11,7 +11,6 @@ use Rattle.tokens.specs.declared.token.Token.{Token}
 use Rattle.tokens.specs.declared.token.Token.the-variants as token
 use Rattle.tokens.specs.Kinds.{numberOf}
 use Rattle.tree.specs.Tree.{Atom, Head, Prefix, Node, node, end, _▸_, leaf, one}
-use Rattle.reading.specs.Stop.{Stop}
 use Rattle.reading.specs.Entries.{Entry}
 use Rattle.reading.specs.Reading.{State, argument, begun, orMissing, endsOperand, look, isBarSymbol, isByte}
 use Rattle.records.specs.Record.{kindOf}
@@ -22,7 +21,7 @@ use Rattle.leaves.specs.Leaves.{leafKind, leafEnds, leafBar}
 use Rattle.closers_pass.specs.declared.cursor.Cursor.{Cursor}
 use Rattle.closers_pass.specs.declared.cursor.Part.{Part}
 use Rattle.reading_words.specs.Meet.{Input, readers, stopOf, simpleAt}
-use Rattle.closers_pass.specs.Meet.{At, Simple, Begun, Bracket, operationAt}
+use Rattle.closers_pass.specs.Meet.{Simple, Begun, Bracket, operationAt}
 use Rattle.stores.proofs.Stores.{kept-refl, kept-trans}
 use Rattle.reading_words.proofs.Kit.{bind, ret, row-of, test-kind}
 use Rattle.reading_words.proofs.Sorts.{is-Sign, is-Function, is-Unary, is-Binary, is-OpenBracket, is-OpenCloseBracket, leaf-of}

@@ -5,28 +5,28 @@ use mathlib.Core.List.{List, [], _∷_}
 use mathlib.Core.Option.{Option, none, some}
 use mathlib.Core.Bool.{Bool, true, false, cond}
 use native.Mathlib.Omega.{arith}
-use lib.ListN.{length, getElem?}
+use lib.ListN.{length}
 use lib.Dec.{ltb}
 use borrow.Author.Tests.{ltb-true, ltb-false, lt-ltb, le-ltb}
 use Rattle.tokens.specs.declared.token.Token.the-variants as token
 use Rattle.tree.specs.Tree.{Head, Node, node, Nodes, end, _▸_, _⧺_, count}
 use Rattle.reading.specs.Stop.{Stop}
-use Rattle.reading.specs.Entries.{Entry, is}
-use Rattle.reading.specs.Reading.{State, closed, any, advance, intermediates, rowCells, nextMatrixRow, prefixes, isColumnLine, keptCols, lineCells}
+use Rattle.reading.specs.Entries.{Entry}
+use Rattle.reading.specs.Reading.{State, intermediates, rowCells, nextMatrixRow, prefixes, isColumnLine, keptCols, lineCells}
 use Rattle.lookahead.specs.Tests.{testAt, isKind}
 use Rattle.lookahead.proofs.Testing.{test-below}
 use Rattle.closers_pass.specs.declared.cursor.Cursor.{Cursor}
 use Rattle.closers_pass.specs.declared.cursor.Items.{Items}
 use Rattle.closers_pass.specs.declared.cursor.Cells.{Cells}
 use Rattle.records.specs.Record.{recordWords, withCloser}
-use Rattle.reading_words.specs.Meet.{Input, Stands, readers}
+use Rattle.reading_words.specs.Meet.{Input, readers, cellsAt, rowAt}
 use Rattle.closers_pass.specs.Meet.{At, Moves, Each, Intermediates, onward, passing}
-use Rattle.closers_pass.specs.Matrix.{Counts, Fails, cellsAt, RowCells, rowAt, MatrixRow}
+use Rattle.closers_pass.specs.Matrix.{Counts, Fails, RowCells, MatrixRow}
 use Rattle.stores.proofs.Stores.{kept-refl, kept-trans, closer-kept}
-use Rattle.reading_words.proofs.Kit.{shut, ret-closed, bind, ret, at-here, if-false, tick, kind-is, past, advance-took, advance-end}
+use Rattle.reading_words.proofs.Kit.{shut, ret-closed, bind, ret, at-here, if-false, tick, kind-is}
 use Rattle.closers_pass.proofs.Kit.{at-tick, at-shut}
 use Rattle.closers_pass.proofs.Loop.{whole-items}
-use Rattle.reading_words.proofs.Steps.{row-taken, turn-end, turn-other, turn-sep, turn-shut, with-one, withCells}
+use Rattle.reading_words.proofs.Steps.{row-taken, turn-end, turn-other, turn-sep, turn-shut, with-one, withCells, took-any, end-any}
 
 -- one token passed, if there is one
 pub passing-in : (n : ℕ) (c : Cursor) → c .pos < n → passing n c ≡ onward c
@@ -57,15 +57,6 @@ passing-on n c = go (ltb (c .pos) n) refl
     go : (b : Bool) → ltb (c .pos) n ≡ b → c .pos ≤ passing n c .pos
     go true e = omega (arith, ap (λ (q : Cursor). q .pos) (passing-in n c (ltb-true (c .pos) n e)))
     go false e = omega (arith, ap (λ (q : Cursor). q .pos) (passing-out n c (ltb-false (c .pos) n e)))
-
-pub took-any : {X t : List ℕ} {n : ℕ} {K : List ℕ} {I : Input} {s : State} {p u : ℕ} (a : At X t n K p u I s) → p < n → (q : Stands t K (I .es) p) × (advance (I .text) (I .es) any s ≡ (some (q .entry), tick s))
-unfolding any
-took-any {I = I} {s = s} {p = p} a h =
-    let q = a .given .stands p h in
-    (q, advance-took (I .text) (I .es) any s (q .entry) (ap (λ (i : ℕ). getElem? (I .es) i) (sym (a .pos)) ∙ q .there) refl)
-
-pub end-any : {X t : List ℕ} {n : ℕ} {K : List ℕ} {I : Input} {s : State} {p u : ℕ} → At X t n K p u I s → n ≤ p → advance (I .text) (I .es) any s ≡ (none, s)
-end-any {I = I} {s = s} a h = advance-end (I .text) (I .es) any s (past (I .es) (s .pos) (omega (arith, a .pos, a .given .size)))
 
 -- how many cells are no lines, with one cell more
 kept-snoc : (text : List ℕ) (es : List Entry) (acc : Nodes) (x : Node) → keptCols (lineCells text es (acc ⧺ (x ▸ end))) ≡ cond (isColumnLine text es x) (keptCols (lineCells text es acc)) (keptCols (lineCells text es acc) + 1)
@@ -99,7 +90,7 @@ pub record Along (X t : List ℕ) (n : ℕ) (L : List ℕ) (d : ℕ) (I : Input)
   pub left : ℕ
   pub acc : Nodes
   pub state : State
-  pub whole : cellsAt X t n d I s ≡ withCells acc (rowCells (I .text) (I .es) true (readers d I) (suc left) state)
+  pub whole : cellsAt d I s ≡ withCells acc (rowCells (I .text) (I .es) true (readers d I) (suc left) state)
   pub enough : n - cur .pos ≤ left
   pub at : At X t n L (cur .pos) (cur .takes) I state
   pub counts : Counts I num kept acc
@@ -119,7 +110,7 @@ module _ {X t : List ℕ} {n : ℕ} {K : List ℕ} (c : Cursor) where
   cells-none k = record {
     moves = record { within = k; on = omega arith; depth = refl; kept = kept-refl K };
     few = omega arith;
-    along = λ I s at. record { left = length (I .es); acc = end; state = s; whole = none-first (cellsAt X t n (c .depth) I s); enough = omega (arith, at .given .size); at = at; counts = record { number = refl; kept′ = refl } };
+    along = λ I s at. record { left = length (I .es); acc = end; state = s; whole = none-first (cellsAt (c .depth) I s); enough = omega (arith, at .given .size); at = at; counts = record { number = refl; kept′ = refl } };
   }
     where
       none-first : (r : Option (Nodes × Entry) × State) → r ≡ withCells end r
@@ -149,7 +140,7 @@ module _ {X t : List ℕ} {n : ℕ} {K : List ℕ} (c : Cursor) where
           along = λ I s at.
               let a = i .along I s at in
               let q = turn I s a in
-              let v = took-any (q .at) b in
+              let v = took-any (q .at .given) (q .at .pos) b in
               let l1 : a .left ≡ suc (a .left - 1) = omega (arith, a .enough, p .moves .on) in
               let R = readers (c .depth) I in
               let rest = rowCells (I .text) (I .es) true R (a .left) (tick (q .u)) in
@@ -177,7 +168,7 @@ module _ {X t : List ℕ} {n : ℕ} {K : List ℕ} (c : Cursor) where
               λ I s at.
                   let a = i .along I s at in
                   let q = turn I s a in
-                  let v = took-any (q .at) b in
+                  let v = took-any (q .at .given) (q .at .pos) b in
                   record {
                     cells = a .acc ⧺ (node Head.cell (q .l) ▸ end);
                     right = v .0 .entry;
@@ -199,10 +190,10 @@ module _ {X t : List ℕ} {n : ℕ} {K : List ℕ} (c : Cursor) where
             go I s a q (ltb (g .cur .pos) n) refl,
       )
         where
-          go : (I : Input) (s : State) (a : Along X t n L (c .depth) I s cur num kept) (q : Turn I s a) → (b : Bool) → ltb (g .cur .pos) n ≡ b → Fails X t n J (cellsAt X t n (c .depth) I) I s (passing n (g .cur))
+          go : (I : Input) (s : State) (a : Along X t n L (c .depth) I s cur num kept) (q : Turn I s a) → (b : Bool) → ltb (g .cur .pos) n ≡ b → Fails X t n J (cellsAt (c .depth) I) I s (passing n (g .cur))
           go I s a q true eq =
               let b : g .cur .pos < n = ltb-true (g .cur .pos) n eq in
-              let v = took-any (q .at) b in
+              let v = took-any (q .at .given) (q .at .pos) b in
               rw (passing-in n (g .cur) b) (record {
                 state = tick (q .u);
                 runs = a .whole ∙ ap (withCells (a .acc)) (turn-other I (readers (c .depth) I) (a .left) (q .l) (a .state) (q .u) (q .run) (v .1) (kind-is token.Sep false (v .0 .row) b h) (kind-is token.CloseBracket false (v .0 .row) b k));
@@ -212,7 +203,7 @@ module _ {X t : List ℕ} {n : ℕ} {K : List ℕ} (c : Cursor) where
               let b : n ≤ g .cur .pos = ltb-false (g .cur .pos) n eq in
               rw (passing-out n (g .cur) b) (record {
                 state = q .u;
-                runs = a .whole ∙ ap (withCells (a .acc)) (turn-end I (readers (c .depth) I) (a .left) (q .l) (a .state) (q .u) (q .run) (end-any (q .at) b));
+                runs = a .whole ∙ ap (withCells (a .acc)) (turn-end I (readers (c .depth) I) (a .left) (q .l) (a .state) (q .u) (q .run) (end-any (q .at .given) (q .at .pos) b));
                 at = q .at;
               })
 
@@ -231,7 +222,7 @@ module _ (X t : List ℕ) (n : ℕ) (K : List ℕ) (c : Cursor) where
           p .1 .0,
           b,
           λ I s at.
-              let v = took-any at b in
+              let v = took-any (at .given) (at .pos) b in
               let w = p .1 .1 I (tick s) (at-tick at) in
               record {
                 row = record { left = v .0 .entry; right = w .right; cells = w .cells };
@@ -251,7 +242,7 @@ module _ (X t : List ℕ) (n : ℕ) (K : List ℕ) (c : Cursor) where
       let b : c .pos < n = test-below t K n (isKind 20) (c .pos) h in (
         record { within = p .0 .within; on = omega (arith, p .0 .on); depth = p .0 .depth; kept = p .0 .kept },
         λ I s at.
-            let v = took-any at b in
+            let v = took-any (at .given) (at .pos) b in
             let w = p .1 I (tick s) (at-tick at) in
             record {
               state = w .state;
@@ -274,11 +265,11 @@ module _ (X t : List ℕ) (n : ℕ) (K : List ℕ) (c : Cursor) where
     λ I s at. go I s at (ltb (c .pos) n) refl,
   )
     where
-      go : (I : Input) (s : State) → At X t n K (c .pos) (c .takes) I s → (b : Bool) → ltb (c .pos) n ≡ b → Fails X t n K (rowAt X t n (c .depth) I) I s (passing n c)
+      go : (I : Input) (s : State) → At X t n K (c .pos) (c .takes) I s → (b : Bool) → ltb (c .pos) n ≡ b → Fails X t n K (rowAt (c .depth) I) I s (passing n c)
       go I s at true eq =
           let b : c .pos < n = ltb-true (c .pos) n eq in
-          let v = took-any at b in
+          let v = took-any (at .given) (at .pos) b in
           rw (passing-in n c b) (record { state = tick s; runs = bind _ _ s (at-here s) ∙ bind _ _ s (v .1) ∙ if-false _ _ _ (kind-is token.OpenBracket false (v .0 .row) b h) ∙ ret _ _; at = at-tick at })
       go I s at false eq =
           let b : n ≤ c .pos = ltb-false (c .pos) n eq in
-          rw (passing-out n c b) (record { state = s; runs = bind _ _ s (at-here s) ∙ bind _ _ s (end-any at b) ∙ ret _ _; at = at })
+          rw (passing-out n c b) (record { state = s; runs = bind _ _ s (at-here s) ∙ bind _ _ s (end-any (at .given) (at .pos) b) ∙ ret _ _; at = at })

@@ -11,7 +11,7 @@ use borrow.Author.Tests.{ne-eqb, eq-eqb}
 use Rattle.tokens.specs.declared.token.Token.the-variants as token
 use Rattle.tree.specs.Tree.{Nodes, count}
 use Rattle.reading.specs.Entries.{is}
-use Rattle.reading.specs.Reading.{State, any, isAt, moreRows, nextMatrixRows, alike}
+use Rattle.reading.specs.Reading.{State, isAt, moreRows, nextMatrixRows, alike}
 use Rattle.reading.specs.Reading as reading
 use Rattle.lookahead.specs.Tests.{testAt, isKind}
 use Rattle.lookahead.proofs.Testing.{test-below}
@@ -19,14 +19,13 @@ use Rattle.rows.specs.Rows.{pairAt, roundAt}
 use Rattle.closers_pass.specs.declared.cursor.Cursor.{Cursor}
 use Rattle.closers_pass.specs.declared.cursor.Cells.{Cells}
 use Rattle.closers_pass.specs.declared.cursor.Others as code
-use Rattle.reading_words.specs.Meet.{Input, readers}
+use Rattle.reading_words.specs.Meet.{Input, readers, First, moreAt}
 use Rattle.closers_pass.specs.Meet.{At, Moves, Each, onward}
-use Rattle.closers_pass.specs.Matrix.{Behind, MatrixRow, First, moreAt, MoreRows, rowsAt, MatrixRows}
+use Rattle.closers_pass.specs.Matrix.{Behind, MatrixRow, MoreRows, MatrixRows}
 use Rattle.stores.proofs.Stores.{kept-refl, kept-trans}
 use Rattle.reading_words.proofs.Kit.{bind, ret, if-true, if-false, tick}
 use Rattle.closers_pass.proofs.Kit.{at-tick}
-use Rattle.closers_pass.proofs.Cells.{took-any}
-use Rattle.reading_words.proofs.Steps.{alike-pair, brackets-are, is-at-is, pair-is, turn-broken, turn-differs, turn-done, turn-more, with-row, withRows}
+use Rattle.reading_words.proofs.Steps.{alike-pair, brackets-are, is-at-is, pair-is, turn-broken, turn-differs, turn-done, turn-more, with-row, withRows, took-any}
 
 behind-snoc : (more : Bool) (acc : List Nodes) (r : Nodes) → Behind more acc → 1 ≤ count r → Behind true (acc ++ (r ∷ []))
 behind-snoc more [] r h k = k
@@ -38,20 +37,20 @@ pub record Along (X t : List ℕ) (n : ℕ) (L : List ℕ) (d : ℕ) (I : Input)
   pub left : ℕ
   pub acc : List Nodes
   pub state : State
-  pub whole : moreAt X t n d h I s ≡ withRows acc (moreRows (I .text) (I .es) true (readers d I) (suc left) h state)
+  pub whole : moreAt d h I s ≡ withRows acc (moreRows (I .text) (I .es) true (readers d I) (suc left) h state)
   pub enough : n - cur .pos ≤ left
   pub at : At X t n L (cur .pos) (cur .takes) I state
   pub behind : Behind more acc
 
 pub record Inv (X t : List ℕ) (n : ℕ) (K L : List ℕ) (cols : ℕ) (round : Bool) (c cur : Cursor) (more : Bool) : Type 0 where
   pub moves : Moves 0 n K L c cur
-  pub along : Each X t n K c (λ I s. (h : reading.Row) → First X t n I cols round h → Along X t n L (c .depth) I h s cur more)
+  pub along : Each X t n K c (λ I s. (h : reading.Row) → First I cols round h → Along X t n L (c .depth) I h s cur more)
 
 module _ {X t : List ℕ} {n : ℕ} {K : List ℕ} (cols : ℕ) (round : Bool) (c : Cursor) where
   pub rows-none : c .pos ≤ n → Inv X t n K K cols round c c false
   rows-none k = record {
     moves = record { within = k; on = omega arith; depth = refl; kept = kept-refl K };
-    along = λ I s at h fst. record { left = length (I .es); acc = []; state = s; whole = none-first (moreAt X t n (c .depth) h I s); enough = omega (arith, at .given .size); at = at; behind = tt };
+    along = λ I s at h fst. record { left = length (I .es); acc = []; state = s; whole = none-first (moreAt (c .depth) h I s); enough = omega (arith, at .given .size); at = at; behind = tt };
   }
     where
       none-first : (q : Option (List Nodes) × State) → q ≡ withRows [] q
@@ -85,7 +84,7 @@ module _ {X t : List ℕ} {n : ℕ} {K : List ℕ} (cols : ℕ) (round : Bool) (
         record { within = p .0 .within; on = omega (arith, p .0 .on, i .moves .on); depth = p .0 .depth ∙ i .moves .depth; kept = kept-trans (i .moves .kept) (p .0 .kept) },
         λ I s at h fst.
             let a = i .along I s at h fst in
-            let u = took-any (a .at) inside in
+            let u = took-any (a .at .given) (a .at .pos) inside in
             let q = rw (i .moves .depth) at (p .1 I (tick (a .state)) (at-tick (a .at))) in
             record {
               state = q .state;
@@ -95,7 +94,7 @@ module _ {X t : List ℕ} {n : ℕ} {K : List ℕ} (cols : ℕ) (round : Bool) (
       )
 
       module _ (p : MatrixRow X t n L J (onward cur) (record { cur = d; count = m; kept = j; shut = true; right = q })) where
-        alike-row : {I : Input} {s : State} {h : reading.Row} (row : reading.Row) → At X t n J (d .pos) (d .takes) I s → First X t n I cols round h → getElem? (I .es) (cur .pos + 1) ≡ some (row .left) → getElem? (I .es) q ≡ some (row .right) → m ≡ count (row .cells)
+        alike-row : {I : Input} {s : State} {h : reading.Row} (row : reading.Row) → At X t n J (d .pos) (d .takes) I s → First I cols round h → getElem? (I .es) (cur .pos + 1) ≡ some (row .left) → getElem? (I .es) q ≡ some (row .right) → m ≡ count (row .cells)
             → alike (I .text) (I .es) h row ≡ cond (eqb cols m) (pairAt X t J round (cur .pos + 1) q) false
         alike-row {I} {s} {h} row a fst tl tr hm = alike-pair I round h row (fst .pair) (fst .number) hm ∙ ap (λ (b : Bool). cond (eqb cols m) b false) (pair-is round row (a .given) (p .1 .1) (p .1 .0 .inside) tl tr)
 
@@ -104,7 +103,7 @@ module _ {X t : List ℕ} {n : ℕ} {K : List ℕ} (cols : ℕ) (round : Bool) (
           record { within = p .0 .within; on = omega (arith, p .0 .on, i .moves .on); depth = p .0 .depth ∙ i .moves .depth; kept = kept-trans (i .moves .kept) (p .0 .kept) },
           λ I s at h fst.
               let a = i .along I s at h fst in
-              let u = took-any (a .at) inside in
+              let u = took-any (a .at .given) (a .at .pos) inside in
               let w = rw (i .moves .depth) at (p .1 .2 I (tick (a .state)) (at-tick (a .at))) in
               record {
                 state = w .state;
@@ -118,7 +117,7 @@ module _ {X t : List ℕ} {n : ℕ} {K : List ℕ} (cols : ℕ) (round : Bool) (
           moves = record { within = p .0 .within; on = omega (arith, p .0 .on, i .moves .on); depth = p .0 .depth ∙ i .moves .depth; kept = kept-trans (i .moves .kept) (p .0 .kept) };
           along = λ I s at h fst.
               let a = i .along I s at h fst in
-              let u = took-any (a .at) inside in
+              let u = took-any (a .at .given) (a .at .pos) inside in
               let w = rw (i .moves .depth) at (p .1 .2 I (tick (a .state)) (at-tick (a .at))) in
               let l1 : a .left ≡ suc (a .left - 1) = omega (arith, a .enough, inside) in
               let R = readers (c .depth) I in

@@ -17,7 +17,7 @@ use Rattle.closers_pass.specs.declared.cursor.Part.{Part}
 use Rattle.closers_pass.specs.declared.cursor.Scripted as code
 use Rattle.tokens.specs.Refusals.{bit}
 use Rattle.reading_words.specs.Meet.{Input, readers, stopOf}
-use Rattle.closers_pass.specs.Meet.{At, isSome, endsOf, barOf, lineOf, linePart, scripts, Simple, ScriptFunc, Term, Intermediate, Scripts, Headed, Begun, onward, seen, inner, atDepth, nothingAt, operationAt, partAt}
+use Rattle.closers_pass.specs.Meet.{isSome, endsOf, barOf, lineOf, linePart, scripts, Simple, ScriptFunc, Term, Intermediate, Scripts, Headed, Begun, onward, seen, inner, atDepth, nothingAt, operationAt, partAt}
 use Rattle.stores.proofs.Stores.{kept-refl, kept-trans}
 use Rattle.reading_words.proofs.Kit.{bind, ret, at-here, if-true, if-false, tick, row-of, same-is, same-marks, same-heads, same-begins, kind-is, level-simple, deep-simple, deep-scriptFunc}
 use Rattle.closers_pass.proofs.Kit.{at-tick, took, passed}

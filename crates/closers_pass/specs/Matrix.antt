@@ -1,18 +1,18 @@
 -- The contracts of the readers of matrix rows.
-use Prim.Native.Nat.{ℕ, suc, _+_, _≤_, _<_}
+use Prim.Native.Nat.{ℕ, _+_, _≤_, _<_}
 use mathlib.Core.Path.{_≡_}
 use mathlib.Core.List.{List, [], _∷_}
 use mathlib.Core.Option.{Option, none, some}
 use mathlib.Core.Bool.{Bool, true, false}
-use lib.ListN.{length, getElem?}
+use lib.ListN.{getElem?}
 use Rattle.tree.specs.Tree.{Nodes, count}
 use Rattle.reading.specs.Entries.{Entry}
-use Rattle.reading.specs.Reading.{State, M, Row, Rows, keptCols, lineCells, rowCells, nextMatrixRow, moreRows, nextMatrixRows}
+use Rattle.reading.specs.Reading.{State, M, Row, Rows, keptCols, lineCells}
 use Rattle.closers_pass.specs.declared.cursor.Cursor.{Cursor}
 use Rattle.closers_pass.specs.declared.cursor.Cells.{Cells}
 use Rattle.closers_pass.specs.declared.cursor.Others as code
 use Rattle.closers_pass.specs.declared.cursor.Rows as rows
-use Rattle.reading_words.specs.Meet.{Input, isPair, readers}
+use Rattle.reading_words.specs.Meet.{Input, cellsAt, rowAt, moreAt, rowsAt, First}
 use Rattle.closers_pass.specs.Meet.{At, Each, Moves}
 
 -- the cells of a row, and how many are no lines
@@ -43,9 +43,6 @@ module _ (X t : List ℕ) (n : ℕ) where
     pub there : getElem? (I .es) q ≡ some right
     pub counts : Counts I k j cells
 
-  abbrev pub cellsAt : ℕ → Input → M (Option (Nodes × Entry))
-  cellsAt d I = rowCells (I .text) (I .es) true (readers d I) (suc (length (I .es)))
-
   pub record Ended (k q : ℕ) (d : Cursor) : Type 0 where
     pub some : 1 ≤ k
     pub inside : q < n
@@ -68,9 +65,6 @@ module _ (X t : List ℕ) (n : ℕ) where
     pub right : getElem? (I .es) q ≡ some (row .right)
     pub counts : Counts I k j (row .cells)
 
-  abbrev pub rowAt : ℕ → Input → M (Option Row)
-  rowAt d I = nextMatrixRow (I .text) (I .es) true (readers d I)
-
   abbrev pub MatrixRow′ : List ℕ → List ℕ → Cursor → ℕ → ℕ → ℕ → Cursor → Bool → Type 0
   MatrixRow′ K L c q k j d true = Ended k q d × (c .pos < n) × Each X t n K c (λ I s. HasRow L (rowAt (c .depth) I) I s (c .pos) q k j d)
   MatrixRow′ K L c q k j d false = Each X t n K c (λ I s. Fails L (rowAt (c .depth) I) I s d)
@@ -78,21 +72,13 @@ module _ (X t : List ℕ) (n : ℕ) where
   abbrev pub MatrixRow : List ℕ → List ℕ → Cursor → Cells → Type 0
   MatrixRow K L c g = Moves 0 n K L c (g .cur) × MatrixRow′ K L c (g .right) (g .count) (g .kept) (g .cur) (g .shut)
 
-  -- the first row, h: of `cols` cells between round brackets, or else square ones
-  pub record First (I : Input) (cols : ℕ) (round : Bool) (h : Row) : Type 0 where
-    pub pair : isPair I round h ≡ true
-    pub number : cols ≡ count (h .cells)
-
-  -- the rows behind it
+  -- the rows behind the first
   pub record HasRows (L : List ℕ) (m : M (Option (List Nodes))) (I : Input) (s : State) (more : Bool) (d : Cursor) : Type 0 where
     pub others : List Nodes
     pub state : State
     pub runs : m s ≡ (some others, state)
     pub at : At X t n L (d .pos) (d .takes) I state
     pub behind : Behind more others
-
-  abbrev pub moreAt : ℕ → Row → Input → M (Option (List Nodes))
-  moreAt d h I = moreRows (I .text) (I .es) true (readers d I) (suc (length (I .es))) h
 
   abbrev pub MoreRows′ : List ℕ → List ℕ → ℕ → Bool → Cursor → Bool → Cursor → Bool → Type 0
   MoreRows′ K L cols round c more d true = Each X t n K c (λ I s. (h : Row) → First I cols round h → HasRows L (moreAt (c .depth) h I) I s more d)
@@ -110,9 +96,6 @@ module _ (X t : List ℕ) (n : ℕ) where
     pub left : getElem? (I .es) l ≡ some (rows .head .left)
     pub counts : Counts I k j (rows .head .cells)
     pub behind : Behind more (rows .others)
-
-  abbrev pub rowsAt : ℕ → Input → M (Option Rows)
-  rowsAt d I = nextMatrixRows (I .text) (I .es) true (readers d I)
 
   abbrev pub MatrixRows′ : List ℕ → List ℕ → Cursor → Bool → ℕ → ℕ → Cursor → Bool → Type 0
   MatrixRows′ K L c more k j d true = (1 ≤ k) × (c .pos < n) × Each X t n K c (λ I s. HasMatrix L (rowsAt (c .depth) I) I s more (c .pos) k j d)

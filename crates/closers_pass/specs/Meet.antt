@@ -7,9 +7,9 @@ use mathlib.Core.Option.{Option, none, some}
 use mathlib.Core.Bool.{Bool, true, false, cond, _&&_}
 use lib.ListN.{length, getD, getElem?}
 use lib.Dec.{eqb, ltb}
-use Rattle.tree.specs.Tree.{Script, Head, Node, node, Nodes, end, _▸_, one}
-use Rattle.reading.specs.Entries.{Entry, is}
-use Rattle.reading.specs.Reading.{State, M, if_then_else_, Scripted, nextOpenGroup, tryMatrix, begun, endsOperand, prefixes, isBarSymbol, isUnscripted, isColumnLine}
+use Rattle.tree.specs.Tree.{Script, Head, Node, node, Nodes, end, _▸_}
+use Rattle.reading.specs.Entries.{Entry}
+use Rattle.reading.specs.Reading.{State, M, Scripted, nextOpenGroup, tryMatrix, begun, endsOperand, prefixes, isBarSymbol, isUnscripted, isColumnLine}
 use Rattle.closers_pass.specs.declared.cursor.Cursor.{Cursor}
 use Rattle.closers_pass.specs.declared.cursor.Part.{Part}
 use Rattle.closers_pass.specs.declared.cursor.Scripted as code

@@ -2,7 +2,7 @@
 use lookahead::takes::count_look;
 use lookahead::takes::count_take;
 ghost use mathlib.Core.Path.{_≡_};
-ghost use mathlib.Core.Bool.{true, false, cond};
+ghost use mathlib.Core.Bool.{true, false};
 ghost use Prim.Native.Nat.{_≤_, _<_};
 ghost use Rattle.closers_pass.specs.Meet.{onward, seen, passing, inner, atDepth, rewound, nothingAt, operationAt, partAt};
 

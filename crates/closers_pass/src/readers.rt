@@ -48,7 +48,7 @@ use tokens::kinds::SEP;
 use tokens::kinds::SUPER;
 ghost use mathlib.Core.Path.{_≡_};
 ghost use mathlib.Core.Bool.{true, false};
-ghost use Prim.Native.Nat.{_≤_, _<_};
+ghost use Prim.Native.Nat.{_<_};
 ghost use Rattle.records.specs.Record.{kindOf};
 ghost use Rattle.lookahead.specs.Tests.{testAt, beginsKind, opening};
 ghost use Rattle.closers_pass.specs.Meet.{Ready, Simple, ScriptFunc, Intermediate, Scripts, Intermediates, Headed, Begun, OpenGroup, Bracket, TryMatrix, Bars, Term};

@@ -35,7 +35,7 @@ pub fn put_node(
 }
 
 // A leaf's node kind, its class, and whether it ends an operand, by the kind of its token.
-pub fn leaf_kind(k: u32) -> u32
+fn leaf_kind(k: u32) -> u32
     ensures { λ r. ⌜ r ≡ leafKind k ⌝ }
 {
     if k < NUMBER {

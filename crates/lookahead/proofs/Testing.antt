@@ -7,7 +7,6 @@ use lib.Dec.{eqb, ltb}
 use native.Mathlib.Omega.{arith}
 use borrow.Author.Tests.{ltb-true, ltb-false, ne-eqb}
 use Rattle.records.specs.Record.{kindOf}
-use Rattle.lookahead.specs.declared.tests.Look.{Look}
 use Rattle.lookahead.specs.declared.tests.Look.the-variants.{Plain, Over, Other}
 use Rattle.lookahead.specs.Tests.{nextKind, testAt, headsKind, marksKind, beginsKind, leafOnly, plainAt, overAt, lookAt}
 

@@ -5,14 +5,14 @@ use mathlib.Core.List.{List}
 use mathlib.Core.Option.{none, some}
 use mathlib.Core.Bool.{Bool, true, false}
 use native.Mathlib.Omega.{arith}
-use lib.ListN.{length, getD, getElem?, set}
+use lib.ListN.{length, getElem?, set}
 use lib.Dec.{eqb}
 use borrow.Author.Tests.{ne-eqb}
 use lib.Seq.{sets, length-sets}
 use Rattle.tree.specs.Tree.{Head, node, Nodes, end, _▸_, count}
 use Rattle.tree.specs.Words.{encode, encodeItems}
 use Rattle.reading.specs.Entries.{Entry}
-use Rattle.reading.specs.Reading.{State, made, lost, nought, if_then_else_, here, closed, any, openMark, slot, isAt, isBar, barBody, nextOpenCloseGroup, nextBracket, glyphOf, endsOperand, look, atomEnds, prefixes}
+use Rattle.reading.specs.Reading.{made, lost, nought, any, openMark, slot, isAt, isBar, barBody, nextOpenCloseGroup, nextBracket, glyphOf, endsOperand, look, atomEnds, prefixes}
 use Rattle.parse.specs.declared.cursor.Cursor.{Cursor}
 use Rattle.parse.specs.declared.cursor.Step.the-variants.{Found, Nothing}
 use Rattle.parse.specs.declared.cursor.Part.{Part}
@@ -27,19 +27,15 @@ use Rattle.marks.specs.Marks as entry
 use Rattle.parse.specs.Meet.{Intermediates, OpenGroup, Bracket, TryMatrix, Bars, onward, rewound}
 use Rattle.parse.proofs.Buffer.{push, fill, seq, back}
 use Rattle.parse.proofs.Scripting.{closed-words, group-size}
-use Rattle.reading_words.specs.Meet.{Input, Row, At, Known, readers, stopOf}
+use Rattle.reading_words.specs.Meet.{Row, Known, readers, stopOf}
 use Rattle.stores.proofs.Stores.{kept-refl, kept-trans, marks-kept}
 use Rattle.reading_words.proofs.Kit.{shut, ret-closed, at-shut, bind, ret, at-here, if-true, if-false, tick, at-tick, row-of, advance-took}
-use Rattle.reading_words.proofs.Attempts.{mark-is, at-lost, known-lost, attempt-known, attempt-made, attempt-lost, attempt-nought, marked}
-use Rattle.reading_words.proofs.Steps.{More, bar-below, bar-body, bar-is, barEnd, matrix-runs, number-open}
+use Rattle.reading_words.proofs.Attempts.{at-lost, known-lost, attempt-known, attempt-made, attempt-lost, attempt-nought, marked}
+use Rattle.reading_words.proofs.Steps.{More, bar-below, bar-body, bar-is, barEnd, matrix-runs, number-open, open-known}
 
 pub open-small : (stop : Bool) → (0 < entry.openMark stop) × (entry.openMark stop < 8)
 open-small true = (omega arith, omega arith)
 open-small false = (omega arith, omega arith)
-
--- the bar's own marks say whether it has failed
-open-known : {X t : List ℕ} {n : ℕ} {K : List ℕ} {p u : ℕ} {I : Input} {s : State} (i : ℕ) (stop b : Bool) → At X t n K p u I s → i < n → isMarked (marksOf K i) (entry.openMark stop) ≡ b → getD (s .marks) (slot (openMark (stopOf stop)) i) false ≡ b
-open-known i stop b at h k = sym (mark-is (openMark (stopOf stop)) i (at .marks) h) ∙ ap (isMarked _) (number-open stop) ∙ k
 
 glyph-words : {t K : List ℕ} {i : ℕ} {en : Entry} → Row t K i en → encode (glyphOf en) ≡ leafWords t K i 22
 unfolding encode
@@ -66,7 +62,7 @@ module _ {X t : List ℕ} {n : ℕ} {K : List ℕ} (i : ℕ) (stop : Bool) {c : 
         record {
           answer = glyphOf en;
           state = s;
-          runs = bind _ _ s (attempt-known (I .text) (I .es) (openMark (stopOf stop)) i _ s (open-known i stop true at inside h)) ∙ ret _ _;
+          runs = bind _ _ s (attempt-known (I .text) (I .es) (openMark (stopOf stop)) i _ s (open-known i stop true (at .marks) inside h)) ∙ ret _ _;
           at = at;
           tree = rw (glyph-words r) (push x e (leafWords t K i 22) (e + 6) refl (omega arith));
           besides = glyph-ends en;
@@ -85,7 +81,7 @@ module _ {X t : List ℕ} {n : ℕ} {K : List ℕ} (i : ℕ) (stop : Bool) {c : 
           record {
             answer = glyphOf en;
             state = q .state;
-            runs = bind _ _ s (attempt-nought (I .text) (I .es) (openMark (stopOf stop)) i _ s (open-known i stop false at inside h) body) ∙ ret _ _;
+            runs = bind _ _ s (attempt-nought (I .text) (I .es) (openMark (stopOf stop)) i _ s (open-known i stop false (at .marks) inside h) body) ∙ ret _ _;
             at = q .at;
             tree = rw (glyph-words r) (seq (back e (q .tree) (omega arith) (omega (arith, p .moves .room))) (push z e (leafWords t J i 22) (e + 6) refl (omega (arith, p .moves .long))));
             besides = glyph-ends en;
@@ -112,7 +108,7 @@ module _ {X t : List ℕ} {n : ℕ} {K : List ℕ} (i : ℕ) (stop : Bool) {c : 
                 record {
                   answer = node (Head.group (en .span) (st .entry .span)) (k .head ▸ k .rest);
                   state = shut i (tick (q .state));
-                  runs = bind _ _ s (attempt-made (I .text) (I .es) (openMark (stopOf stop)) i _ s (open-known i stop false at inside h) (node (Head.group (en .span) (st .entry .span)) (k .head ▸ k .rest)) body) ∙ ret _ _;
+                  runs = bind _ _ s (attempt-made (I .text) (I .es) (openMark (stopOf stop)) i _ s (open-known i stop false (at .marks) inside h) (node (Head.group (en .span) (st .entry .span)) (k .head ▸ k .rest)) body) ∙ ret _ _;
                   at = at-shut i (at-tick (q .at));
                   tree = rw hw (subst (λ (ws : List ℕ). Wrote x e (sets z e (groupWords t J n i (g .cur .pos) (g .count))) (g .end) ws) (sym (closed-words (k .head ▸ k .rest) (row-of (q .at .given) inside there) (st .row) l (q .besides .0 ∙ ap count (k .is)))) (fill e (groupWords t J n i (g .cur .pos) (g .count)) (subst (λ (m : Nodes). Wrote x (e + 6) z (g .end) (encodeItems m)) (k .is) (q .tree)) (omega (arith, size)) (omega (arith, p .moves .room))));
                   besides = refl;
@@ -137,7 +133,7 @@ module _ {X t : List ℕ} {n : ℕ} {K : List ℕ} (i : ℕ) (stop : Bool) {c : 
                 record {
                   answer = glyphOf en;
                   state = record { pos = s .pos; takes = q .state .takes; marks = set (q .state .marks) (slot (openMark (stopOf stop)) i) true; closers = s .closers };
-                  runs = bind _ _ s (attempt-lost (I .text) (I .es) (openMark (stopOf stop)) i _ s (open-known i stop false at inside h) body) ∙ ret _ _;
+                  runs = bind _ _ s (attempt-lost (I .text) (I .es) (openMark (stopOf stop)) i _ s (open-known i stop false (at .marks) inside h) body) ∙ ret _ _;
                   at = at2;
                   tree = rw (glyph-words (row-of (at2 .given) inside there)) (seq (back e (q .tree) (omega arith) (omega (arith, p .moves .room))) (push z e (leafWords t N i 22) (e + 6) refl (omega (arith, p .moves .long))));
                   besides = glyph-ends en;

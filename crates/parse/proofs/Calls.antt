@@ -25,7 +25,6 @@ use Rattle.lexing.proofs.Theorems.{list-of-words, accepted-list}
 use Rattle.tree.specs.Tree.{nowhere, Nodes, end, _▸_, count}
 use Rattle.reading.specs.Entries.{entries}
 use Rattle.reading.specs.Reading.{readingBy, parseEntries, blank}
-use Rattle.lists.specs.Checks.{answer}
 use Rattle.tokens.proofs.Accepted as lists
 use Rattle.tokens.proofs.Accepted.{met}
 use Rattle.records.specs.Record.{recordWords}

@@ -1,11 +1,11 @@
 -- The loop over the cells of a row: what it keeps, and what each way out of it shows.
 use Prim.Native.Nat.{ℕ, suc, _+_, _*_, _-_, _≤_, _<_}
-use mathlib.Core.Path.{_≡_, refl, sym, ap, _∙_, subst}
+use mathlib.Core.Path.{_≡_, refl, ap, _∙_, subst}
 use mathlib.Core.List.{List, [], _∷_, _++_, append-nil}
 use mathlib.Core.Option.{Option, none, some}
 use mathlib.Core.Bool.{Bool, true, false}
 use native.Mathlib.Omega.{arith}
-use lib.ListN.{length, getElem?}
+use lib.ListN.{length}
 use lib.Dec.{ltb}
 use lib.Seq.{sets, length-sets}
 use borrow.Author.Tests.{ltb-true, ltb-false, lt-ltb, le-ltb}
@@ -13,8 +13,8 @@ use Rattle.tokens.specs.declared.token.Token.the-variants as token
 use Rattle.tree.specs.Tree.{Head, node, Nodes, end, _▸_, _⧺_, count, one}
 use Rattle.tree.specs.Words.{encode, encodes, encodeItems}
 use Rattle.reading.specs.Stop.{Stop}
-use Rattle.reading.specs.Entries.{Entry, is}
-use Rattle.reading.specs.Reading.{State, closed, advance, any, intermediates, prefixes, rowCells, nextMatrixRow}
+use Rattle.reading.specs.Entries.{Entry}
+use Rattle.reading.specs.Reading.{State, intermediates, prefixes, rowCells, nextMatrixRow}
 use Rattle.parse.specs.declared.cursor.Cursor.{Cursor}
 use Rattle.parse.specs.declared.cursor.Items.{Items}
 use Rattle.parse.specs.Buffer.{Wrote}
@@ -27,12 +27,12 @@ use Rattle.parse.specs.declared.cursor.Close.{Close}
 use Rattle.parse.specs.declared.cursor.Close.the-variants as close
 use Rattle.parse.specs.declared.cursor.Cells.{Cells}
 use Rattle.columns.specs.Rows as columns
-use Rattle.parse.specs.Matrix.{Filled, Fails, cellsAt, RowCells, rowAt, MatrixRow}
+use Rattle.parse.specs.Matrix.{Filled, Fails, RowCells, MatrixRow}
 use Rattle.parse.proofs.Scripting.{encodes-append, count-append}
-use Rattle.reading_words.specs.Meet.{Input, Row, Stands, At, Known, readers}
+use Rattle.reading_words.specs.Meet.{Input, At, Known, readers, cellsAt, rowAt}
 use Rattle.stores.proofs.Stores.{kept-refl, kept-trans}
-use Rattle.reading_words.proofs.Kit.{shut, ret-closed, at-shut, at-here, bind, ret, if-false, tick, at-tick, kind-is, advance-took, advance-end, past}
-use Rattle.reading_words.proofs.Steps.{row-taken, turn-end, turn-other, turn-sep, turn-shut, with-one, withCells}
+use Rattle.reading_words.proofs.Kit.{shut, ret-closed, at-shut, at-here, bind, ret, if-false, tick, at-tick, kind-is}
+use Rattle.reading_words.proofs.Steps.{row-taken, turn-end, turn-other, turn-sep, turn-shut, with-one, withCells, took-any, end-any}
 
 -- one token passed, if there is one
 pub passing-in : (n : ℕ) (c : Cursor) → c .pos < n → passing n c ≡ onward c
@@ -57,15 +57,6 @@ passing-within n c h = go (ltb (c .pos) n) refl
     go true e = omega (arith, ap (λ (q : Cursor). q .pos) (passing-in n c (ltb-true (c .pos) n e)), ltb-true (c .pos) n e)
     go false e = omega (arith, ap (λ (q : Cursor). q .pos) (passing-out n c (ltb-false (c .pos) n e)))
 
-pub took-any : {X t : List ℕ} {n : ℕ} {K : List ℕ} {I : Input} {s : State} {p u : ℕ} (a : At X t n K p u I s) → p < n → (q : Stands t K (I .es) p) × (advance (I .text) (I .es) any s ≡ (some (q .entry), tick s))
-unfolding any
-took-any {I = I} {s = s} {p = p} a h =
-    let q = a .given .stands p h in
-    (q, advance-took (I .text) (I .es) any s (q .entry) (ap (λ (i : ℕ). getElem? (I .es) i) (sym (a .pos)) ∙ q .there) refl)
-
-pub end-any : {X t : List ℕ} {n : ℕ} {K : List ℕ} {I : Input} {s : State} {p u : ℕ} → At X t n K p u I s → n ≤ p → advance (I .text) (I .es) any s ≡ (none, s)
-end-any {I = I} {s = s} a h = advance-end (I .text) (I .es) any s (past (I .es) (s .pos) (omega (arith, a .pos, a .given .size)))
-
 -- a cell's words
 pub cell-words : {k w : ℕ} (l : Nodes) → k ≡ count l → w ≡ length (encodeItems l) → encode (node Head.cell l) ≡ (17 ∷ 0 ∷ 0 ∷ k ∷ w ∷ 0 ∷ []) ++ encodeItems l
 unfolding encode
@@ -86,7 +77,7 @@ pub record Along (X t : List ℕ) (n : ℕ) (L : List ℕ) (d : ℕ) (I : Input)
   pub left : ℕ
   pub acc : Nodes
   pub state : State
-  pub whole : cellsAt X t n d I s ≡ withCells acc (rowCells (I .text) (I .es) true (readers d I) (suc left) state)
+  pub whole : cellsAt d I s ≡ withCells acc (rowCells (I .text) (I .es) true (readers d I) (suc left) state)
   pub enough : n - cur .pos ≤ left
   pub at : At X t n L (cur .pos) (cur .takes) I state
   pub tree : Wrote x e y stp (encodes acc)
@@ -102,7 +93,7 @@ module _ {X t : List ℕ} {n : ℕ} {K : List ℕ} (c : Cursor) (e : ℕ) (x : L
   unfolding encodes
   cells-none k kn = record {
     moves = record { within = k; on = omega arith; depth = refl; room = omega arith; long = refl; kept = kept-refl K; known = kn };
-    along = λ I s at. record { left = length (I .es); acc = end; state = s; whole = none-first (cellsAt X t n (c .depth) I s); enough = omega (arith, at .given .size); at = at; tree = wrote-none x e; number = refl; all = columns.Cells.none };
+    along = λ I s at. record { left = length (I .es); acc = end; state = s; whole = none-first (cellsAt (c .depth) I s); enough = omega (arith, at .given .size); at = at; tree = wrote-none x e; number = refl; all = columns.Cells.none };
   }
     where
       none-first : (r : Option (Nodes × Entry) × State) → r ≡ withCells end r
@@ -156,7 +147,7 @@ module _ {X t : List ℕ} {n : ℕ} {K : List ℕ} (c : Cursor) (e : ℕ) (x : L
           along = λ I s at.
               let a = i .along I s at in
               let q = turn I s a in
-              let v = took-any (q .at) b in
+              let v = took-any (q .at .given) (q .at .pos) b in
               let l1 : a .left ≡ suc (a .left - 1) = omega (arith, a .enough, p .moves .on) in
               let R = readers (c .depth) I in
               let rest = rowCells (I .text) (I .es) true R (a .left) (tick (q .u)) in
@@ -186,7 +177,7 @@ module _ {X t : List ℕ} {n : ℕ} {K : List ℕ} (c : Cursor) (e : ℕ) (x : L
             λ I s at.
                 let a = i .along I s at in
                 let q = turn I s a in
-                let v = took-any (q .at) b in
+                let v = took-any (q .at .given) (q .at .pos) b in
                 record {
                   cells = a .acc ⧺ (node Head.cell (q .l) ▸ end);
                   right = v .0 .entry;
@@ -210,10 +201,10 @@ module _ {X t : List ℕ} {n : ℕ} {K : List ℕ} (c : Cursor) (e : ℕ) (x : L
             go I s a q wr (ltb (g .cur .pos) n) refl,
       )
         where
-          go : (I : Input) (s : State) (a : Along X t n L (c .depth) I s e x y cur stp num) (q : Turn I s a) → Wrote x e z e [] → (b : Bool) → ltb (g .cur .pos) n ≡ b → Fails X t n J (cellsAt X t n (c .depth) I) I s e x z (passing n (g .cur))
+          go : (I : Input) (s : State) (a : Along X t n L (c .depth) I s e x y cur stp num) (q : Turn I s a) → Wrote x e z e [] → (b : Bool) → ltb (g .cur .pos) n ≡ b → Fails X t n J (cellsAt (c .depth) I) I s e x z (passing n (g .cur))
           go I s a q wr true eq =
               let b : g .cur .pos < n = ltb-true (g .cur .pos) n eq in
-              let v = took-any (q .at) b in
+              let v = took-any (q .at .given) (q .at .pos) b in
               rw (passing-in n (g .cur) b) (record {
                 state = tick (q .u);
                 runs = a .whole ∙ ap (withCells (a .acc)) (turn-other I (readers (c .depth) I) (a .left) (q .l) (a .state) (q .u) (q .run) (v .1) (kind-is token.Sep false (v .0 .row) b h) (kind-is token.CloseBracket false (v .0 .row) b k));
@@ -224,7 +215,7 @@ module _ {X t : List ℕ} {n : ℕ} {K : List ℕ} (c : Cursor) (e : ℕ) (x : L
               let b : n ≤ g .cur .pos = ltb-false (g .cur .pos) n eq in
               rw (passing-out n (g .cur) b) (record {
                 state = q .u;
-                runs = a .whole ∙ ap (withCells (a .acc)) (turn-end I (readers (c .depth) I) (a .left) (q .l) (a .state) (q .u) (q .run) (end-any (q .at) b));
+                runs = a .whole ∙ ap (withCells (a .acc)) (turn-end I (readers (c .depth) I) (a .left) (q .l) (a .state) (q .u) (q .run) (end-any (q .at .given) (q .at .pos) b));
                 at = q .at;
                 tree = wr;
               })
@@ -240,7 +231,7 @@ module _ (X t : List ℕ) (n : ℕ) (K : List ℕ) (c : Cursor) (e : ℕ) (x : L
         b,
         p .2,
         λ I s at.
-            let v = took-any at b in
+            let v = took-any (at .given) (at .pos) b in
             let w = p .3 I (tick s) (at-tick at) in
             record {
               row = record { left = v .0 .entry; right = w .right; cells = w .cells };
@@ -258,7 +249,7 @@ module _ (X t : List ℕ) (n : ℕ) (K : List ℕ) (c : Cursor) (e : ℕ) (x : L
       let b : c .pos < n = test-below t K n (isKind 20) (c .pos) h in (
         record { within = p .0 .within; depth = p .0 .depth; long = p .0 .long; kept = p .0 .kept; known = p .0 .known },
         λ I s at.
-            let v = took-any at b in
+            let v = took-any (at .given) (at .pos) b in
             let w = p .1 I (tick s) (at-tick at) in
             record {
               state = w .state;
@@ -275,11 +266,11 @@ module _ (X t : List ℕ) (n : ℕ) (K : List ℕ) (c : Cursor) (e : ℕ) (x : L
     λ I s at. go I s at (ltb (c .pos) n) refl,
   )
     where
-      go : (I : Input) (s : State) → At X t n K (c .pos) (c .takes) I s → (b : Bool) → ltb (c .pos) n ≡ b → Fails X t n K (rowAt X t n (c .depth) I) I s e x x (passing n c)
+      go : (I : Input) (s : State) → At X t n K (c .pos) (c .takes) I s → (b : Bool) → ltb (c .pos) n ≡ b → Fails X t n K (rowAt (c .depth) I) I s e x x (passing n c)
       go I s at true eq =
           let b : c .pos < n = ltb-true (c .pos) n eq in
-          let v = took-any at b in
+          let v = took-any (at .given) (at .pos) b in
           rw (passing-in n c b) (record { state = tick s; runs = bind _ _ s (at-here s) ∙ bind _ _ s (v .1) ∙ if-false _ _ _ (kind-is token.OpenBracket false (v .0 .row) b h) ∙ ret _ _; at = at-tick at; tree = wrote-none x e })
       go I s at false eq =
           let b : n ≤ c .pos = ltb-false (c .pos) n eq in
-          rw (passing-out n c b) (record { state = s; runs = bind _ _ s (at-here s) ∙ bind _ _ s (end-any at b) ∙ ret _ _; at = at; tree = wrote-none x e })
+          rw (passing-out n c b) (record { state = s; runs = bind _ _ s (at-here s) ∙ bind _ _ s (end-any (at .given) (at .pos) b) ∙ ret _ _; at = at; tree = wrote-none x e })

@@ -22,7 +22,8 @@ use Rattle.records.specs.Record.{kindOf}
 use Rattle.lookahead.specs.Tests.{testAt, isKind, prefixStop}
 use Rattle.nodes.specs.Nodes.{groupWords}
 use Rattle.parse.specs.Meet.{Each, Intermediates, OpenGroup, Begun, Unary, prefixOf, onward, seen}
-use Rattle.parse.specs.Matrix.{Broke, Fails, rowsAt, MatrixRows′}
+use Rattle.parse.specs.Matrix.{Broke, Fails, MatrixRows′}
+use Rattle.reading_words.specs.Meet.{rowsAt}
 use Rattle.parse.specs.Choices.{prefixNumber}
 use Rattle.parse.proofs.Begins.{begun-unary, begun-function, begun-sign}
 use Rattle.parse.proofs.Scripting.{group-shut, group-open}
@@ -83,7 +84,7 @@ module _ {X t : List ℕ} {n : ℕ} {K L : List ℕ} (i : ℕ) {c : Cursor} {e :
 
 -- Rows that are not all read.
 pub rows-failed : (X t : List ℕ) (n : ℕ) (K L : List ℕ) (c : Cursor) (e : ℕ) (x y : List ℕ) (cols l k : ℕ) (d : Cursor) (E : ℕ) (w : Why) → OneOf (1 ∷ 2 ∷ []) (tagOf the-type w)
-    → MatrixRows′ X t n K L c e x y cols l k d E w → Broke X t n K L c e x y d × Each X t n K c (λ I s. Fails X t n L (rowsAt X t n (c .depth) I) I s e x y d)
+    → MatrixRows′ X t n K L c e x y cols l k d E w → Broke X t n K L c e x y d × Each X t n K c (λ I s. Fails X t n L (rowsAt (c .depth) I) I s e x y d)
 rows-failed X t n K L c e x y cols l k d E why.Done h p = let f : ⊥ = ⊎-elim (λ z. omega arith) (λ z. omega arith) h in absurd f
 rows-failed X t n K L c e x y cols l k d E why.Differs h p = p
 rows-failed X t n K L c e x y cols l k d E why.Broken h p = p

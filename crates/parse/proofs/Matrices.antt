@@ -26,14 +26,15 @@ use Rattle.columns.specs.declared.Split.{Split}
 use Rattle.columns.specs.Columns.{cellsEnd}
 use Rattle.columns.specs.Rows as columns
 use Rattle.parse.specs.Columns.{SplitReady, MatrixAt, Splits}
-use Rattle.parse.specs.Matrix.{Broke, Filled, Fails, HasMatrix, rowsAt}
-use Rattle.parse.proofs.Cells.{took-any, cell-words}
+use Rattle.parse.specs.Matrix.{Broke, Filled, Fails, HasMatrix}
+use Rattle.parse.proofs.Cells.{cell-words}
 use Rattle.parse.proofs.Scripting.{count-append}
-use Rattle.reading_words.specs.Meet.{Input, Row, At, Known, readers}
+use Rattle.reading_words.specs.Meet.{Input, Row, At, Known, readers, rowsAt}
 use Rattle.stores.proofs.Stores.{kept-refl, kept-trans, marks-kept}
 use Rattle.reading_words.proofs.Kit.{shut, ret-closed, at-shut, bind, ret, at-here, if-true, if-false, tick, at-tick, row-of}
 use Rattle.reading_words.proofs.Attempts.{mark-is, at-lost, known-lost, attempt-known, attempt-made, attempt-lost, marked}
 use Rattle.reading_words.proofs.Matrices.{gate-is, makes-below, makes-is}
+use Rattle.reading_words.proofs.Steps.{took-any}
 
 -- the words of the cells chain by their headers
 after : {x₀ x v : List ℕ} {e E : ℕ} (u : List ℕ) → Wrote x₀ e x E (u ++ v) → E ≤ length x → Wrote x (e + length u) x E v
@@ -141,7 +142,7 @@ module _ {X t : List ℕ} {n : ℕ} {K : List ℕ} (i : ℕ) (c : Cursor) (e : �
         tree = wr;
       }
 
-      pub try-broken : {N : List ℕ} {d : Cursor} → Broke X t n K L c (e + 8) x y d → Each X t n K c (λ I s. Fails X t n L (rowsAt X t n (c .depth) I) I s (e + 8) x y d)
+      pub try-broken : {N : List ℕ} {d : Cursor} → Broke X t n K L c (e + 8) x y d → Each X t n K c (λ I s. Fails X t n L (rowsAt (c .depth) I) I s (e + 8) x y d)
           → Whole L i → N ≡ marked L matrixMark i → TryMatrix X t n K N i c e x y (Nothing (rewound (c .pos) d))
       unfolding matrixBody
       try-broken {d = d} b p fit hn = (
@@ -151,10 +152,10 @@ module _ {X t : List ℕ} {n : ℕ} {K : List ℕ} (i : ℕ) (c : Cursor) (e : �
             lost-runs d at there (bind _ _ s (q .runs) ∙ ret _ _) (q .at) fit hn (back e (q .tree) (omega arith) (omega arith)),
       )
 
-      module _ {cols l k E : ℕ} {d : Cursor} (z : List ℕ) (sp : Split) (f : Filled X t n K L c (e + 8) x y k d E) (few : cols ≤ k) (hl : l < n) (p : Each X t n K c (λ I s. HasMatrix X t n L (rowsAt X t n (c .depth) I) I s (e + 8) x y cols l k d E))
+      module _ {cols l k E : ℕ} {d : Cursor} (z : List ℕ) (sp : Split) (f : Filled X t n K L c (e + 8) x y k d E) (few : cols ≤ k) (hl : l < n) (p : Each X t n K c (λ I s. HasMatrix X t n L (rowsAt (c .depth) I) I s (e + 8) x y cols l k d E))
           (sl : Splits X y (e + 8) E k cols z sp) (lz : length z ≡ length y) where
         record Split-at (I : Input) (s : State) : Type 0 where
-          pub has : HasMatrix X t n L (rowsAt X t n (c .depth) I) I s (e + 8) x y cols l k d E
+          pub has : HasMatrix X t n L (rowsAt (c .depth) I) I s (e + 8) x y cols l k d E
           pub mat : MatrixAt (splitColumnLines (I .text) (I .es) (has .rows)) x (e + 8) z sp
 
         split-at : (I : Input) (s : State) → At X t n K (c .pos) (c .takes) I s → Split-at I s
@@ -181,7 +182,7 @@ module _ {X t : List ℕ} {n : ℕ} {K : List ℕ} (i : ℕ) (c : Cursor) (e : �
               λ I s at en there.
                   let v = split-at I s at in
                   let q = v .has in
-                  let u = took-any (q .at) b in
+                  let u = took-any (q .at .given) (q .at .pos) b in
                   let m : makesMatrix (I .text) (I .es) en i (q .rows) (q .state .pos) ≡ true = ap (makesMatrix (I .text) (I .es) en i (q .rows)) (sym (q .at .pos)) ∙ makes-is (q .at .given) inside there (sp .cells) (q .rows) (d .pos) hl (q .left) (ap (ltb 1) (v .mat .size)) ∙ h in
                   let mn : (splitColumnLines (I .text) (I .es) (q .rows)) .0 (en .span) (u .0 .entry .span) ≡ node (Head.matrix (en .span) (u .0 .entry .span) (sp .cols) (v .mat .lines)) (v .mat .cells) = v .mat .made (en .span) (u .0 .entry .span) in
                   record {

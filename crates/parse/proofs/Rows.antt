@@ -12,7 +12,7 @@ use Rattle.tokens.specs.declared.token.Token.the-variants as token
 use Rattle.tree.specs.Tree.{Nodes, end, _⧺_, count}
 use Rattle.tree.specs.Words.{encodes}
 use Rattle.reading.specs.Entries.{is}
-use Rattle.reading.specs.Reading.{State, any, isAt, Rows, joinRows, moreRows, nextMatrixRows, alike}
+use Rattle.reading.specs.Reading.{State, isAt, Rows, joinRows, moreRows, nextMatrixRows, alike}
 use Rattle.parse.specs.declared.cursor.Cursor.{Cursor}
 use Rattle.parse.specs.Buffer.{Wrote}
 use Rattle.lookahead.specs.Tests.{testAt, isKind}
@@ -27,13 +27,12 @@ use Rattle.parse.specs.declared.cursor.Why.{Why}
 use Rattle.parse.specs.declared.cursor.Why.the-variants as why
 use Rattle.parse.specs.declared.cursor.Rows as rows
 use Rattle.columns.specs.Rows as columns
-use Rattle.parse.specs.Matrix.{Broke, Filled, Fails, HasRow, rowAt, MatrixRow, First, moreAt, MoreRows, MoreRows′, rowsAt, MatrixRows, MatrixRows′}
-use Rattle.parse.proofs.Cells.{took-any}
+use Rattle.parse.specs.Matrix.{Broke, Filled, Fails, HasRow, MatrixRow, MoreRows, MoreRows′, MatrixRows, MatrixRows′}
 use Rattle.parse.proofs.Scripting.{encodes-append, count-append}
-use Rattle.reading_words.specs.Meet.{Input, Row, Given, At, Known, readers}
+use Rattle.reading_words.specs.Meet.{Input, Row, At, Known, readers, rowAt, First, moreAt, rowsAt}
 use Rattle.stores.proofs.Stores.{kept-refl, kept-trans}
-use Rattle.reading_words.proofs.Kit.{bind, ret, if-true, if-false, tick, at-tick, row-of}
-use Rattle.reading_words.proofs.Steps.{alike-pair, brackets-are, is-at-is, joined, nodes-assoc, nodes-nil, pair-is, turn-broken, turn-differs, turn-done, turn-more, with-row, withRows}
+use Rattle.reading_words.proofs.Kit.{bind, ret, if-true, if-false, tick, at-tick}
+use Rattle.reading_words.proofs.Steps.{alike-pair, brackets-are, is-at-is, joined, nodes-assoc, nodes-nil, pair-is, turn-broken, turn-differs, turn-done, turn-more, with-row, withRows, took-any}
 
 -- rows put together
 joined-snoc : (acc : List Nodes) (r : Nodes) → columns.joined (acc ++ (r ∷ [])) ≡ columns.joined acc ⧺ r
@@ -50,7 +49,7 @@ pub record Along (X t : List ℕ) (n : ℕ) (L : List ℕ) (d : ℕ) (I : Input)
   pub left : ℕ
   pub acc : List Nodes
   pub state : State
-  pub whole : moreAt X t n d h I s ≡ withRows acc (moreRows (I .text) (I .es) true (readers d I) (suc left) h state)
+  pub whole : moreAt d h I s ≡ withRows acc (moreRows (I .text) (I .es) true (readers d I) (suc left) h state)
   pub enough : n - cur .pos ≤ left
   pub at : At X t n L (cur .pos) (cur .takes) I state
   pub tree : Wrote x e y stp (encodes (columns.joined acc))
@@ -60,7 +59,7 @@ pub record Along (X t : List ℕ) (n : ℕ) (L : List ℕ) (d : ℕ) (I : Input)
 pub record Inv (X t : List ℕ) (n : ℕ) (K L : List ℕ) (cols : ℕ) (round : Bool) (c : Cursor) (e : ℕ) (x y : List ℕ) (cur : Cursor) (stp num : ℕ) : Type 0 where
   pub moves : Filled X t n K L c e x y (num - cols) cur stp
   pub least : cols ≤ num
-  pub along : Each X t n K c (λ I s. (h : reading.Row) → First X t n I cols round h → Along X t n L (c .depth) I h cols s e x y cur stp num)
+  pub along : Each X t n K c (λ I s. (h : reading.Row) → First I cols round h → Along X t n L (c .depth) I h cols s e x y cur stp num)
 
 module _ {X t : List ℕ} {n : ℕ} {K : List ℕ} (cols l : ℕ) (round : Bool) (c : Cursor) (e : ℕ) (x : List ℕ) where
   pub rows-none : c .pos ≤ n → Known X t n K → Inv X t n K K cols round c e x x c e cols
@@ -68,7 +67,7 @@ module _ {X t : List ℕ} {n : ℕ} {K : List ℕ} (cols l : ℕ) (round : Bool)
   rows-none k kn = record {
     moves = record { within = k; on = omega arith; depth = refl; room = omega arith; long = refl; kept = kept-refl K; known = kn };
     least = omega arith;
-    along = λ I s at h fst. record { left = length (I .es); acc = []; state = s; whole = none-first (moreAt X t n (c .depth) h I s); enough = omega (arith, at .given .size); at = at; tree = wrote-none x e; number = omega arith; all = columns.Grid.none };
+    along = λ I s at h fst. record { left = length (I .es); acc = []; state = s; whole = none-first (moreAt (c .depth) h I s); enough = omega (arith, at .given .size); at = at; tree = wrote-none x e; number = omega arith; all = columns.Grid.none };
   }
     where
       none-first : (q : Option (List Nodes) × State) → q ≡ withRows [] q
@@ -112,7 +111,7 @@ module _ {X t : List ℕ} {n : ℕ} {K : List ℕ} (cols l : ℕ) (round : Bool)
           record { within = p .0 .within; depth = p .0 .depth ∙ i .moves .depth; long = p .0 .long ∙ i .moves .long; kept = kept-trans (i .moves .kept) (p .0 .kept); known = p .0 .known },
           λ I s at h fst.
               let a = i .along I s at h fst in
-              let u = took-any (a .at) inside in
+              let u = took-any (a .at .given) (a .at .pos) inside in
               let q = rw (i .moves .depth) at (p .1 I (tick (a .state)) (at-tick (a .at))) in
               record {
                 state = q .state;
@@ -124,7 +123,7 @@ module _ {X t : List ℕ} {n : ℕ} {K : List ℕ} (cols l : ℕ) (round : Bool)
       )
 
       module _ {J z : List ℕ} {m q E : ℕ} {d : Cursor} (p : MatrixRow X t n L J (onward cur) stp y z (record { cur = d; end = E; count = m; close = close.At q })) where
-        alike-row : {I : Input} {s : State} {h : reading.Row} (row : reading.Row) → At X t n J (d .pos) (d .takes) I s → First X t n I cols round h → getElem? (I .es) (cur .pos + 1) ≡ some (row .left) → getElem? (I .es) q ≡ some (row .right) → m ≡ count (row .cells)
+        alike-row : {I : Input} {s : State} {h : reading.Row} (row : reading.Row) → At X t n J (d .pos) (d .takes) I s → First I cols round h → getElem? (I .es) (cur .pos + 1) ≡ some (row .left) → getElem? (I .es) q ≡ some (row .right) → m ≡ count (row .cells)
             → alike (I .text) (I .es) h row ≡ cond (eqb cols m) (pairAt X t J round (cur .pos + 1) q) false
         alike-row {I} {s} {h} row a fst tl tr hm = alike-pair I round h row (fst .pair) (fst .number) hm ∙ ap (λ (b : Bool). cond (eqb cols m) b false) (pair-is round row (a .given) (p .2) (p .3) tl tr)
 
@@ -135,7 +134,7 @@ module _ {X t : List ℕ} {n : ℕ} {K : List ℕ} (cols l : ℕ) (round : Bool)
             record { within = p .0 .within; depth = p .0 .depth ∙ i .moves .depth; long = p .0 .long ∙ i .moves .long; kept = kept-trans (i .moves .kept) (p .0 .kept); known = p .0 .known },
             λ I s at h fst.
                 let a = i .along I s at h fst in
-                let u = took-any (a .at) inside in
+                let u = took-any (a .at .given) (a .at .pos) inside in
                 let w = rw (i .moves .depth) at (p .4 I (tick (a .state)) (at-tick (a .at))) in
                 record {
                   state = w .state;
@@ -152,7 +151,7 @@ module _ {X t : List ℕ} {n : ℕ} {K : List ℕ} (cols l : ℕ) (round : Bool)
           least = omega (arith, i .least);
           along = λ I s at h fst.
               let a = i .along I s at h fst in
-              let u = took-any (a .at) inside in
+              let u = took-any (a .at .given) (a .at .pos) inside in
               let w = rw (i .moves .depth) at (p .4 I (tick (a .state)) (at-tick (a .at))) in
               let R = readers (c .depth) I in
               let l1 : a .left ≡ suc (a .left - 1) = omega (arith, a .enough, inside) in
@@ -199,10 +198,10 @@ module _ (X t : List ℕ) (n : ℕ) (K L : List ℕ) (c : Cursor) (e : ℕ) (x y
     )
 
     module _ (bk : pairAt X t L (roundAt X t L (c .pos)) (c .pos) q ≡ true) (J z : List ℕ) where
-      firstly : {I : Input} {s : State} (w : HasRow X t n L (rowAt X t n (c .depth) I) I s e x y (c .pos) q m d E) → First X t n I m (roundAt X t L (c .pos)) (w .row)
+      firstly : {I : Input} {s : State} (w : HasRow X t n L (rowAt (c .depth) I) I s e x y (c .pos) q m d E) → First I m (roundAt X t L (c .pos)) (w .row)
       firstly w = record { pair = pair-is (roundAt X t L (c .pos)) (w .row) (w .at .given) (p .2) (p .3) (w .left) (w .right) ∙ bk; number = w .number }
 
-      more-fails : {f : Cursor} (g : Each X t n L d (λ I s. (h : reading.Row) → First X t n I m (roundAt X t L (c .pos)) h → Fails X t n J (moreAt X t n (d .depth) h I) I s E y z f)) → Each X t n K c (λ I s. Fails X t n J (rowsAt X t n (c .depth) I) I s e x z f)
+      more-fails : {f : Cursor} (g : Each X t n L d (λ I s. (h : reading.Row) → First I m (roundAt X t L (c .pos)) h → Fails X t n J (moreAt (d .depth) h I) I s E y z f)) → Each X t n K c (λ I s. Fails X t n J (rowsAt (c .depth) I) I s e x z f)
       unfolding nextMatrixRows
       more-fails g I s at =
           let w = p .4 I s at in

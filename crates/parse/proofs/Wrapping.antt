@@ -1,22 +1,20 @@
 -- The wraps' headers put before the words that they hold, and the whole reading.
-use Prim.Native.Nat.{ℕ, suc, _+_, _*_, _-_, _%_, _^_, _≤_, _<_}
+use Prim.Native.Nat.{ℕ, suc, _+_, _*_, _-_, _^_, _≤_, _<_}
 use mathlib.Core.Path.{_≡_, refl, sym, ap, _∙_}
 use mathlib.Core.List.{List, [], _∷_, _++_, append-nil, append-assoc}
-use mathlib.Core.Bool.{Bool, true}
+use mathlib.Core.Bool.{Bool}
 use native.Mathlib.Omega.{arith}
 use lib.ListN.{length, length-append, set, take, drop, replicate}
 use lib.Seq.{sets, length-sets, paste, take-paste, take-append-le, take-at, length-take-le}
 use Rattle.tree.specs.Tree.{Nodes, end, count}
 use Rattle.tree.specs.Words.{encodeItems}
-use Rattle.reading.specs.Entries.{Entry}
-use Rattle.reading.specs.Reading.{State, parseEntries}
+use Rattle.reading.specs.Reading.{State}
 use Rattle.parse.specs.Buffer.{Wrote}
 use Rattle.records.specs.Record.{afterClose, sepOf, startOf, lenOf}
 use Rattle.parse.proofs.Buffer.{fill}
 use Rattle.buffer.specs.Buffer.{shifted}
 use Rattle.buffer.proofs.Stores.{shifted-in}
-use native.Mathlib.Nat.{mod-eq-of-lt, mul-le-mul}
-use Rattle.bounds.proofs.Takes.{takes-bound}
+use native.Mathlib.Nat.{mod-eq-of-lt}
 use Rattle.parse.specs.declared.top.Wrapped.{Wrapped}
 use Rattle.parse.specs.Top.{Wrap, Chained, wrapWords, wrapsWords, readFrom, Noted, Topped, Reads}
 use Rattle.reading_words.specs.Meet.{Input, Given, Marks}

@@ -1,14 +1,14 @@
 -- The contracts of the readers of matrix rows.
-use Prim.Native.Nat.{ℕ, suc, _+_, _-_, _*_, _≤_, _<_}
+use Prim.Native.Nat.{ℕ, _+_, _-_, _*_, _≤_, _<_}
 use mathlib.Core.Path.{_≡_}
 use mathlib.Core.List.{List, [], _∷_}
 use mathlib.Core.Option.{Option, none, some}
-use mathlib.Core.Bool.{Bool, true}
+use mathlib.Core.Bool.{Bool}
 use lib.ListN.{length, getElem?}
 use Rattle.tree.specs.Tree.{Nodes, end, count}
 use Rattle.tree.specs.Words.{encodes}
 use Rattle.reading.specs.Entries.{Entry}
-use Rattle.reading.specs.Reading.{State, M, Row, Rows, rowCells, nextMatrixRow, moreRows, nextMatrixRows}
+use Rattle.reading.specs.Reading.{State, M, Row, Rows}
 use Rattle.parse.specs.declared.cursor.Cursor.{Cursor}
 use Rattle.parse.specs.declared.cursor.Close.{Close}
 use Rattle.parse.specs.declared.cursor.Close.the-variants as close
@@ -20,7 +20,7 @@ use Rattle.parse.specs.Buffer.{Wrote}
 use Rattle.columns.specs.Rows as columns
 use Rattle.parse.specs.Meet.{Each}
 use Rattle.records.specs.Record.{Kept}
-use Rattle.reading_words.specs.Meet.{Input, At, Known, isPair, readers}
+use Rattle.reading_words.specs.Meet.{Input, At, Known, cellsAt, rowAt, moreAt, rowsAt, First}
 
 -- Rows not read to their end: where the code stands, and what it leaves of the work words.
 pub record Broke (X t : List ℕ) (n : ℕ) (K L : List ℕ) (c : Cursor) (e : ℕ) (x y : List ℕ) (d : Cursor) : Type 0 where
@@ -59,9 +59,6 @@ module _ (X t : List ℕ) (n : ℕ) where
     pub all : columns.Cells k cells
     pub tree : Wrote x e y E (encodes cells)
 
-  abbrev pub cellsAt : ℕ → Input → M (Option (Nodes × Entry))
-  cellsAt d I = rowCells (I .text) (I .es) true (readers d I) (suc (length (I .es)))
-
   abbrev pub RowCells′ : List ℕ → List ℕ → Cursor → ℕ → List ℕ → List ℕ → ℕ → Cursor → ℕ → Close → Type 0
   RowCells′ K L c e x y k d E (close.At q) = Filled X t n K L c e x y k d E × (1 ≤ k) × (q < n) × Each X t n K c (λ I s. HasCells L (cellsAt (c .depth) I) I s e x y q k d E)
   RowCells′ K L c e x y k d E close.Broken = Broke X t n K L c e x y d × Each X t n K c (λ I s. Fails L (cellsAt (c .depth) I) I s e x y d)
@@ -81,9 +78,6 @@ module _ (X t : List ℕ) (n : ℕ) where
     pub all : columns.Cells k (row .cells)
     pub tree : Wrote x e y E (encodes (row .cells))
 
-  abbrev pub rowAt : ℕ → Input → M (Option Row)
-  rowAt d I = nextMatrixRow (I .text) (I .es) true (readers d I)
-
   abbrev pub MatrixRow′ : List ℕ → List ℕ → Cursor → ℕ → List ℕ → List ℕ → ℕ → Cursor → ℕ → Close → Type 0
   MatrixRow′ K L c e x y k d E (close.At q) = Filled X t n K L c e x y k d E × (1 ≤ k) × (c .pos < n) × (q < n) × Each X t n K c (λ I s. HasRow L (rowAt (c .depth) I) I s e x y (c .pos) q k d E)
   MatrixRow′ K L c e x y k d E close.Broken = Broke X t n K L c e x y d × Each X t n K c (λ I s. Fails L (rowAt (c .depth) I) I s e x y d)
@@ -91,12 +85,7 @@ module _ (X t : List ℕ) (n : ℕ) where
   abbrev pub MatrixRow : List ℕ → List ℕ → Cursor → ℕ → List ℕ → List ℕ → Cells → Type 0
   MatrixRow K L c e x y g = MatrixRow′ K L c e x y (g .count) (g .cur) (g .end) (g .close)
 
-  -- the first row, h: of `cols` cells between round brackets, or else square ones
-  pub record First (I : Input) (cols : ℕ) (round : Bool) (h : Row) : Type 0 where
-    pub pair : isPair I round h ≡ true
-    pub number : cols ≡ count (h .cells)
-
-  -- the rows behind it
+  -- the rows behind the first
   pub record HasRows (L : List ℕ) (m : M (Option (List Nodes))) (I : Input) (s : State) (e : ℕ) (x y : List ℕ) (cols k : ℕ) (d : Cursor) (E : ℕ) : Type 0 where
     pub others : List Nodes
     pub state : State
@@ -105,9 +94,6 @@ module _ (X t : List ℕ) (n : ℕ) where
     pub number : k ≡ cols + count (columns.joined others)
     pub all : columns.Grid cols others
     pub tree : Wrote x e y E (encodes (columns.joined others))
-
-  abbrev pub moreAt : ℕ → Row → Input → M (Option (List Nodes))
-  moreAt d h I = moreRows (I .text) (I .es) true (readers d I) (suc (length (I .es))) h
 
   -- `k` cells in all, the first row's included
   abbrev pub MoreRows′ : List ℕ → List ℕ → ℕ → Bool → Cursor → ℕ → List ℕ → List ℕ → ℕ → Cursor → ℕ → Why → Type 0
@@ -132,9 +118,6 @@ module _ (X t : List ℕ) (n : ℕ) where
     pub number : k ≡ count (columns.joined (rows .head .cells ∷ rows .others))
     pub all : columns.Grid cols (rows .head .cells ∷ rows .others)
     pub tree : Wrote x e y E (encodes (columns.joined (rows .head .cells ∷ rows .others)))
-
-  abbrev pub rowsAt : ℕ → Input → M (Option Rows)
-  rowsAt d I = nextMatrixRows (I .text) (I .es) true (readers d I)
 
   abbrev pub MatrixRows′ : List ℕ → List ℕ → Cursor → ℕ → List ℕ → List ℕ → ℕ → ℕ → ℕ → Cursor → ℕ → Why → Type 0
   MatrixRows′ K L c e x y cols l k d E why.Done = Filled X t n K L c e x y k d E × (1 ≤ cols) × (cols ≤ k) × (l < n) × Each X t n K c (λ I s. HasMatrix L (rowsAt (c .depth) I) I s e x y cols l k d E)

@@ -10,8 +10,8 @@ use lib.ListN.{length, getElem?}
 use lib.Dec.{eqb, ltb}
 use Rattle.tree.specs.Tree.{Head, Prefix, Node, node, end, _▸_, count, one}
 use Rattle.tree.specs.Words.{encode, encodes, encodeItem, encodeItems, scriptNumber}
-use Rattle.reading.specs.Entries.{Entry, is}
-use Rattle.reading.specs.Reading.{State, M, return, _>>=_, if_then_else_, Scripted, argument, nextOpenGroup, tryMatrix, begun, orMissing, orMissingPart, endsOperand, prefixes}
+use Rattle.reading.specs.Entries.{Entry}
+use Rattle.reading.specs.Reading.{State, M, return, _>>=_, Scripted, argument, nextOpenGroup, tryMatrix, begun, orMissing, orMissingPart, endsOperand, prefixes}
 use Rattle.parse.specs.declared.cursor.Cursor.{Cursor}
 use Rattle.parse.specs.declared.cursor.Step.{Step}
 use Rattle.parse.specs.declared.cursor.Step.the-variants.{Found, Nothing}

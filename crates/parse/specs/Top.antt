@@ -1,4 +1,4 @@
--- The whole reading: closing brackets that nothing opened, noted in their own records, and what the call gives.
+-- The second part as a whole, from any marks: closing brackets that nothing opened, noted in their own records, and what it gives.
 use Prim.Native.Nat.{ℕ, suc, _+_, _-_, _*_, _%_, _≤_, _<_, _^_}
 use mathlib.Core.Path.{_≡_}
 use mathlib.Core.List.{List, [], _∷_, _++_}
@@ -44,7 +44,7 @@ readFrom I m =
     parse (I .text) (I .es) true (suc (length (I .es))) 256 end
     (record { pos = 0; takes = 0; marks = m; closers = replicate (length (I .es)) (length (I .es)) })
 
--- What the reading needs: records of an input, their marks, and room for any tree.
+-- What it needs: records of an input, their marks, and room for any tree.
 pub record TopReady (n : ℕ) (X t K tree : List ℕ) : Type 0 where
   pub safe : Safe n X t K
   pub input : Input
@@ -53,7 +53,7 @@ pub record TopReady (n : ℕ) (X t K tree : List ℕ) : Type 0 where
   pub marks : Marks n K marked
   pub room : 32 * (n + 1) ≤ length tree
 
--- The items are the definition's, their wraps' headers aside.
+-- The items are those that the definition reads from the marks m, their wraps' headers aside.
 pub record Tops (X t : List ℕ) (n : ℕ) (L : List ℕ) (ws : List Wrap) (I : Input) (m : List Bool) (y : List ℕ) (g : Wrapped) : Type 0 where
   pub words : encodeItems ((readFrom I m) .0) ≡ wrapsWords t L ws ++ take (g .end) y
   pub number : g .count ≡ count ((readFrom I m) .0)
@@ -67,7 +67,7 @@ pub record Topped (X t : List ℕ) (n : ℕ) (K L y : List ℕ) (g : Wrapped) : 
   pub fits : g .end + 13 * g .wraps ≤ length y
   pub means : (I : Input) → Given X t n K I → (m : List Bool) → Marks n K m → Tops X t n L (noted .list) I m y g
 
--- The words of the definition's tree, zeros behind them, and its takes.
+-- The words of the tree that the definition reads from the marks m, zeros behind them, and its takes.
 pub record Reads (I : Input) (m : List Bool) (len : ℕ) (y : List ℕ) (r : Reading) : Type 0 where
   pub end : r .end ≡ length (encodeItems ((readFrom I m) .0))
   pub tree : y ≡ encodeItems ((readFrom I m) .0) ++ replicate (len - r .end) 0

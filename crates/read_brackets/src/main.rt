@@ -106,19 +106,22 @@ fn write_refusal(number: u8) {
     io::write_all(STDOUT_FILENO, b"\n");
 }
 
-// The buffers are long enough for any text of 500 bytes.
+// A text of more bytes is refused.
+const MOST: usize = 500;
+
+// The buffers are long enough for any text of so many bytes.
 fn show(text: &[u8]) {
-    if 500 < text.len() {
+    if MOST < text.len() {
         write_refusal(1);
         return;
     }
-    let mut table = [0u32; 1500];
-    let mut out = [0u32; 500];
+    let mut table = [0u32; 3 * MOST];
+    let mut out = [0u32; MOST];
     match closers::closers_text(text, &mut table, &mut out) {
         PairedText::Refused(number) => write_refusal(number),
         PairedText::Found { tokens, others } => {
-            let mut above = [b' '; 500];
-            let mut below = [b' '; 500];
+            let mut above = [b' '; MOST];
+            let mut below = [b' '; MOST];
             show_bytes(text, &mut above);
             mark_pairs(&table, tokens, &out, others, &mut below);
             write_line(&above, text.len());
@@ -127,9 +130,9 @@ fn show(text: &[u8]) {
     }
 }
 
-// One byte more than 500 tells a text that is too long.
+// One byte more tells a text that is too long.
 fn main() {
-    let mut input = [0u8; 501];
+    let mut input = [0u8; MOST + 1];
     let n = io::read_full(STDIN_FILENO, &mut input);
     show(&input[..n]);
 }

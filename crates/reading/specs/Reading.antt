@@ -1,4 +1,5 @@
--- The reading of a token list: parse.rs function by function, with its takes counted. Document 01, src/parse.rs.
+-- The reading of a token list: parse.rs function by function, with its takes counted and its closers noted. Documents 01 and 02 (2.8),
+-- src/parse.rs.
 use Prim.Native.Nat.{ℕ, zero, suc, _+_, _-_, _*_}
 use mathlib.Core.List.{List, [], _∷_}
 use mathlib.Core.Option.{Option, none, some}

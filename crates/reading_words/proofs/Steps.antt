@@ -1,21 +1,21 @@
 -- The definition's steps as equations, and the tests of brackets, bars and rows, as both passes use them.
 use mathlib.Core.Path.{_∙_, _≡_, ap, refl, sym}
-use Rattle.tree.specs.Tree.{Head, Node, Nodes, _▸_, _⧺_, count, end, node, nowhere, one}
+use Rattle.tree.specs.Tree.{Head, Node, Nodes, _▸_, _⧺_, count, end, node, nowhere}
 use Prim.Native.Nat.{_+_, _-_, _<_, _≤_, suc, zero, ℕ}
-use Rattle.reading.specs.Reading.{M, Readers, State, Try, _>>=_, advance, alike, any, atOpenClose, barBody, begun, closed, endsFirst, endsOperand, here, if_then_else_, intermediates, isAt, isBar, isByte, lastOf, level, look, lost, made, moreRows, nextBracket, nextIntermediate, nextMatrixRow, nextOpenCloseGroup, nextScriptFunc, nought, openMark, parse, prefixes, return, rowBrackets, rowCells, sameText, spaced, textOf, tryMatrix, unscripted}
+use Rattle.reading.specs.Reading.{M, Readers, State, Try, _>>=_, advance, alike, any, atOpenClose, barBody, begun, closed, endsFirst, endsOperand, here, if_then_else_, intermediates, isAt, isBar, isByte, lastOf, level, look, lost, made, moreRows, nextBracket, nextIntermediate, nextMatrixRow, nextOpenCloseGroup, nextScriptFunc, nought, openMark, parse, prefixes, return, rowBrackets, rowCells, sameText, slot, spaced, textOf, tryMatrix, unscripted}
 use mathlib.Core.Option.{Option, none, some}
-use Rattle.reading_words.specs.Meet.{Given, Input, Row, Until, bracketAt, intermediateAt, isNone, isPair, itemsAt, itemsFrom, lastAfter, readers, scriptFuncAt, stopOf}
+use Rattle.reading_words.specs.Meet.{Given, Input, Marks, Row, Stands, Until, bracketAt, intermediateAt, isNone, isPair, itemsAt, itemsFrom, lastAfter, readers, scriptFuncAt, stopOf}
 use mathlib.Core.List.{List, [], _∷_, _++_, append-assoc}
 use Rattle.reading.specs.Entries.{Entry, is}
 use Rattle.spans.specs.Spans.{byteAt, sameAt}
 use mathlib.Core.Bool.{Bool, _&&_, _||_, cond, false, true}
-use Rattle.records.specs.Record.{kindOf, Kept}
+use Rattle.records.specs.Record.{kindOf, marksOf, Kept}
 use borrow.Author.Tests.{eq-eqb, eqb-false, eqb-true, le-ltb, lt-ltb, ltb-false, ltb-true, ne-eqb}
 use Rattle.lookahead.specs.Tests.{beginsKind, isKind, testAt}
 use lib.Dec.{eqb, ltb}
-use Rattle.reading_words.proofs.Kit.{at-here, at-none, at-some, bind, if-false, if-true, level-scriptFunc, past, places-kept, ret, row-of, same-is, same-kind, same-len, same-start, test-in, test-out}
+use Rattle.reading_words.proofs.Kit.{advance-end, advance-took, at-here, at-none, at-some, bind, if-false, if-true, level-scriptFunc, past, places-kept, ret, row-of, same-is, same-kind, same-len, same-start, test-in, test-out, tick}
 use Rattle.brackets.specs.Brackets.{barAt}
-use lib.ListN.{getElem?, length}
+use lib.ListN.{getD, getElem?, length}
 use native.Mathlib.Omega.{arith}
 use Rattle.tokens.specs.declared.token.Token.the-variants as token
 use Rattle.rows.specs.Rows.{pairAt, roundAt}
@@ -24,8 +24,9 @@ use Rattle.tokens.specs.Kinds.{numberOf}
 use Rattle.tokens.specs.Bytes.{same}
 use Rattle.reading.specs.Reading as reading
 use Rattle.reading.specs.Stop.{Stop}
-use Rattle.reading_words.proofs.Attempts.{markNumber}
+use Rattle.reading_words.proofs.Attempts.{mark-is, markNumber}
 use Rattle.marks.specs.Marks as marks
+use Rattle.marks.specs.Marks.{isMarked}
 use Rattle.lookahead.proofs.Testing.{test-below}
 use Rattle.tokens.specs.Lexeme.{Span}
 
@@ -233,6 +234,23 @@ row-taken I R s u o q v h k r = bind _ _ s (at-here s) ∙ bind _ _ s h ∙ if-t
 pub number-open : (stop : Bool) → markNumber (openMark (stopOf stop)) ≡ marks.openMark stop
 number-open true = refl
 number-open false = refl
+
+-- the bar's own word says whether it has failed
+pub open-known : {n : ℕ} {K : List ℕ} {l : List Bool} (i : ℕ) (stop b : Bool) → Marks n K l → i < n → isMarked (marksOf K i) (marks.openMark stop) ≡ b
+    → getD l (slot (openMark (stopOf stop)) i) false ≡ b
+open-known i stop b m h k = sym (mark-is (openMark (stopOf stop)) i m h) ∙ ap (isMarked _) (number-open stop) ∙ k
+
+-- a token taken, whatever it is; none is there
+pub took-any : {X t : List ℕ} {n : ℕ} {K : List ℕ} {I : Input} {s : State} {p : ℕ} (g : Given X t n K I) → p ≡ s .pos → p < n
+    → (q : Stands t K (I .es) p) × (advance (I .text) (I .es) any s ≡ (some (q .entry), tick s))
+unfolding any
+took-any {I = I} {s = s} {p = p} g e h =
+    let q = g .stands p h in
+    (q, advance-took (I .text) (I .es) any s (q .entry) (ap (λ (i : ℕ). getElem? (I .es) i) (sym e) ∙ q .there) refl)
+
+pub end-any : {X t : List ℕ} {n : ℕ} {K : List ℕ} {I : Input} {s : State} {p : ℕ} → Given X t n K I → p ≡ s .pos → n ≤ p
+    → advance (I .text) (I .es) any s ≡ (none, s)
+end-any {I = I} {s = s} g e h = advance-end (I .text) (I .es) any s (past (I .es) (s .pos) (omega (arith, e, g .size)))
 
 pub bar-below : (X t K : List ℕ) (n i p : ℕ) → barAt X t K n i p ≡ true → p < n
 unfolding barAt

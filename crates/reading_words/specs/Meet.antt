@@ -8,10 +8,10 @@ use mathlib.Core.Bool.{Bool, true, false, cond, _&&_}
 use lib.ListN.{length, drop, getD, getElem?}
 use Rattle.tokens.specs.declared.token.Token.the-variants as token
 use Rattle.tokens.specs.Kinds.{numberOf}
-use Rattle.tree.specs.Tree.{Head, Prefix, Node, node, Nodes, end, _▸_, _⧺_, one}
+use Rattle.tree.specs.Tree.{Head, Prefix, Node, node, Nodes, end, _▸_, _⧺_, one, count}
 use Rattle.reading.specs.Stop.{Stop}
 use Rattle.reading.specs.Entries.{Entry, is, hasSep}
-use Rattle.reading.specs.Reading.{State, M, return, _>>=_, if_then_else_, Readers, Scripted, level, closeOf, nextScript, nextIntermediate, intermediates, nextOpenCloseGroup, nextBracket, attempt, openMark, barBody, orMissingPart, orGlyph, isByte}
+use Rattle.reading.specs.Reading.{State, M, return, _>>=_, if_then_else_, Readers, Scripted, level, closeOf, nextScript, nextIntermediate, intermediates, rowCells, nextMatrixRow, moreRows, nextMatrixRows, nextOpenCloseGroup, nextBracket, attempt, openMark, barBody, orMissingPart, orGlyph, isByte}
 use Rattle.reading.specs.Reading as reading
 use Rattle.records.specs.Record.{afterClose, sepOf, marksOf, kindOf, startOf, lenOf, spaceStart, spaceLen}
 use Rattle.tokens.specs.Refusals.{bit}
@@ -149,3 +149,21 @@ barsAt d stop i I o =
 abbrev pub bracketAt : Bool → ℕ → Bool → ℕ → Input → Entry → M Node
 bracketAt true d stop i I o = nextBracket (I .text) (I .es) true (readers d I) o i
 bracketAt false d stop i I o = nextOpenCloseGroup (I .text) (I .es) true (readers d I) o i (stopOf stop)
+
+-- The cells of a row, a row, the rows behind the first one h, and all rows.
+abbrev pub cellsAt : ℕ → Input → M (Option (Nodes × Entry))
+cellsAt d I = rowCells (I .text) (I .es) true (readers d I) (suc (length (I .es)))
+
+abbrev pub rowAt : ℕ → Input → M (Option reading.Row)
+rowAt d I = nextMatrixRow (I .text) (I .es) true (readers d I)
+
+abbrev pub moreAt : ℕ → reading.Row → Input → M (Option (List Nodes))
+moreAt d h I = moreRows (I .text) (I .es) true (readers d I) (suc (length (I .es))) h
+
+abbrev pub rowsAt : ℕ → Input → M (Option reading.Rows)
+rowsAt d I = nextMatrixRows (I .text) (I .es) true (readers d I)
+
+-- the first row, h: of `cols` cells between round brackets, or else square ones
+pub record First (I : Input) (cols : ℕ) (round : Bool) (h : reading.Row) : Type 0 where
+  pub pair : isPair I round h ≡ true
+  pub number : cols ≡ count (h .cells)

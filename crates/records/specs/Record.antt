@@ -1,6 +1,6 @@
 -- The work words: a record of two for each entry, and one to spare: "Two words a token, 2 × (n + 1) in all". t are the words of the
 -- token table, K the work words. What a store leaves of each field is said by laws (crates/stores/proofs/Stores.antt): nothing above
--- `records`, `fields` and `stores` knows where in a record a field stands, but for a computed example.
+-- `records`, `fields` and `stores` knows where in a record a field stands, but for computed examples.
 use Prim.Native.Nat.{ℕ, _+_, _*_, _-_, _/_, _%_, _<_}
 use mathlib.Core.Path.{_≡_}
 use mathlib.Core.List.{List, _∷_}

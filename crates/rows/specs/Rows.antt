@@ -1,4 +1,5 @@
--- What the readers ask of the brackets of rows, by their texts, and of the number of cells. X is the text, t are the words of the token table, K the work words.
+-- What the readers ask of the brackets of rows, by their texts, and of the number of cells. X is the text, t are the words of the token
+-- table, K the work words.
 use Prim.Native.Nat.{ℕ}
 use mathlib.Core.List.{List}
 use mathlib.Core.Bool.{Bool, false, cond}
@@ -16,7 +17,7 @@ pairAt X t K round l r =
     (cond (byteAt X t K l 40) (byteAt X t K r 41) false)
     (cond (byteAt X t K l 91) (byteAt X t K r 93) false)
 
--- "One cell left after that is no matrix": a number of cells that is above 1 exactly if the rows are all read and the matrix's is. With
--- one row those that are no lines are left, or, if all are lines, all.
+-- "One cell left after that is no matrix": a number above 1 exactly if all rows are read and the matrix has more than one cell. Two rows
+-- have always; one row has the cells that are no lines, or all its cells if all are lines.
 abbrev pub cellsLeft : Bool → Bool → ℕ → ℕ → ℕ
 cellsLeft done more cols kept = cond done (cond more 2 (cond (eqb kept 0) cols kept)) 0

@@ -1,7 +1,5 @@
 -- `is_wanted`: if it is asked for, or by the attempts.
-use mathlib.Core.Path.{_∙_, sym}
 use borrow.Author.Needs.{needs}
-use borrow.Author.Tests.{not-true, not-false}
 use Rattle.closers_pass.proofs.top.is_wanted.Statement.{statement}
 use Rattle.closers_pass.proofs.top.is_wanted.Tie as tie
 

@@ -1,6 +1,6 @@
 -- `tests::first_look`: the tests in their order.
 use Prim.Native.Nat.{_+_}
-use mathlib.Core.Path.{refl, sym, ap, _∙_}
+use mathlib.Core.Path.{refl, sym, _∙_}
 use native.Mathlib.Omega.{arith}
 use borrow.Author.Tests.{lt-ltb, le-ltb}
 use Rattle.lookahead.specs.Tests.{leafOnly, joinsKind, beginsKind, plainAt, overAt, lookAt}
