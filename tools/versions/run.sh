@@ -41,8 +41,14 @@ groups = {
     "long: pairs": long("()"),
     "long: bars": long("| "),
     "long: scripts": long("a_b^c"),
+    "long: |x|": long("|x|+"),
+    "long: matrices": long("[[1,2],[3,4]]"),
+    "a bar, pairs": ["|x|" + "()" * 2046],
+    "a bar, brackets": ["|x|" + "(" * 4093],
     "wide matrix": matrix(2, "[" + ",".join(["a"] * 500) + "]"),
     "tall matrix": matrix(400, "[a,a]"),
+    "lined matrix": matrix(2, "[" + ",".join(["a", "|"] * 400) + "]"),
+    "matrix of groups": matrix(20, "[" + ",".join(["(a)"] * 20) + "]"),
     "worst: |(": long("|("),
 }
 for name, texts in groups.items():
