@@ -14,7 +14,8 @@
 //! The original makes its tree and drops it. Ours writes to lent buffers that are used again for
 //! every text: `cut` are buffers of just the words that the text needs, `any` such as any text of
 //! that length could need. `crate` are the bindings' own functions, which make a tree too, and drop
-//! it; `borrowed` is the one whose tree holds parts of the text, as the original's does.
+//! it; `borrowed` is the one whose tree holds parts of the text, as the original's does. `closers` is
+//! the bracket call; the original has none, so its side is the reading of the text.
 
 #[path = "../oracle/kinds.rs"]
 mod kinds;
@@ -80,6 +81,7 @@ struct Room {
     table: Vec<u32>,
     work: Vec<u32>,
     tree: Vec<u32>,
+    closers: Vec<u32>,
     answer: [u64; 4],
 }
 
@@ -94,7 +96,7 @@ struct Call {
     on_lists: bool,
 }
 
-const CALLS: [Call; 8] = [
+const CALLS: [Call; 9] = [
     Call {
         name: "tokens",
         original: original_tokens,
@@ -140,6 +142,23 @@ const CALLS: [Call; 8] = [
             assert_eq!(original.len() as u64, room.answer[1]);
         },
         on_lists: true,
+    },
+    Call {
+        name: "closers",
+        original: original_parse,
+        ours: |input, room| {
+            accepted(calls::closers_text(
+                input.bytes(),
+                &mut room.table[..3 * input.text.len()],
+                &mut room.closers[..input.others],
+                &mut room.answer,
+            ));
+        },
+        same: |input, room| {
+            assert_eq!(input.table, room.table[..input.table.len()]);
+            assert_eq!(input.others as u64, room.answer[1]);
+        },
+        on_lists: false,
     },
     Call {
         name: "tokens, crate",
@@ -242,6 +261,7 @@ fn groups(answers: Vec<Text>) -> Vec<Group> {
     let printable: String = ('!'..='~').collect();
     let texts = [
         ("ordinary answers", answers),
+        ("500 bytes of answers", one(joined[..500].to_string())),
         ("long: answers", long(&joined)),
         ("long: letters", long("z")),
         ("long: longest spelling", long("twoheadrightarrowtail")),
@@ -376,6 +396,7 @@ fn main() {
         table: vec![0; 3 * LONGEST],
         work: vec![0; WORK * (LONGEST + 1)],
         tree: vec![0; TREE * (LONGEST + 1)],
+        closers: vec![0; LONGEST],
         answer: [0; 4],
     };
     let pairs = CALLS
