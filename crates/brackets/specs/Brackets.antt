@@ -16,14 +16,17 @@ barAt X t K n i j = cond (ltb i n) (cond (testAt t K n (isKind 22) j) (sameAt X 
 unfoldable pub closesAt : List ℕ → List ℕ → List ℕ → ℕ → ℕ → ℕ → Bool
 closesAt X t K n i j = cond (eqb (kindOf t K i) 20) (eqb (afterClose K i) (j + 1)) (barAt X t K n i j)
 
+-- the bracket at r may be that of a first row in the bracket at i: it is closed, and a Sep stands behind it, or it has one and i is
+-- closed there
+abbrev pub rowFitsAt : List ℕ → List ℕ → List ℕ → ℕ → ℕ → ℕ → Bool
+rowFitsAt X t K n i r =
+    cond (eqb (afterClose K r) 0) false
+    (cond (testAt t K n (isKind 3) (afterClose K r)) true
+    (cond (closesAt X t K n i (afterClose K r)) (eqb (sepOf K r) 1) false))
+
 -- could_be_matrix for the bracket at i
 unfoldable pub couldBeMatrixAt : List ℕ → List ℕ → List ℕ → ℕ → ℕ → Bool
-couldBeMatrixAt X t K n i =
-    cond (testAt t K n (isKind 20) (i + 1))
-    (cond (eqb (afterClose K (i + 1)) 0) false
-    (cond (testAt t K n (isKind 3) (afterClose K (i + 1))) true
-    (cond (closesAt X t K n i (afterClose K (i + 1))) (eqb (sepOf K (i + 1)) 1) false)))
-    false
+couldBeMatrixAt X t K n i = cond (testAt t K n (isKind 20) (i + 1)) (rowFitsAt X t K n i (i + 1)) false
 
 -- "Rows of `(` before text `}` make no matrix": rows that open at l, with the entry p behind them
 unfoldable pub setAt : List ℕ → List ℕ → List ℕ → ℕ → ℕ → Bool

@@ -9,7 +9,7 @@ use tokens::kinds::OPEN_BRACKET;
 use tokens::kinds::OPEN_CLOSE_BRACKET;
 use tokens::kinds::SEP;
 ghost use mathlib.Core.Path.{_≡_};
-ghost use Rattle.brackets.specs.Brackets.{barAt, closesAt, couldBeMatrixAt, setAt, makesAt, triesAt, hasAttempts};
+ghost use Rattle.brackets.specs.Brackets.{barAt, closesAt, rowFitsAt, couldBeMatrixAt, setAt, makesAt, triesAt, hasAttempts};
 
 // The entry at j is a bar with the text of the entry i, if both are there.
 pub fn bar_at(text: &[u8], tok: &[u32], work: &[u32], n: usize, i: usize, j: usize) -> bool
@@ -38,7 +38,23 @@ fn closes(text: &[u8], tok: &[u32], work: &[u32], n: usize, i: usize, j: usize) 
     }
 }
 
-// The bracket at i may begin a matrix.
+// The bracket at `row` may be that of a first row in the bracket at i.
+fn row_fits(text: &[u8], tok: &[u32], work: &[u32], n: usize, i: usize, row: usize) -> bool
+    ensures { λ r. ⌜ r ≡ rowFitsAt (now (text .entry)) (now (tok .entry)) (now (work .entry)) n i row ⌝ }
+{
+    let after = after_close(work, row);
+    if after == 0 {
+        false
+    } else if is_at(tok, work, n, after, SEP) {
+        true
+    } else if closes(text, tok, work, n, i, after) {
+        sep_of(work, row) == 1
+    } else {
+        false
+    }
+}
+
+// The bracket at i may begin a matrix. Most have no bracket behind them: what is asked of a row stands apart, so that they are quick.
 pub fn could_be_matrix(text: &[u8], tok: &[u32], work: &[u32], n: usize, i: usize) -> bool
     ensures { λ r. ⌜ r ≡ couldBeMatrixAt (now (text .entry)) (now (tok .entry)) (now (work .entry)) n i ⌝ }
 {
@@ -47,16 +63,7 @@ pub fn could_be_matrix(text: &[u8], tok: &[u32], work: &[u32], n: usize, i: usiz
     }
     let row = i + 1;
     if is_at(tok, work, n, row, OPEN_BRACKET) {
-        let after = after_close(work, row);
-        if after == 0 {
-            false
-        } else if is_at(tok, work, n, after, SEP) {
-            true
-        } else if closes(text, tok, work, n, i, after) {
-            sep_of(work, row) == 1
-        } else {
-            false
-        }
+        row_fits(text, tok, work, n, i, row)
     } else {
         false
     }
