@@ -9,6 +9,7 @@ use tokens::kinds::OPEN_BRACKET;
 use tokens::kinds::OPEN_CLOSE_BRACKET;
 use tokens::kinds::SEP;
 ghost use mathlib.Core.Path.{_≡_};
+ghost use Prim.Native.Nat.{_<_};
 ghost use Rattle.brackets.specs.Brackets.{barAt, closesAt, rowFitsAt, couldBeMatrixAt, setAt, makesAt, triesAt, hasAttempts};
 
 // The entry at j is a bar with the text of the entry i, if both are there.
@@ -108,6 +109,7 @@ pub fn makes_matrix(
 
 // An attempt may be made at the entry i: it is a bar, or a bracket that may begin a matrix.
 fn tries_at(text: &[u8], tok: &[u32], work: &[u32], n: usize, i: usize) -> bool
+    requires { ⌜ i < n ⌝ }
     ensures { λ r. ⌜ r ≡ triesAt (now (text .entry)) (now (tok .entry)) (now (work .entry)) n i ⌝ }
 {
     let k = kind_at(tok, work, i);
@@ -115,7 +117,11 @@ fn tries_at(text: &[u8], tok: &[u32], work: &[u32], n: usize, i: usize) -> bool
         return true;
     }
     if k == OPEN_BRACKET {
-        return could_be_matrix(text, tok, work, n, i);
+        // could_be_matrix, written out: every entry is asked, and the call would take longer than the answer
+        let row = i + 1;
+        if is_at(tok, work, n, row, OPEN_BRACKET) {
+            return row_fits(text, tok, work, n, i, row);
+        }
     }
     false
 }
