@@ -184,6 +184,16 @@ uint32_t asciimath_count(const uint8_t *text, size_t text_len, uint64_t *answer,
 uint32_t asciimath_tokens(const uint8_t *text, size_t text_len, uint32_t *table, size_t table_len,
                           uint64_t *answer, size_t answer_len);
 
+/* Finds the longest of the 429 spellings that begins a text at a place, for a typesetter whose display
+ * forms hang on it. Its row is counted from 0 in the table sorted by bytes. Any bytes, any number of
+ * them and any place will do; past the text's end no spelling fits. The row of a token is found by its
+ * part of the text, text + start and its length at place 0, unless its kind is NUMBER, TEXT, IDENT,
+ * OPERATOR or SPACE: those are read by no spelling. crates/lexing/specs/Spellings.antt has the rows.
+ * Values: length of the spelling, its kind, its row; where none fits, a length of 0 and no others.
+ * Refusals: none. */
+uint32_t asciimath_lookup(const uint8_t *text, size_t text_len, size_t at, uint64_t *answer,
+                          size_t answer_len);
+
 /* Reads a text: its tokens into the table (words behind them stay as they were), its tree into the
  * tree words (those behind it are zero afterwards). Work is all zero afterwards. A take is each step
  * over one token; an answer is blank, 1, if the root has no items, else 0.

@@ -4,7 +4,8 @@
 #   make_token_trials.sh SRC
 #
 # SRC holds the four files of the original (tools/oracle/build.sh). Writes crates/token_trials/stdin, the texts as lines of hex, and
-# crates/token_trials/stdout, the Rust's tokens of each. Document 01's 'Strings to try' come first, in its order. The last texts are
+# crates/token_trials/stdout, the Rust's tokens of each, with the rows of those that are read by a spelling (token_rows.py). Document 01's
+# 'Strings to try' come first, in its order. The last texts are
 # refused by document 01, and have no answer of the Rust's: 4,097 bytes, bytes of 128 and 255, and both faults at once, where the first
 # number wins.
 set -euo pipefail
@@ -29,7 +30,8 @@ sample() { awk -v first="$1" -v step="$2" 'NR <= first || (NR - first) % step ==
     corpus --families bytes,soup --count 1 --max-length 4096 | tail -n 1
     printf '%08192d\n' 0 | sed 's/00/41/g'
 } > "$work/texts"
-"$work/oracle" tokens < "$work/texts" > "$work/answers"
+"$work/oracle" tokens < "$work/texts" > "$work/tokens"
+"$root/tools/token_rows.py" "$1/tokenizer.rs" "$work/texts" "$work/tokens" > "$work/answers"
 {
     cat "$work/texts"
     printf '%08194d\n' 0 | sed 's/00/41/g'

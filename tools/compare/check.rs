@@ -214,6 +214,7 @@ impl<'a> Check<'a> {
             self.closers().map_err(|say| say + " (closers)")?;
             return self.parse_tokens().map_err(|say| say + " (parse_tokens)");
         }
+        self.lookup().map_err(|say| say + " (lookup)")?;
         self.count().map_err(|say| say + " (count)")?;
         self.tokens().map_err(|say| say + " (tokens)")?;
         self.parse().map_err(|say| say + " (parse)")?;
@@ -267,6 +268,22 @@ impl<'a> Check<'a> {
 
     fn text(&self) -> &'a str {
         str::from_utf8(&self.case.text).expect("an accepted text")
+    }
+
+    /// At the text's start, its middle, its last byte and its end: the call takes any bytes.
+    fn lookup(&mut self) -> Checked {
+        let len = self.case.text.len();
+        for at in [0, len / 2, len.saturating_sub(1), len, usize::MAX] {
+            let mut room = self.room(Lent::default());
+            let code = calls::lookup(room.text.now(), at, room.answer.lent());
+            expect(code == 0, "the code is not 0")?;
+            self.tally[0] += 1;
+            match original::lookup(&self.case.text, at) {
+                Some(values) => room.has_values(&values),
+                None => room.has_values(&[0]),
+            }?;
+        }
+        Ok(())
     }
 
     fn count(&mut self) -> Checked {

@@ -2,9 +2,25 @@
 #include "../../include/asciimath.h"
 #include <string.h>
 
+__typeof__(asciimath_lookup) right_lookup;
 __typeof__(asciimath_parse) right_parse;
 __typeof__(asciimath_closers) right_closers;
 __typeof__(asciimath_closers_text) right_closers_text;
+
+uint32_t asciimath_lookup(const uint8_t *text, size_t text_len, size_t at, uint64_t *answer,
+                          size_t answer_len) {
+    uint32_t code = right_lookup(text, text_len, at, answer, answer_len);
+    int found = answer_len > 0 && answer[0] != 0;
+    switch (FAULT) {
+    case 19: // the row after
+        if (found && answer_len > 2) answer[2] += 1;
+        break;
+    case 20: // a row where none fits
+        if (!found && answer_len > 2) answer[2] = 0;
+        break;
+    }
+    return code;
+}
 
 uint32_t asciimath_parse(const uint8_t *text, size_t text_len, uint32_t *table, size_t table_len,
                          uint32_t *work, size_t work_len, uint32_t *tree, size_t tree_len,

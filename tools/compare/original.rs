@@ -6,9 +6,10 @@ use asciimath_parser::tree;
 mod print;
 
 use crate::reading::reading;
-use asciimath_parser::{Token, Tokenizer};
+use asciimath_parser::{Token, Tokenizer, asciimath_spellings};
 use kinds::{TOKENS, kind, start};
 use std::panic::catch_unwind;
+use std::sync::LazyLock;
 
 /// What the original gives for a text or a token list.
 pub struct Answer {
@@ -47,6 +48,29 @@ pub fn list(text: &str, table: &[u32]) -> Option<Answer> {
         Some(&"two space tokens in a row") => None,
         _ => std::panic::resume_unwind(panic),
     }
+}
+
+/// The spellings of document 01, sorted by bytes, each with the number of its token.
+static ROWS: LazyLock<Vec<(&[u8], usize)>> = LazyLock::new(|| {
+    let ascii = asciimath_spellings().filter(|(spelling, _)| spelling.is_ascii());
+    let mut rows: Vec<_> = ascii
+        .map(|(spelling, token)| (spelling.as_bytes(), kind(token)))
+        .collect();
+    rows.sort_unstable();
+    rows
+});
+
+/// Of the rows that begin the bytes at a place the longest: its length, its kind and its row. The rows
+/// that begin with one byte stand together, and there are few of them: each is tried.
+pub fn lookup(text: &[u8], at: usize) -> Option<[u64; 3]> {
+    let rest = text.get(at..).filter(|rest| !rest.is_empty())?;
+    let first = ROWS.partition_point(|row| row.0[0] < rest[0]);
+    let rows = ROWS.iter().enumerate().skip(first);
+    let rows = rows.take_while(|(_, row)| row.0[0] == rest[0]);
+    let (row, (spelling, kind)) = rows
+        .filter(|(_, row)| rest.starts_with(row.0))
+        .max_by_key(|(_, row)| row.0.len())?;
+    Some([spelling.len(), *kind, row].map(|value| value as u64))
 }
 
 fn answer(text: &str, tokens: &[(&str, Token)]) -> Answer {

@@ -2,7 +2,7 @@
 
 use crate::check::{Case, Checked, all_fit, expect, same_lines};
 use crate::kinds;
-use crate::original::Answer;
+use crate::original::{self, Answer};
 use crate::predict::{self, Lent};
 use asciimath::borrowed::tree;
 use asciimath::{Pair, Reading, Refusal, Token, Tokenizer, borrowed};
@@ -33,6 +33,7 @@ pub fn check(case: &Case, answer: Option<&Answer>) -> Checked {
         same_reading(text, refusal, owned, tree, answer)?;
         same_closers(refusal, asciimath::closers(text), answer)?;
         same_pairs(refusal, asciimath::pairs(text), answer)?;
+        same_spellings(text)?;
         return same_beside(text, refusal, answer);
     };
     let Some(table) = words.get(..3 * count).filter(|table| all_fit(text, table)) else {
@@ -123,6 +124,21 @@ fn same_pairs(refusal: u32, pairs: Result<Vec<Pair>, Refusal>, answer: Option<&A
         .zip(&spans)
         .filter_map(|(closer, opener)| Some((opener.clone(), spans[closer?].clone())));
     expect(right.eq(pairs), "the bindings' pairs")
+}
+
+/// The longest spelling at each place of a text.
+fn same_spellings(text: &str) -> Checked {
+    for at in 0..=text.len() {
+        let found = asciimath::lookup(text, at)
+            .map(|found| [found.len, found.token.number() as usize, found.row]);
+        let expected = original::lookup(text.as_bytes(), at);
+        if found.map(|found| found.map(|value| value as u64)) != expected {
+            return Err(format!(
+                "the spelling at {at} is {found:?}, not {expected:?}"
+            ));
+        }
+    }
+    Ok(())
 }
 
 /// The tokens and the print of a text.

@@ -28,8 +28,8 @@ a)(b 4 4 4 4
 [(|a,b)| 8 6 8 8 8 8 8 8
 END
 python3 "$here/../corpus.py" "$src/tokenizer.rs" --families answers --count 100 > "$out/texts"
-for call in parse closers closers_text; do echo "asciimath_$call right_$call"; done > "$out/names"
-for fault in {1..18}; do
+for call in lookup parse closers closers_text; do echo "asciimath_$call right_$call"; done > "$out/names"
+for fault in {1..20}; do
     objcopy --redefine-syms="$out/names" "$library" "$out/faulty.a"
     gcc -O1 -DFAULT="$fault" -c "$here/faults.c" -o "$out/faults.o"
     ar rs "$out/faulty.a" "$out/faults.o"

@@ -19,9 +19,9 @@
 #include <sys/mman.h>
 #include <unistd.h>
 
-enum { COUNT, TOKENS, PARSE, PARSE_TOKENS, PRINT, CLOSERS, CLOSERS_TEXT, CALLS };
-static const char *const NAMES[CALLS] = {"count", "tokens",  "parse",       "parse_tokens",
-                                         "print", "closers", "closers_text"};
+enum { COUNT, TOKENS, LOOKUP, PARSE, PARSE_TOKENS, PRINT, CLOSERS, CLOSERS_TEXT, CALLS };
+static const char *const NAMES[CALLS] = {"count",        "tokens", "lookup",  "parse",
+                                         "parse_tokens", "print",  "closers", "closers_text"};
 enum { PAGE = 4096 };
 
 static uint64_t made[11], seed = 1;
@@ -66,6 +66,8 @@ static uint32_t call(int which, const struct room *r) {
         return asciimath_count(at[TEXT], n[TEXT], at[ANSWER], n[ANSWER]);
     case TOKENS:
         return asciimath_tokens(at[TEXT], n[TEXT], at[TABLE], n[TABLE], at[ANSWER], n[ANSWER]);
+    case LOOKUP: /* at any place, and past the text */
+        return asciimath_lookup(at[TEXT], n[TEXT], some((uint32_t)n[TEXT] + 2), at[ANSWER], n[ANSWER]);
     case PARSE:
         return asciimath_parse(at[TEXT], n[TEXT], at[TABLE], n[TABLE], at[WORK], n[WORK], at[TREE],
                                n[TREE], at[ANSWER], n[ANSWER]);

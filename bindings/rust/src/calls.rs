@@ -64,6 +64,10 @@ calls! {
     /// Counts the tokens of a text. Values: tokens, tokens other than Space.
     count = asciimath_count(text: &[u8], answer: &mut [u64])
 
+    /// The longest spelling that begins a text at a place. Values: its length, its kind and its row; or
+    /// a length of 0 alone, if none does.
+    lookup = asciimath_lookup(text: &[u8]; at: usize; answer: &mut [u64])
+
     /// Reads a text. Values: tokens, takes, items of the root, blank.
     parse = asciimath_parse(
         text: &[u8], table: &mut [u32], work: &mut [u32], tree: &mut [u32], answer: &mut [u64]

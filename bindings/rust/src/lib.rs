@@ -20,6 +20,7 @@ mod decode;
 mod part;
 mod reader;
 mod refusal;
+mod spelling;
 mod token;
 pub mod tree;
 
@@ -27,6 +28,7 @@ pub use decode::decode;
 pub use part::Part;
 pub use reader::{Pair, Reader, Reading};
 pub use refusal::Refusal;
+pub use spelling::{Spelling, lookup};
 pub use token::{SymbolClass, Token, Tokenizer};
 use tree::Expression;
 

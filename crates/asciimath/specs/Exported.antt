@@ -1,8 +1,11 @@
 -- The exported calls: an answer as a number and the words of the lent answer.
-use mathlib.Core.List.{List, _++_}
+use mathlib.Core.List.{List, [], _∷_, _++_}
 use Prim.Native.Nat.{ℕ}
 use lib.ListN.{length, take, drop}
+use Rattle.tokens.specs.Kinds.{numberOf}
 use Rattle.tokens.specs.Refusals.{Answer, accepted, refused}
+use Rattle.lexer.specs.declared.prefix_map.Longest.{Longest}
+use Rattle.lexer.specs.declared.prefix_map.Longest.the-variants.{Spelling, Nothing}
 
 -- 0, or the number of the refusal
 unfoldable pub codeOf : Answer → ℕ
@@ -14,3 +17,8 @@ codeOf (refused k) = k
 unfoldable pub valuesIn : Answer → List ℕ → List ℕ
 valuesIn (accepted values) answer = take (length answer) values ++ drop (length values) answer
 valuesIn (refused k) answer = answer
+
+-- The answer of the lookup: the spelling's length, the number of its kind and its row; where none fits, a length of 0 and no row.
+abbrev pub lookedUp : Longest → Answer
+lookedUp Nothing = accepted (0 ∷ [])
+lookedUp (Spelling len token row) = accepted (len ∷ numberOf token ∷ row ∷ [])

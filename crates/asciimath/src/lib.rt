@@ -4,6 +4,8 @@ use closers::Paired;
 use closers::PairedText;
 use closers::closers;
 use closers::closers_text;
+use lexer::prefix_map::Longest;
+use lexer::prefix_map::get_longest_prefix;
 use parse::Parsed;
 use parse::ParsedTokens;
 use parse::parse;
@@ -19,7 +21,9 @@ ghost use Rattle.tokenizer.specs.Call.{tokenized, counted};
 ghost use Rattle.parse.specs.Call.{parsedText, parsedTokens};
 ghost use Rattle.print.specs.Call.{printedText};
 ghost use Rattle.closers.specs.Call.{closedTokens, closedText};
-ghost use Rattle.asciimath.specs.Exported.{codeOf, valuesIn};
+ghost use Rattle.lexing.specs.Longest.{longestAt};
+ghost use Rattle.lexer.specs.Lookup.{longestAnswer};
+ghost use Rattle.asciimath.specs.Exported.{codeOf, valuesIn, lookedUp};
 ghost use lib.ListN.{set};
 
 fn put(answer: &mut [u64], i: usize, value: u64)
@@ -70,6 +74,29 @@ pub extern "C" fn asciimath_count(text: &[u8], answer: &mut [u64]) -> u32
         Counted::Tokens { all, others } => {
             put(answer, 0, all as u64);
             put(answer, 1, others as u64);
+            0
+        }
+    }
+}
+
+// The longest spelling that begins a text at a place. Values: its length, its kind and its row; or a length of 0 alone, if none does.
+#[no_mangle]
+pub extern "C" fn asciimath_lookup(text: &[u8], at: usize, answer: &mut [u64]) -> u32
+    ensures { λ r.
+        ⌜
+        (r ≡ codeOf (lookedUp (longestAnswer (longestAt (now (text .entry)) at))))
+        × (now (answer .exit) ≡ valuesIn (lookedUp (longestAnswer (longestAt (now (text .entry)) at))) (now (answer .entry)))
+        ⌝ }
+{
+    match get_longest_prefix(text, at) {
+        Longest::Nothing => {
+            put(answer, 0, 0);
+            0
+        }
+        Longest::Spelling { len, token, row } => {
+            put(answer, 0, len as u64);
+            put(answer, 1, token.number() as u64);
+            put(answer, 2, row as u64);
             0
         }
     }

@@ -6,7 +6,7 @@ use Prim.Native.Nat.{ℕ, _≤_, _<_}
 use lib.ListN.{length}
 use borrow.Author.Tests.{lt-ltb, le-ltb}
 use Rattle.tokens.specs.Refusals.{textRefusal}
-use Rattle.lexing.specs.Rules.{byteAt, readAt}
+use Rattle.lexing.specs.Rules.{byteAt, readAt, tokenRowAt}
 use Rattle.lex.specs.declared.Lexing.the-variants.{End, Refused}
 use Rattle.lex.specs.Lex.{lexing, lexedAt}
 
@@ -20,6 +20,6 @@ module _ (text : List ℕ) (at : ℕ) where
     unfolding lexedAt
     lex-end l = sym (rw (a, lexedAt) (rw (le-ltb at (length text) l)))
 
-    pub lex-read : at < length text → lexing (readAt byteAt text at) ≡ lexedAt text at
+    pub lex-read : at < length text → lexing (readAt byteAt text at) (tokenRowAt text at) ≡ lexedAt text at
     unfolding lexedAt
     lex-read l = sym (rw (a, lexedAt) (rw (lt-ltb at (length text) l)))

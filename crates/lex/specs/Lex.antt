@@ -1,7 +1,7 @@
 -- One read at a place: what `lex_at` answers.
 use mathlib.Core.Bool.{true, false}
 use mathlib.Core.List.{List}
-use mathlib.Core.Option.{none, some}
+use mathlib.Core.Option.{Option, none, some}
 use Prim.Native.Nat.{ℕ, _+_}
 use lib.Dec.{ltb}
 use lib.ListN.{length, getD}
@@ -12,7 +12,8 @@ use Rattle.lex.specs.declared.Lexing.the-variants.{Tokens, End, Refused}
 use Rattle.tokens.specs.declared.token.Token.the-variants.{Frac}
 use Rattle.tokens.specs.Kinds.{tokenOf}
 use Rattle.tokens.specs.Lexeme.{Lexeme, lexeme}
-use Rattle.lexing.specs.Rules.{Read, byteAt, readAt}
+use Rattle.lexing.specs.Rules.{Read, byteAt, readAt, tokenRowAt}
+use Rattle.lexer.specs.Lookup.{tokenRow}
 use Rattle.tokens.specs.Refusals.{textRefusal}
 
 -- a token with its span as the code's struct: from three words of a list, and as a value of the definitions
@@ -40,16 +41,16 @@ queueOf ts =
 abbrev pub queueAt : List ℕ → ℕ → Queue
 queueAt words n = record { count = n; first = spannedAt words 3; second = spannedAt words 6; third = spannedAt words 9 }
 
--- a read as the code's answer
-abbrev pub lexing : Read → Lexing
-lexing r = Tokens (spannedOf (r .first)) (queueOf (r .waiting)) (r .next)
+-- a read as the code's answer, with the row of its first token
+abbrev pub lexing : Read → Option ℕ → Lexing
+lexing r row = Tokens (spannedOf (r .first)) (queueOf (r .waiting)) (r .next) (tokenRow row)
 
--- "For text: 1, 2": "A refusal carries its number only". In an accepted text, the tokens that are read at the place and the next
--- place, or End where no byte stands.
+-- "For text: 1, 2": "A refusal carries its number only". In an accepted text, the tokens that are read at the place, the next place and
+-- the row of the first, or End where no byte stands.
 unfoldable pub lexedAt : List ℕ → ℕ → Lexing
 lexedAt text at =
     elim (textRefusal text) [
       | some k ↦ Refused k
       | none ↦
-          elim (ltb at (length text)) [ true ↦ lexing (readAt byteAt text at) | false ↦ End ]
+          elim (ltb at (length text)) [ true ↦ lexing (readAt byteAt text at) (tokenRowAt text at) | false ↦ End ]
     ]

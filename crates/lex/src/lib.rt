@@ -1,5 +1,6 @@
 // One read at a place of a text, for a caller that steps over the text and keeps the place itself.
 use lexer::Listing;
+use lexer::found::TokenRow;
 use lexer::list_reads;
 use tokens::token::Token;
 ghost use mathlib.Core.Path.{_≡_};
@@ -22,10 +23,12 @@ pub struct Queue {
 }
 
 pub enum Lexing {
+    // The first token, those that wait, the next place, and the row of the first: those that wait are not looked up.
     Tokens {
         first: Spanned,
         queued: Queue,
         next: usize,
+        row: TokenRow,
     },
     // No byte stands at the place.
     End,
@@ -73,7 +76,8 @@ fn stop_of(at: usize, size: usize) -> usize
     size
 }
 
-// The token at the place, those that wait behind it, and the next place; End where no byte stands; or the text is refused by 1 or 2.
+// The token at the place with its row, those that wait behind it, and the next place; End where no byte stands; or the text is refused
+// by 1 or 2.
 pub fn lex_at(text: &[u8], at: usize) -> Lexing
     ensures { λ r. ⌜ r ≡ lexedAt (now (text .entry)) at ⌝ }
 {
@@ -83,6 +87,7 @@ pub fn lex_at(text: &[u8], at: usize) -> Lexing
             all,
             others: _,
             next,
+            row,
         } => {
             if text.len() <= at {
                 return Lexing::End;
@@ -91,6 +96,7 @@ pub fn lex_at(text: &[u8], at: usize) -> Lexing
                 first: spanned_at(&words, 0),
                 queued: queue_at(&words, all - 1),
                 next,
+                row,
             }
         }
         Listing::Refused(k) => Lexing::Refused(k),

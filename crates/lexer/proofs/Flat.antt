@@ -13,7 +13,7 @@ use Rattle.tokens.specs.Kinds.{numberOf}
 use Rattle.lexing.specs.Spellings.{Row, rows}
 use Rattle.lexing.specs.Rules.{blank, digit, letter}
 use Rattle.lexing.specs.Order.{sortedFrom}
-use Rattle.lexer.specs.Constants.{flat, offset, wordsOf, countBelow, tokenOfByte, plainKind, byteWord, firstsOf, flatBytes, rowWords, firstWords, noRow, rowOf, spellingOf, startOf, kindOf, rowsBelow, spelledByte, longerFrom, byteKind}
+use Rattle.lexer.specs.Constants.{flat, offset, wordsOf, countBelow, tokenOfByte, plainKind, kindWord, firstsOf, flatBytes, rowWords, firstWords, noRow, rowOf, spellingOf, startOf, kindOf, rowsBelow, spelledByte, longerFrom, byteKind, wordOfByte}
 use Rattle.tokens.proofs.Cases.{by-test, by-lt, by-option}
 use Rattle.tokens.proofs.Numbers.{number-small}
 use Rattle.lexing.proofs.Rows.{rows-length}
@@ -141,21 +141,21 @@ module _ (c k : ℕ) (l : k < 429) where
 
 -- the word of a byte
 firsts-at : (n c : ℕ) (rs : List Row) (k : ℕ) → k < n
-    → getD (firstsOf n c rs) k 0 ≡ 64 * countBelow (c + k) rs + byteWord (c + k) (tokenOfByte (c + k) rs)
+    → getD (firstsOf n c rs) k 0 ≡ 64 * countBelow (c + k) rs + kindWord (c + k) (tokenOfByte (c + k) rs)
 unfolding firstsOf
 firsts-at zero c rs k h = absurd (not-suc-le-zero h)
 firsts-at (suc n) c rs zero h =
-    ap (λ (m : ℕ). 64 * countBelow m rs + byteWord m (tokenOfByte m rs)) (sym (add-zero c))
+    ap (λ (m : ℕ). 64 * countBelow m rs + kindWord m (tokenOfByte m rs)) (sym (add-zero c))
 firsts-at (suc n) c rs (suc k) h =
     firsts-at n (suc c) rs k (le-of-suc-le-suc h)
-    ∙ ap (λ (m : ℕ). 64 * countBelow m rs + byteWord m (tokenOfByte m rs)) (suc-add c k ∙ sym (add-suc c k))
+    ∙ ap (λ (m : ℕ). 64 * countBelow m rs + kindWord m (tokenOfByte m rs)) (suc-add c k ∙ sym (add-suc c k))
 
-first-is : (c : ℕ) → c < 129 → getD firstWords c 0 ≡ 64 * rowsBelow c + byteWord c (spelledByte c)
+first-is : (c : ℕ) → c < 129 → getD firstWords c 0 ≡ 64 * rowsBelow c + kindWord c (spelledByte c)
 unfolding firstWords rowsBelow spelledByte
 first-is c h =
-    firsts-at 129 0 rows c h ∙ ap (λ (m : ℕ). 64 * countBelow m rows + byteWord m (tokenOfByte m rows)) (zero-add c)
+    firsts-at 129 0 rows c h ∙ ap (λ (m : ℕ). 64 * countBelow m rows + kindWord m (tokenOfByte m rows)) (zero-add c)
 
-plain-small : (c : ℕ) → plainKind c < 24
+pub plain-small : (c : ℕ) → plainKind c < 24
 unfolding plainKind
 plain-small c =
     by-test (blank c) (λ a. rw (a, plainKind) (omega arith))
@@ -166,6 +166,10 @@ plain-small c =
     (λ d. rw (a, plainKind) (rw b (rw d (omega arith))))))
 
 module _ (c : ℕ) (h : c < 129) where
+  pub word-as-is : getD firstWords c 0 ≡ wordOfByte c
+  unfolding wordOfByte
+  word-as-is = first-is c h
+
   pub first-word : getD firstWords c 0 / 64 ≡ rowsBelow c
   first-word =
       by-option (spelledByte c) (λ o. rw (first-is c h, o) (omega (arith, plain-small c)))

@@ -3,8 +3,10 @@ mod Flat
 mod Lookup
 mod RuleCases
 mod ByteKinds
+mod FoundWords
 mod Adding
 pub mod Stops
 mod Passes
 mod Answers
 pub mod Into
+pub mod Theorems

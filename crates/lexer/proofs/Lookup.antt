@@ -19,19 +19,11 @@ use Rattle.lexer.specs.Constants.{countBelow, isByte, tokenOfByte, noRow
 use Rattle.lexer.specs.Lookup.{pastLonger, longestAnswer}
 use Rattle.tokens.proofs.Cases.{by-test, by-lt, by-eq, by-option, clash, Given}
 use Rattle.tokens.proofs.Numbers.{token-of-number}
-use Rattle.lexing.proofs.Begins.{begins-cons, begins-length, Answered, answered}
+use Rattle.lexing.proofs.Begins.{begins-at, begins-length, Answered, answered}
 use Rattle.lexing.proofs.Rows.{rows-length, FoundAt, found-at}
 use Rattle.lexing.proofs.Order.{before-longer}
 use Rattle.lexer.proofs.Sorted.{in-order, filled, before-first, before-second, before-byte}
 use Rattle.lexer.proofs.Flat.{below-first, from-first, below-bound}
-
--- byte j of a key that begins a text
-begins-at : (ks s : List ℕ) (j : ℕ) → begins ks s ≡ true → j < length ks → getD ks j 0 ≡ getD s j 0
-unfolding begins
-begins-at [] s j e h = absurd (not-suc-le-zero h)
-begins-at (k ∷ ks) [] j e h = clash false e refl
-begins-at (k ∷ ks) (x ∷ s) zero e h = begins-cons k x ks s e .0
-begins-at (k ∷ ks) (x ∷ s) (suc j) e h = begins-at ks s j (begins-cons k x ks s e .1) (le-of-suc-le-suc h)
 
 -- the row that is a byte alone
 is-byte : (c : ℕ) (r : Row) → isByte c r ≡ true → (length (r .spelling) ≡ 1) × (getD (r .spelling) 0 0 ≡ c)
@@ -338,22 +330,22 @@ module _ (s : List ℕ) (at : ℕ) where
   answer-none e = sym (ap longestAnswer e)
 
   pub answer-row : (i n k : ℕ) (t : Token) → longestAt s at ≡ some (record { number = i; row = rowOf i }) → n ≡ length (spellingOf i)
-      → k ≡ kindOf i → t ≡ tokenOf k → Spelling n t ≡ longestAnswer (longestAt s at)
+      → k ≡ kindOf i → t ≡ tokenOf k → Spelling n t i ≡ longestAnswer (longestAt s at)
   unfolding spellingOf kindOf
   answer-row i n k t e f g h =
       let u : t ≡ rowOf i .token = h ∙ ap tokenOf g ∙ token-of-number (rowOf i .token) in
-      (λ j. Spelling (f j) (u j)) ∙ sym (ap longestAnswer e)
+      (λ j. Spelling (f j) (u j) i) ∙ sym (ap longestAnswer e)
 
   module _ (h : at < length s) (e : pastLonger (longestAt s at) ≡ 0) where
-    pub answer-byte : rowsBelow (getD s at 0) < longerFrom (getD s at 0) → (k : ℕ) (t : Token) → k ≡ byteKind (getD s at 0) → t ≡ tokenOf k
-        → Spelling 1 t ≡ longestAnswer (longestAt s at)
+    pub answer-byte : (i : ℕ) → i ≡ rowsBelow (getD s at 0) → i < longerFrom (getD s at 0) → (k : ℕ) (t : Token) → k ≡ byteKind (getD s at 0) → t ≡ tokenOf k
+        → Spelling 1 t i ≡ longestAnswer (longestAt s at)
     unfolding longerFrom byteKind kindOf
-    answer-byte l k t f g =
+    answer-byte i q l k t f g =
         let c = getD s at 0 in
         by-option (spelledByte c) (λ o. absurd (omega (arith, rw (o, longerFrom) at l)))
         (λ u o.
         let r = spelled-row c u o in
-        answer-row (rowsBelow c) 1 k t (byte-found s at e h u o) (sym (ap (length {A = ℕ}) (r .spelling-is)))
+        ap (Spelling 1 t) q ∙ answer-row (rowsBelow c) 1 k t (byte-found s at e h u o) (sym (ap (length {A = ℕ}) (r .spelling-is)))
         (f ∙ rw (o, byteKind) (ap numberOf (sym (r .token-is)))) g)
 
     pub answer-nothing : longerFrom (getD s at 0) ≤ rowsBelow (getD s at 0) → Nothing ≡ longestAnswer (longestAt s at)

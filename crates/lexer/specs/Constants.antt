@@ -49,15 +49,15 @@ unfoldable pub plainKind : ℕ → ℕ
 plainKind c = elim (blank c) [ true ↦ 23 | false ↦ elim (digit c) [ true ↦ 4 | false ↦ elim (letter c) [ true ↦ 6 | false ↦ 7 ] ] ]
 
 -- 32 and the number of the spelling's token, or the number without a spelling
-abbrev pub byteWord : ℕ → Option Token → ℕ
-byteWord c none = plainKind c
-byteWord c (some t) = 32 + numberOf t
+abbrev pub kindWord : ℕ → Option Token → ℕ
+kindWord c none = plainKind c
+kindWord c (some t) = 32 + numberOf t
 
 -- the words for n byte values from c on
 unfoldable pub firstsOf : ℕ → ℕ → List Row → List ℕ
 unfolding countBelow tokenOfByte plainKind
 firstsOf zero c rs = []
-firstsOf (suc n) c rs = (64 * countBelow c rs + byteWord c (tokenOfByte c rs)) ∷ firstsOf n (suc c) rs
+firstsOf (suc n) c rs = (64 * countBelow c rs + kindWord c (tokenOfByte c rs)) ∷ firstsOf n (suc c) rs
 
 unfoldable pub flatBytes : List ℕ
 flatBytes = flat rows
@@ -106,3 +106,7 @@ longerFrom c = elim (spelledByte c) [ none ↦ rowsBelow c | some t ↦ rowsBelo
 -- the number of the token that the byte c is by itself
 unfoldable pub byteKind : ℕ → ℕ
 byteKind c = elim (spelledByte c) [ none ↦ plainKind c | some t ↦ numberOf t ]
+
+-- the word of the byte c, as it stands in `firstWords`
+unfoldable pub wordOfByte : ℕ → ℕ
+wordOfByte c = 64 * rowsBelow c + kindWord c (spelledByte c)

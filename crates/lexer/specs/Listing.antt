@@ -1,7 +1,7 @@
 -- The call that lists the tokens of reads: what it answers, and what is left in the token table.
 use mathlib.Core.Bool.{true, false}
 use mathlib.Core.List.{List, [], _∷_, _++_}
-use mathlib.Core.Option.{none, some}
+use mathlib.Core.Option.{Option, none, some}
 use Prim.Native.Nat.{ℕ, zero, suc, _+_, _*_, _/_, min}
 use lib.Dec.{ltb}
 use lib.ListN.{length, take, drop}
@@ -9,9 +9,10 @@ use Rattle.tokens.specs.Kinds.{numberOf}
 use Rattle.tokens.specs.Lexeme.{Lexeme}
 use Rattle.tokens.specs.Table.{countOthers}
 use Rattle.tokens.specs.Refusals.{textRefusal}
-use Rattle.lexing.specs.Rules.{Read, byteAt, readAt}
+use Rattle.lexing.specs.Rules.{Read, byteAt, readAt, tokenRowAt}
 use Rattle.lexer.specs.declared.Listing.{Listing}
 use Rattle.lexer.specs.declared.Listing.the-variants.{Tokens, Refused}
+use Rattle.lexer.specs.Lookup.{tokenRow}
 
 -- a table with other words from a place on
 unfoldable pub withWords : List ℕ → ℕ → List ℕ → List ℕ
@@ -27,33 +28,37 @@ unfoldable pub listInto : ℕ → List ℕ → List Lexeme → List ℕ
 listInto n table [] = table
 listInto n table (t ∷ ts) = listInto (suc n) (putToken n (t .span .start) (t .span .len) (numberOf (t .token)) table) ts
 
--- the tokens of the reads from a place on that begin before `stop`, and the place behind them
+-- the tokens of the reads from a place on that begin before `stop`, the place behind them, and the row of the last read's first token,
+-- none where nothing is read
 pub record Reads : Type 0 where
   pub list : List Lexeme
   pub next : ℕ
+  pub row : Option ℕ
 
 abbrev pub behind : Read → Reads → Reads
-behind r q = record { list = r .first ∷ (r .waiting ++ q .list); next = q .next }
+behind r q = record { list = r .first ∷ (r .waiting ++ q .list); next = q .next; row = q .row }
 
-unfoldable pub readsOf : ℕ → ℕ → List ℕ → ℕ → Reads
-readsOf stop zero text at = record { list = []; next = at }
-readsOf stop (suc f) text at =
+-- `row` is that of the read before
+unfoldable pub readsOf : ℕ → ℕ → List ℕ → Option ℕ → ℕ → Reads
+readsOf stop zero text row at = record { list = []; next = at; row = row }
+readsOf stop (suc f) text row at =
     elim (ltb at stop) [
-      | true ↦ behind (readAt byteAt text at) (readsOf stop f text (readAt byteAt text at .next))
-      | false ↦ record { list = []; next = at }
+      | true ↦ behind (readAt byteAt text at) (readsOf stop f text (tokenRowAt text at) (readAt byteAt text at .next))
+      | false ↦ record { list = []; next = at; row = row }
     ]
 
 -- each read moves on, so as many reads as bytes are enough
-unfoldable pub readsTo : ℕ → List ℕ → ℕ → Reads
-readsTo stop text at = readsOf stop (length text) text at
+unfoldable pub readsTo : ℕ → List ℕ → Option ℕ → ℕ → Reads
+readsTo stop text row at = readsOf stop (length text) text row at
 
--- "For text: 1, 2": a refusal changes nothing. Of an accepted text the tokens of the reads from a place on that begin before `stop`
--- and before the text's end are counted, and put as far as they fit; from that end on there are none.
+-- The reads as the code's answer: their tokens counted, the place behind them and that row; and the tokens put as far as they fit.
+unfoldable pub listedTo : ℕ → List ℕ → ℕ → List ℕ → Listing × List ℕ
+listedTo stop text from table =
+    let q = readsTo stop text none from in
+    (Tokens (length (q .list)) (countOthers (q .list)) (q .next) (tokenRow (q .row)), listInto 0 table (q .list))
+
+-- "For text: 1, 2": a refusal changes nothing. Of an accepted text the reads from a place on that begin before `stop` and before the
+-- text's end are listed; from that end on there are none.
 unfoldable pub listedReads : List ℕ → ℕ → ℕ → List ℕ → Listing × List ℕ
 listedReads text from stop table =
-    elim (textRefusal text) [
-      | some k ↦ (Refused k, table)
-      | none ↦
-          let q = readsTo (min stop (length text)) text from in
-          (Tokens (length (q .list)) (countOthers (q .list)) (q .next), listInto 0 table (q .list))
-    ]
+    elim (textRefusal text) [ some k ↦ (Refused k, table) | none ↦ listedTo (min stop (length text)) text from table ]

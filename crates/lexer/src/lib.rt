@@ -1,10 +1,12 @@
 // The reading of tokens: the spelling table, the lookup, the rules, and the reads of a text one after the other.
+pub mod found;
 mod list;
 pub mod prefix_map;
 mod rules;
 mod spellings;
 mod table;
 
+use found::TokenRow;
 use list::list_from;
 use refusals::text::Checked;
 use refusals::text::check_text;
@@ -12,12 +14,14 @@ ghost use mathlib.Core.Path.{_≡_};
 ghost use Prim.Native.Nat.{min};
 ghost use Rattle.lexer.specs.Listing.{listedReads};
 
-// How many tokens are listed, how many of them are other than Space, and the place behind them; or the number of the refusal.
+// How many tokens are listed, how many of them are other than Space, the place behind them, and the row of the last read's first
+// token, none where nothing is read; or the number of the refusal.
 pub enum Listing {
     Tokens {
         all: usize,
         others: usize,
         next: usize,
+        row: TokenRow,
     },
     Refused(u8),
 }
@@ -39,10 +43,5 @@ pub fn list_reads(text: &[u8], from: usize, stop: usize, table: &mut [u32]) -> L
     if let Checked::Refused(k) = check_text(text) {
         return Listing::Refused(k);
     }
-    let r = list_from(text, from, smaller(stop, text.len()), table);
-    Listing::Tokens {
-        all: r.all,
-        others: r.others,
-        next: r.next,
-    }
+    list_from(text, from, smaller(stop, text.len()), table)
 }

@@ -1,12 +1,12 @@
 // The longest spelling that begins a text at a place: get_longest_prefix of the Rust's prefix_map, over the constant table.
+use crate::spellings::BYTES;
+use crate::spellings::FIRST;
+use crate::spellings::ROWS;
 use crate::spellings::byte_kind;
 use crate::spellings::first_of;
-use crate::spellings::first_words;
 use crate::spellings::kind_of;
 use crate::spellings::len_of;
 use crate::spellings::longer_of;
-use crate::spellings::row_words;
-use crate::spellings::spelling_bytes;
 use crate::spellings::start_of;
 use tokens::token::Token;
 ghost use mathlib.Core.Path.{_≡_};
@@ -16,8 +16,13 @@ ghost use Rattle.lexing.specs.Longest.{begins, longestAt};
 ghost use Rattle.lexer.specs.Constants.{Lent, flatBytes, rowWords, spellingOf};
 ghost use Rattle.lexer.specs.Lookup.{longestAnswer, pastLonger};
 
+// The length of the spelling, its token, and its row, counted from 0 in the table sorted by bytes.
 pub enum Longest {
-    Spelling { len: usize, token: Token },
+    Spelling {
+        len: usize,
+        token: Token,
+        row: usize,
+    },
     Nothing,
 }
 
@@ -80,11 +85,13 @@ pub(crate) fn past_longer(
     while low < past {
         let row = past - 1;
         let b = second_of(bytes, rows, row);
-        if b < x {
-            return 0;
-        }
-        if b == x && fits(bytes, rows, text, at, row) {
-            return past;
+        if b <= x {
+            if b < x {
+                return 0;
+            }
+            if fits(bytes, rows, text, at, row) {
+                return past;
+            }
         }
         past = row;
     }
@@ -109,18 +116,21 @@ fn longest_in(
     if 127 < c {
         return Longest::Nothing;
     }
+    let row = first_of(first, c);
     let past = past_longer(bytes, rows, first, text, at);
     if 0 < past {
-        let row = past - 1;
+        let longest = past - 1;
         return Longest::Spelling {
-            len: len_of(rows, row),
-            token: Token::of_number(kind_of(rows, row)),
+            len: len_of(rows, longest),
+            token: Token::of_number(kind_of(rows, longest)),
+            row: longest,
         };
     }
-    if first_of(first, c) < longer_of(first, c) {
+    if row < longer_of(first, c) {
         return Longest::Spelling {
             len: 1,
             token: Token::of_number(byte_kind(first, c)),
+            row,
         };
     }
     Longest::Nothing
@@ -130,8 +140,8 @@ fn longest_in(
 pub fn get_longest_prefix(text: &[u8], at: usize) -> Longest
     ensures { λ r. ⌜ r ≡ longestAnswer (longestAt (now (text .entry)) at) ⌝ }
 {
-    let bytes = spelling_bytes();
-    let rows = row_words();
-    let first = first_words();
+    let bytes = BYTES;
+    let rows = ROWS;
+    let first = FIRST;
     longest_in(&bytes, &rows, &first, text, at)
 }

@@ -1,11 +1,14 @@
 // What is read at a place of a text: rules 1 to 5, each falling through to the next. Names as in the Rust's tokenizer.rs.
+use crate::found::kind_in;
+use crate::found::word_of;
 use crate::prefix_map::past_longer;
-use crate::spellings::byte_kind;
+use crate::spellings::byte_word;
 use crate::spellings::kind_of;
 use crate::spellings::len_of;
 use crate::table::Listed;
 use crate::table::put;
 use crate::table::put_other;
+use crate::table::with_found;
 use blanks::blanks_end;
 use tokens::kinds::CLOSE_BRACKET;
 use tokens::kinds::NUMBER;
@@ -21,8 +24,8 @@ ghost use lib.ListN.{length, getD};
 ghost use Rattle.tokens.specs.declared.token.Token.the-variants.{Unary};
 ghost use Rattle.tokens.specs.Refusals.{ascii};
 ghost use Rattle.lexer.specs.Constants.{Lent, rowWords, spellingOf};
-ghost use Rattle.lexing.specs.Rules.{blank, digit, letter, other, closer, runEnd, commandAt, isTextCommand, numberEnd, pastPoint, byteAt, readAt};
-ghost use Rattle.lexer.specs.Coded.{Placed, AddedRead, fromQuotation, fromNumber, fromRow};
+ghost use Rattle.lexing.specs.Rules.{blank, digit, letter, other, closer, runEnd, commandAt, isTextCommand, numberEnd, pastPoint, byteAt, readAt, tokenRowAt};
+ghost use Rattle.lexer.specs.Coded.{Placed, AddedRead, fromQuotation, fromNumber, fromRow, withFound, rowIn};
 
 fn is_digit(c: u8) -> bool
     ensures { λ r. ⌜ r ≡ digit c ⌝ }
@@ -197,8 +200,9 @@ fn strip_blanks(text: &[u8], table: &mut [u32], p: Listed) -> Listed
     put(table, p.all, at, e - at, SPACE);
     Listed {
         all: p.all + 1,
-        others: p.others,
+        spaces: p.spaces + 1,
         next: e,
+        found: p.found,
     }
 }
 
@@ -212,8 +216,8 @@ fn strip_digits(text: &[u8], table: &mut [u32], p: Listed) -> Listed
     put_other(table, p, at, e - at, NUMBER, e)
 }
 
-// Lists what is read at the place. The kind of the byte by itself says which rules can apply but for a longer spelling: Space
-// the first, Number the third, Operator the last three; any other kind is the token's.
+// Lists what is read at the place, and the word of what is found there. The kind of the byte by itself says which rules can apply but
+// for a longer spelling: Space the first, Number the third, Operator the last three; any other kind is the token's.
 pub(crate) fn read_token(
     bytes: &[u8; 1809],
     rows: &[u16; 430],
@@ -223,22 +227,27 @@ pub(crate) fn read_token(
     p: Listed,
 ) -> Listed
     requires { ⌜ Lent (now bytes) (now rows) (now first) × Placed (now text) p × (ascii (now text) ≡ true) ⌝ }
-    ensures { λ r. ⌜ AddedRead (readAt byteAt (now (text .entry)) (p .next)) p (now (table .entry)) r (now (table .exit)) ⌝ }
+    ensures { λ r.
+        ⌜
+        AddedRead (readAt byteAt (now (text .entry)) (p .next)) (withFound p (r .found)) (now (table .entry)) r (now (table .exit))
+        × (rowIn (r .found) ≡ tokenRowAt (now (text .entry)) (p .next))
+        ⌝ }
 {
     let at = p.next;
-    let kind = byte_kind(first, text[at] as usize);
-    if kind == 23 {
-        return strip_blanks(text, table, p);
+    let found = byte_word(first, text[at] as usize);
+    let kind = kind_in(found);
+    if kind == SPACE as usize {
+        return strip_blanks(text, table, with_found(p, found));
     }
     let past = past_longer(bytes, rows, first, text, at);
     if 0 < past {
-        return strip_spelling(rows, past - 1, text, table, p);
+        return strip_spelling(rows, past - 1, text, table, with_found(p, word_of(past)));
     }
-    if kind == 4 {
-        return strip_digits(text, table, p);
+    if kind == OPERATOR as usize {
+        return strip_number(text, table, with_found(p, found));
     }
-    if kind == 7 {
-        return strip_number(text, table, p);
+    if kind == NUMBER as usize {
+        return strip_digits(text, table, with_found(p, found));
     }
-    put_other(table, p, at, 1, kind, at + 1)
+    put_other(table, with_found(p, found), at, 1, kind as u32, at + 1)
 }

@@ -1,12 +1,12 @@
-// The spelling table as constants: the rows of the definition, laid out flat. A use of a constant array builds it anew, so the
-// one loop over a text, and the public lookup, put the three into locals once and lend them down.
+// The spelling table as constants: the rows of the definition, laid out flat. A use of a constant array builds it anew, and a function
+// that returned one would copy it once more, so the one loop over a text and the public lookup put the three into locals and lend them.
 ghost use mathlib.Core.Path.{_≡_};
 ghost use Prim.Native.Nat.{_<_};
 ghost use lib.ListN.{length};
-ghost use Rattle.lexer.specs.Constants.{flatBytes, rowWords, firstWords, startOf, kindOf, spellingOf, rowsBelow, longerFrom, byteKind};
+ghost use Rattle.lexer.specs.Constants.{rowWords, firstWords, startOf, kindOf, spellingOf, rowsBelow, longerFrom, byteKind, wordOfByte};
 
 // The bytes of all spellings, one row after the other.
-const BYTES: [u8; 1809] = [
+pub(crate) const BYTES: [u8; 1809] = [
     33,
     33,
     45,
@@ -1819,7 +1819,7 @@ const BYTES: [u8; 1809] = [
 ];
 
 // For each row 32 times its start in the bytes and the number of its token; behind the last 32 times the end.
-const ROWS: [u16; 430] = [
+pub(crate) const ROWS: [u16; 430] = [
     8,
     42,
     138,
@@ -2254,7 +2254,7 @@ const ROWS: [u16; 430] = [
 
 // For each byte 64 times the rows that begin with a smaller one, 32 more where the byte alone is a spelling, and the number of
 // the token that the byte is by itself.
-const FIRST: [u16; 129] = [
+pub(crate) const FIRST: [u16; 129] = [
     7,
     7,
     7,
@@ -2386,24 +2386,6 @@ const FIRST: [u16; 129] = [
     27463,
 ];
 
-pub(crate) fn spelling_bytes() -> [u8; 1809]
-    ensures { λ r. ⌜ r ≡ flatBytes ⌝ }
-{
-    BYTES
-}
-
-pub(crate) fn row_words() -> [u16; 430]
-    ensures { λ r. ⌜ r ≡ rowWords ⌝ }
-{
-    ROWS
-}
-
-pub(crate) fn first_words() -> [u16; 129]
-    ensures { λ r. ⌜ r ≡ firstWords ⌝ }
-{
-    FIRST
-}
-
 fn wide(x: u16) -> usize
     ensures { λ r. ⌜ r ≡ x ⌝ }
 {
@@ -2462,4 +2444,12 @@ pub(crate) fn byte_kind(first: &[u16; 129], c: usize) -> u32
     ensures { λ r. ⌜ r ≡ byteKind c ⌝ }
 {
     wide_kind(first[c]) % 32
+}
+
+// The word of the byte c.
+pub(crate) fn byte_word(first: &[u16; 129], c: usize) -> usize
+    requires { ⌜ (now first ≡ firstWords) × (c < 129) ⌝ }
+    ensures { λ r. ⌜ r ≡ wordOfByte c ⌝ }
+{
+    wide(first[c])
 }

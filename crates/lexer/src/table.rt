@@ -2,13 +2,15 @@
 ghost use mathlib.Core.Path.{_≡_};
 ghost use Prim.Native.Nat.{_+_, _≤_};
 ghost use Rattle.lexer.specs.Listing.{putToken};
-ghost use Rattle.lexer.specs.Coded.{listed};
+ghost use Rattle.lexer.specs.Coded.{listed, withFound};
 
-// How many tokens are listed, how many of them are other than Space, and the place behind them.
+// How many tokens are listed, how many of them are Spaces, the place behind them, and the word of what was found at the last read
+// (crate::found).
 pub(crate) struct Listed {
     pub all: usize,
-    pub others: usize,
+    pub spaces: usize,
     pub next: usize,
+    pub found: usize,
 }
 
 // Writes the n-th token if the table has words for it.
@@ -34,17 +36,30 @@ pub(crate) fn put_other(
     kind: u32,
     next: usize,
 ) -> Listed
-    requires { ⌜ (p .all ≤ 4096) × (p .others ≤ 4096) × (start ≤ 4096) × (len ≤ 4096) ⌝ }
+    requires { ⌜ (p .all ≤ 4096) × (start ≤ 4096) × (len ≤ 4096) ⌝ }
     ensures { λ r.
         ⌜
-        (r ≡ listed (p .all + 1) (p .others + 1) next)
+        (r ≡ listed (p .all + 1) (p .spaces) next (p .found))
         × (now (table .exit) ≡ putToken (p .all) start len kind (now (table .entry)))
         ⌝ }
 {
     put(table, p.all, start, len, kind);
     Listed {
         all: p.all + 1,
-        others: p.others + 1,
+        spaces: p.spaces,
         next,
+        found: p.found,
+    }
+}
+
+// The counts and the place, with another word of what was found.
+pub(crate) fn with_found(p: Listed, found: usize) -> Listed
+    ensures { λ r. ⌜ r ≡ withFound p found ⌝ }
+{
+    Listed {
+        all: p.all,
+        spaces: p.spaces,
+        next: p.next,
+        found,
     }
 }

@@ -8,7 +8,7 @@ use native.Mathlib.Omega.{arith}
 use native.Mathlib.Numerals.{add-one}
 use native.Mathlib.Nat.{add-suc, not-suc-le-zero, le-of-suc-le-suc}
 use lib.Dec.{eqb}
-use lib.ListN.{length, getD, drop, drop-of-length-le}
+use lib.ListN.{length, getD, take, drop, drop-of-length-le}
 use lib.Seq.{drop-cons}
 use borrow.Author.Tests.{lt-ltb, le-ltb, eqb-true, eq-eqb, ne-eqb}
 use Rattle.lexing.specs.Spellings.{Row}
@@ -30,6 +30,22 @@ pub begins-self : (ks : List ℕ) → begins ks ks ≡ true
 unfolding begins
 begins-self [] = refl
 begins-self (k ∷ ks) = rw (eq-eqb k k refl, begins) (begins-self ks)
+
+-- the key is what the text begins with, byte by byte and as a whole
+pub begins-at : (ks s : List ℕ) (j : ℕ) → begins ks s ≡ true → j < length ks → getD ks j 0 ≡ getD s j 0
+unfolding begins
+begins-at [] s j e h = absurd (not-suc-le-zero h)
+begins-at (k ∷ ks) [] j e h = clash false e refl
+begins-at (k ∷ ks) (x ∷ s) zero e h = begins-cons k x ks s e .0
+begins-at (k ∷ ks) (x ∷ s) (suc j) e h = begins-at ks s j (begins-cons k x ks s e .1) (le-of-suc-le-suc h)
+
+pub begins-take : (ks s : List ℕ) → begins ks s ≡ true → take (length ks) s ≡ ks
+unfolding begins
+begins-take [] s e = refl
+begins-take (k ∷ ks) [] e = clash false e refl
+begins-take (k ∷ ks) (x ∷ s) e =
+    let b = begins-cons k x ks s e in
+    rw (b .0, begins-take ks s (b .1))
 
 -- a longer key does not
 pub begins-past : (ks s : List ℕ) → length s < length ks → begins ks s ≡ false

@@ -6,4 +6,5 @@ pub mod Tokens
 pub mod Order
 pub mod Spaces
 pub mod Accepted
+pub mod Spelled
 pub mod Theorems

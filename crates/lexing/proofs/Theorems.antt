@@ -12,8 +12,8 @@ use Rattle.tokens.specs.Kinds.{numberOf, tokenOf}
 use Rattle.tokens.specs.Lexeme.{Lexeme}
 use Rattle.lexing.specs.Spellings.{Row, rows}
 use Rattle.lexing.specs.Order.{before, sortedFrom}
-use Rattle.lexing.specs.Longest.{Numbered, begins, longestAt}
-use Rattle.lexing.specs.Rules.{readAt, byteAt, tokensFrom, tokensBy, tokens}
+use Rattle.lexing.specs.Longest.{Numbered, begins, longestAt, numberIn, IsRow}
+use Rattle.lexing.specs.Rules.{Read, readAt, tokenRowAt, byteAt, tokensFrom, tokensBy, tokens}
 use Rattle.tokens.specs.Table.{tableWords, tokenList}
 use Rattle.tokens.specs.Refusals.{textRefusal, listRefusal}
 use Rattle.tokens.proofs.Cases.{by-option, clash}
@@ -25,6 +25,7 @@ use Rattle.lexing.proofs.Tokens.{fuel, count-bound, inside-by, in-order
 use Rattle.lexing.proofs.Spaces.{apart-by}
 use Rattle.tokens.proofs.Numbers.{number-of-token, token-of-number}
 use Rattle.lexing.proofs.Accepted.{accepted-by}
+use Rattle.lexing.proofs.Spelled.{is-row, row-looked-up, read-is-row}
 
 -- One read moves on and stays in the text.
 pub moves-on : (text : List ℕ) (at : ℕ) → at < length text
@@ -124,3 +125,18 @@ own-row d k h =
     same-place d rows sorted s (f .number) k (omega (arith, rows-length)) (omega (arith, rows-length)) (rw r (b .2))
     (begins-self s) (rw r m) in
     e ∙ (λ i. some (record { number = n i; row = sym (rw n at r) i })))
+
+-- The row that is found is the matched text, and its token the row's.
+pub found-is-row : (text : List ℕ) (at : ℕ) (f : Numbered) → longestAt text at ≡ some f
+    → IsRow text at (length (f .row .spelling)) (f .row .token) (f .number)
+found-is-row = is-row
+
+-- The row by which the first token at a place is read is the lookup's there: no spelling begins with a blank, so that the first rule
+-- hides none.
+pub row-of-read : (text : List ℕ) (at : ℕ) → tokenRowAt text at ≡ numberIn (longestAt text at)
+row-of-read = row-looked-up
+
+-- Whatever the fifth rule is, a token that is read by a row starts at the place, and is that row's.
+pub read-by-row : (rule5 : List ℕ → ℕ → Read) (text : List ℕ) (at k : ℕ) → tokenRowAt text at ≡ some k
+    → let t = readAt rule5 text at .first in (t .span .start ≡ at) × IsRow text at (t .span .len) (t .token) k
+read-by-row rule5 text at k e = read-is-row text at k e rule5

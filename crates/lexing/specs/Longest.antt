@@ -1,11 +1,13 @@
 -- The longest spelling at a place. Document 01, src/prefix_map/hash.rs: "get_longest_prefix answers the longest key that begins
 -- the input, with its value."
+use mathlib.Core.Path.{_≡_}
 use mathlib.Core.Bool.{Bool, true, false}
 use mathlib.Core.List.{List, [], _∷_}
 use mathlib.Core.Option.{Option, none, some}
-use Prim.Native.Nat.{ℕ, suc}
+use Prim.Native.Nat.{ℕ, suc, _<_}
 use lib.Dec.{eqb, ltb}
-use lib.ListN.{length, drop}
+use lib.ListN.{length, getD, take, drop}
+use Rattle.tokens.specs.declared.token.Token.{Token}
 use Rattle.lexing.specs.Spellings.{Row, rows}
 
 -- the key begins the text
@@ -40,3 +42,16 @@ longestOf (r ∷ rs) i s =
 -- the longest spelling of the table that begins the text at a place; past the text's end there is none
 unfoldable pub longestAt : List ℕ → ℕ → Option Numbered
 longestAt text at = longestOf rows 0 (drop at text)
+
+-- Request 2.1: the number of what is found; "where no spelling fits there is no row"
+abbrev pub numberIn : Option Numbered → Option ℕ
+numberIn none = none
+numberIn (some f) = some (f .number)
+
+-- Request 2.1, "The answered row's spelling is the matched text": of the 429 rows, k is the one whose spelling is the `len` bytes of the
+-- text at the place, and whose token is t. `d` is any row: it would stand past the table's end.
+pub record IsRow (text : List ℕ) (at len : ℕ) (t : Token) (k : ℕ) : Type 0 where
+  pub below : k < 429
+  pub matched : (d : Row) → take len (drop at text) ≡ getD rows k d .spelling
+  pub len-is : (d : Row) → len ≡ length (getD rows k d .spelling)
+  pub token-is : (d : Row) → t ≡ getD rows k d .token

@@ -9,7 +9,7 @@ use Rattle.tokens.specs.declared.token.Token.{Token}
 use Rattle.tokens.specs.declared.token.Token.the-variants.{Number, Text, Ident, Operator, OpenBracket, CloseBracket, Space}
 use Rattle.tokens.specs.Bytes.{bytes, same}
 use Rattle.tokens.specs.Lexeme.{Lexeme, lexeme}
-use Rattle.lexing.specs.Longest.{longestAt}
+use Rattle.lexing.specs.Longest.{longestAt, numberIn}
 
 -- What is read at a place: a token, those that wait behind it, and the next place.
 pub record Read : Type 0 where
@@ -154,6 +154,11 @@ readAt rule5 text at =
                 ]
           ]
     ]
+
+-- Request 2.1: the number of the row by which the first token at a place is read, in the same order: a read by rule 1 has none, one by
+-- rule 2 has that of the longest spelling, and where none fits, the reads by rules 3 to 5 have none.
+unfoldable pub tokenRowAt : List ℕ → ℕ → Option ℕ
+tokenRowAt text at = elim (blanksAt text at) [ some r ↦ none | none ↦ numberIn (longestAt text at) ]
 
 -- the tokens from a place on, of at most f reads
 unfoldable pub tokensFrom : (List ℕ → ℕ → Read) → ℕ → List ℕ → ℕ → List Lexeme

@@ -22,7 +22,7 @@ use Rattle.stepper.proofs.Queues.{first-of, place-passes, too-many}
 
 -- the answer of a single read at the state's place, as that of a step
 abbrev stepOf : Tokenizer → Lexing → StepAnswer × Tokenizer
-stepOf s (Tokens t q next) = (token (t .start) (t .len) (numberOf (t .token)), record { place = next; queued = q })
+stepOf s (Tokens t q next row) = (token (t .start) (t .len) (numberOf (t .token)), record { place = next; queued = q })
 stepOf s End = (end, s)
 stepOf s (Refused k) = (refused k, s)
 

@@ -150,6 +150,7 @@ fn read_on(text: &[u8], s: Tokenizer) -> Advance
             first,
             queued,
             next,
+            row: _,
         } => Advance {
             answer: Stepped::Token(first),
             state: Tokenizer {

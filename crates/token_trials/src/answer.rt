@@ -1,4 +1,9 @@
 // The answer to one text.
+use lex::Lexing;
+use lex::lex_at;
+use lexer::found::TokenRow;
+use lexer::prefix_map::Longest;
+use lexer::prefix_map::get_longest_prefix;
 use libc::STDOUT_FILENO;
 use tokenizer::Tokenized;
 
@@ -17,6 +22,64 @@ fn print_tokens(words: &[u32], n: usize) {
     while i < words.len() && i < n {
         print_word(i, words[i]);
         i += 1;
+    }
+}
+
+// Whether the lookup answers the row at a place.
+fn is_looked_up(text: &[u8], at: usize, row: TokenRow) -> bool {
+    match get_longest_prefix(text, at) {
+        Longest::Spelling {
+            len: _,
+            token: _,
+            row: found,
+        } => match row {
+            TokenRow::Row(k) => k == found,
+            TokenRow::NoRow => false,
+        },
+        Longest::Nothing => match row {
+            TokenRow::Row(_) => false,
+            TokenRow::NoRow => true,
+        },
+    }
+}
+
+// A place and the row of the token that is read there; `lookup` first, if the lookup answers another.
+fn print_row(text: &[u8], at: usize, row: TokenRow) {
+    if !is_looked_up(text, at, row) {
+        io::write_all(STDOUT_FILENO, b" lookup");
+    }
+    if let TokenRow::Row(k) = row {
+        io::write_all(STDOUT_FILENO, b" ");
+        io::print_decimal(STDOUT_FILENO, at as u64);
+        io::write_all(STDOUT_FILENO, b":");
+        io::print_decimal(STDOUT_FILENO, k as u64);
+    }
+}
+
+// One read: prints its row, if it has one, and answers the next place.
+fn read_row(text: &[u8], at: usize) -> usize {
+    match lex_at(text, at) {
+        Lexing::Tokens {
+            first: _,
+            queued: _,
+            next,
+            row,
+        } => {
+            print_row(text, at, row);
+            next
+        }
+        Lexing::End => at,
+        Lexing::Refused(_) => at,
+    }
+}
+
+// The rows of the text's reads. Each moves on, so as many as bytes are enough.
+fn print_rows(text: &[u8]) {
+    let mut at = 0;
+    let mut turns = text.len();
+    while turns > 0 && at < text.len() {
+        at = read_row(text, at);
+        turns -= 1;
     }
     io::write_all(STDOUT_FILENO, b"\n");
 }
@@ -66,4 +129,5 @@ pub(crate) fn print_answer(text: &[u8]) {
         io::write_all(STDOUT_FILENO, b"table ");
     }
     print_tokens(&table, words);
+    print_rows(text);
 }

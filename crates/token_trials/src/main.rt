@@ -1,6 +1,7 @@
-// Replays texts: reads them from standard input, each a line of hex digits, and prints each text's tokens as start,len,kind, a
-// line a text, or its refusal. The file `stdout` beside src/ has the Rust's answers to the texts of the file `stdin`. Its first lines
-// are document 01's 'Strings to try', in its order.
+// Replays texts: reads them from standard input, each a line of hex digits, and prints each text's tokens as start,len,kind and then
+// the rows of its reads as place:row, a line a text, or its refusal. The file `stdout` beside src/ has the Rust's tokens of the texts of
+// the file `stdin`, and their rows in the Rust's table. Its first lines are document 01's 'Strings to try', in its order, and all 429
+// spellings are among the others.
 mod answer;
 mod input;
 

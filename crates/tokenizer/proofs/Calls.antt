@@ -17,7 +17,9 @@ use Rattle.lexing.specs.Rules.{tokens}
 use Rattle.lexing.proofs.Theorems.{never-outnumber}
 use Rattle.lexer.specs.declared.Listing.{Listing}
 use Rattle.lexer.specs.declared.Listing.the-variants.{Tokens, Refused}
-use Rattle.lexer.specs.Listing.{listInto, listedReads}
+use Rattle.lexer.specs.declared.found.TokenRow.{TokenRow}
+use Rattle.lexer.specs.Lookup.{tokenRow}
+use Rattle.lexer.specs.Listing.{listInto, listedTo, listedReads}
 use Rattle.lexer.proofs.Into.{into-whole}
 use Rattle.tokenizer.specs.declared.TokenizedUnder.{TokenizedUnder}
 use Rattle.tokenizer.specs.Call.{tokenized, tokenizedUnder, counted}
@@ -35,14 +37,14 @@ module _ (text table : List ℕ) where
   all-refused k e = rw (e, listedReads)
 
   all-tokens : textRefusal text ≡ none
-      → _≡_ {A = Listing × List ℕ} (listedReads text 0 (length text) table) (Tokens (length (tokens text)) (countOthers (tokens text)) (allReads text .next), listInto 0 table (tokens text))
-  unfolding listedReads
+      → _≡_ {A = Listing × List ℕ} (listedReads text 0 (length text) table) (Tokens (length (tokens text)) (countOthers (tokens text)) (allReads text .next) (tokenRow (allReads text .row)), listInto 0 table (tokens text))
+  unfolding listedReads listedTo
   all-tokens o =
       let e : _≡_ {A = Listing × List ℕ} (listedReads text 0 (length text) table) (ofList (allReads text .list)) = rw (o, listedReads) in
       e ∙ ap ofList (whole text)
     where
       ofList : List Lexeme → Listing × List ℕ
-      ofList ts = (Tokens (length ts) (countOthers ts) (allReads text .next), listInto 0 table ts)
+      ofList ts = (Tokens (length ts) (countOthers ts) (allReads text .next) (tokenRow (allReads text .row)), listInto 0 table ts)
 
   -- what an answer of `list_reads` says
   module _ (r : Listing) (after : List ℕ) (e : _≡_ {A = Listing × List ℕ} (r, after) (listedReads text 0 (length text) table)) where
@@ -50,7 +52,7 @@ module _ (text table : List ℕ) where
     answer-refused k f =
         by-option (textRefusal text)
         (λ o.
-        let h : r ≡ Tokens (length (tokens text)) (countOthers (tokens text)) (allReads text .next) = ap (λ (q : Listing × List ℕ). q .0) (e ∙ all-tokens o) in
+        let h : r ≡ Tokens (length (tokens text)) (countOthers (tokens text)) (allReads text .next) (tokenRow (allReads text .row)) = ap (λ (q : Listing × List ℕ). q .0) (e ∙ all-tokens o) in
         let z : _≡_ {A = ℕ} 0 1 = cc in
         absurd (omega arith))
         (λ j o.
@@ -58,11 +60,11 @@ module _ (text table : List ℕ) where
         let i : j ≡ k = cc in
         o ∙ ap some i)
 
-    pub answer-tokens : length table ≡ 480 → (all others next : ℕ) → r ≡ Tokens all others next → Waiting text after all others
-    answer-tokens l all others next f =
+    pub answer-tokens : length table ≡ 480 → (all others next : ℕ) (row : TokenRow) → r ≡ Tokens all others next row → Waiting text after all others
+    answer-tokens l all others next row f =
         by-option (textRefusal text)
         (λ o.
-        let h : r ≡ Tokens (length (tokens text)) (countOthers (tokens text)) (allReads text .next) = ap (λ (q : Listing × List ℕ). q .0) (e ∙ all-tokens o) in
+        let h : r ≡ Tokens (length (tokens text)) (countOthers (tokens text)) (allReads text .next) (tokenRow (allReads text .row)) = ap (λ (q : Listing × List ℕ). q .0) (e ∙ all-tokens o) in
         let m : all ≡ length (tokens text) = cc in
         let n : others ≡ countOthers (tokens text) = cc in
         record {
@@ -157,7 +159,7 @@ under-any text table =
 
 -- the counts of a list
 abbrev pub counts : Listing × List ℕ → Answer
-counts (Tokens all others next, table) = accepted (all ∷ others ∷ [])
+counts (Tokens all others next row, table) = accepted (all ∷ others ∷ [])
 counts (Refused k, table) = refused k
 
 pub counts-are : (text table : List ℕ) → counts (listedReads text 0 (length text) table) ≡ counted text

@@ -14,7 +14,7 @@ use Rattle.tokenizer.specs.declared.TokenizedUnder.the-variants as under
 
 -- the answer of a list of all tokens
 abbrev pub allListed : Listing × List ℕ → TokenizedUnder × List ℕ
-allListed (Tokens all others next, table) = (under.Tokens all others, table)
+allListed (Tokens all others next row, table) = (under.Tokens all others, table)
 allListed (Refused k, table) = (under.Refused k, table)
 
 -- the text is accepted, its tokens are counted, and they wait in a list if they are at most 160

@@ -38,6 +38,7 @@ fn list_all(text: &[u8], table: &mut [u32]) -> TokenizedUnder
             all,
             others,
             next: _,
+            row: _,
         } => TokenizedUnder::Tokens { all, others },
         Listing::Refused(k) => TokenizedUnder::Refused(k),
     }
@@ -83,6 +84,7 @@ pub fn tokenize_under(text: &[u8], table: &mut [u32], room: usize) -> TokenizedU
             all,
             others,
             next: _,
+            row: _,
         } => take_list(text, table, room, &list, all, others),
         Listing::Refused(k) => TokenizedUnder::Refused(k),
     }
@@ -122,6 +124,7 @@ pub fn count_tokens(text: &[u8]) -> Counted
             all,
             others,
             next: _,
+            row: _,
         } => Counted::Tokens { all, others },
         Listing::Refused(k) => Counted::Refused(k),
     }

@@ -1,4 +1,5 @@
 -- The check of the text, and then the reads.
+use mathlib.Core.Path.{_∙_}
 use native.Mathlib.Omega.{arith}
 use borrow.Author.Needs.{needs}
 use Rattle.tokens.proofs.Order.{text-short, text-ascii}
@@ -37,7 +38,7 @@ returns-2 : tie.Need-returns-2
 returns-2 c =
     let a = c .before .before .before .before .before .before .before .before .before .before .args in
     let o = text-accepted (a .text .now) _ (c .before .before .before .before .before .before .before .check-text .ensures) (c .before .before .before .before .before .enum-told .given .1) in
-    answer-listed (a .text .now) (a .from) (a .stop) (a .table .now) o _ (c .before .before .before .before .smaller .ensures) (c .before .before .list-from .result) (c .before .before .list-from .last .1 .1 .1 .0) (c .before .before .list-from .ensures)
+    c .before .before .list-from .ensures ∙ answer-listed (a .text .now) (a .from) (a .stop) (a .table .now) o _ (c .before .before .before .before .smaller .ensures)
 
 pub list-reads-spec : {M : Type 1} → statement M
 list-reads-spec =

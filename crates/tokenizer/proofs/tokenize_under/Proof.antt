@@ -29,7 +29,7 @@ enum-known-all : tie.Need-enum-known-all
 enum-known-all c = search needs
 
 take-list-requires : tie.Need-take-list-requires
-take-list-requires c κs = answer-tokens (c .before .before .before .before .before .before .before .before .before .before .before .args .text .now) _ (c .before .before .before .before .before .before .list-reads .result) (c .before .before .before .before .before .before .list-reads .last .1 .1 .1 .0) (c .before .before .before .before .before .before .list-reads .ensures) refl _ _ _ (c .before .before .before .all .given .1)
+take-list-requires c κs = answer-tokens (c .before .before .before .before .before .before .before .before .before .before .before .args .text .now) _ (c .before .before .before .before .before .before .list-reads .result) (c .before .before .before .before .before .before .list-reads .last .1 .1 .1 .0) (c .before .before .before .before .before .before .list-reads .ensures) refl _ _ _ _ (c .before .before .before .all .given .1)
 
 enum-known-k : tie.Need-enum-known-k
 enum-known-k c = search needs

@@ -60,10 +60,10 @@ second-of-requires-2 : tie.Need-second-of-requires-2 Inv-loop μ-loop
 second-of-requires-2 c κs = let w = longer-row (getD (c .before .before .before .before .before .before .before .before .before .before .before .args .text .now) (c .before .before .before .before .before .before .before .before .before .before .before .args .at) 0) (c .before .loop .past - 1) (omega arith) (omega arith) in (c .before .before .before .before .before .before .before .before .before .before .before .pre .0 .bytes-are, c .before .before .before .before .before .before .before .before .before .before .before .pre .0 .rows-are, w .below, w .second)
 
 returns-3 : tie.Need-returns-3 Inv-loop μ-loop
-returns-3 c = let b = getD (c .before .before .before .before .before .before .before .before .before .before .before .before .before .args .text .now) (c .before .before .before .before .before .before .before .before .before .before .before .before .before .args .at) 0 in longer-none (c .before .before .before .before .before .before .before .before .before .before .before .before .before .args .text .now) (c .before .before .before .before .before .before .before .before .before .before .before .before .before .args .at) (λ k f. omega (arith, f .second-is, seconds-rise b k (c .before .before .before .loop .past - 1) (longer-row b k (f .low) (f .high)) (longer-row b (c .before .before .before .loop .past - 1) (omega arith) (omega arith)) (omega (arith, c .before .before .before .loop .inv .1 k f))))
+returns-3 c = let b = getD (c .before .before .before .before .before .before .before .before .before .before .before .before .before .before .args .text .now) (c .before .before .before .before .before .before .before .before .before .before .before .before .before .before .args .at) 0 in longer-none (c .before .before .before .before .before .before .before .before .before .before .before .before .before .before .args .text .now) (c .before .before .before .before .before .before .before .before .before .before .before .before .before .before .args .at) (λ k f. omega (arith, f .second-is, seconds-rise b k (c .before .before .before .before .loop .past - 1) (longer-row b k (f .low) (f .high)) (longer-row b (c .before .before .before .before .loop .past - 1) (omega arith) (omega arith)) (omega (arith, c .before .before .before .before .loop .inv .1 k f))))
 
 fits-requires : tie.Need-fits-requires Inv-loop μ-loop
-fits-requires c κs = let w = longer-row (getD (c .before .before .before .before .before .before .before .before .before .before .before .before .before .before .args .text .now) (c .before .before .before .before .before .before .before .before .before .before .before .before .before .before .args .at) 0) (c .before .before .before .before .loop .past - 1) (omega arith) (omega arith) in (c .before .before .before .before .before .before .before .before .before .before .before .before .before .before .pre .0 .bytes-are, c .before .before .before .before .before .before .before .before .before .before .before .before .before .before .pre .0 .rows-are, w .below, w .second, omega (arith, ltb-false (length (c .before .before .before .before .before .before .before .before .before .before .before .before .before .before .args .text .now) - c .before .before .before .before .before .before .before .before .before .before .before .before .before .before .args .at) 2 (c .before .before .before .before .before .before .before .before .if2 .left)), w .first-is, sym (c .before .before .second-of2 .ensures) ∙ c .if5 .taken)
+fits-requires c κs = let w = longer-row (getD (c .before .before .before .before .before .before .before .before .before .before .before .before .before .before .args .text .now) (c .before .before .before .before .before .before .before .before .before .before .before .before .before .before .args .at) 0) (c .before .before .before .before .loop .past - 1) (omega arith) (omega arith) in (c .before .before .before .before .before .before .before .before .before .before .before .before .before .before .pre .0 .bytes-are, c .before .before .before .before .before .before .before .before .before .before .before .before .before .before .pre .0 .rows-are, w .below, w .second, omega (arith, ltb-false (length (c .before .before .before .before .before .before .before .before .before .before .before .before .before .before .args .text .now) - c .before .before .before .before .before .before .before .before .before .before .before .before .before .before .args .at) 2 (c .before .before .before .before .before .before .before .before .if2 .left)), w .first-is, sym (c .before .before .second-of2 .ensures) ∙ omega arith)
 
 returns-4 : tie.Need-returns-4 Inv-loop μ-loop
 unfolding fitsAt
@@ -74,7 +74,13 @@ loop-less c = omega arith
 
 loop-again : tie.Need-loop-again Inv-loop μ-loop
 unfolding fitsAt
-loop-again c = (omega arith, λ k f. by-eq k (c .before .before .before .before .loop .past - 1) (λ q. ⊎-elim (λ w. clash (fitsAt (c .before .before .before .before .before .before .before .before .before .before .before .before .before .before .args .text .now) (c .before .before .before .before .before .before .before .before .before .before .before .before .before .before .args .at) k) (f .fits-is) (ap (fitsAt (c .before .before .before .before .before .before .before .before .before .before .before .before .before .before .args .text .now) (c .before .before .before .before .before .before .before .before .before .before .before .before .before .before .args .at)) q ∙ sym (w .1 .ensures) ∙ w .2 .left)) (λ w. absurd (w .left (c .before .before .second-of2 .ensures ∙ ap (λ (j : ℕ). getD (spellingOf j) 1 0) (sym q) ∙ f .second-is))) (c .if5 .came)) (λ q. omega (arith, c .before .before .before .before .loop .inv .1 k f)))
+loop-again c = (omega arith, λ k f. by-eq k (c .before .before .before .before .before .before .loop .past - 1) (λ q. clash (fitsAt (c .before .before .before .before .before .before .before .before .before .before .before .before .before .before .before .before .args .text .now) (c .before .before .before .before .before .before .before .before .before .before .before .before .before .before .before .before .args .at) k) (f .fits-is) (ap (fitsAt (c .before .before .before .before .before .before .before .before .before .before .before .before .before .before .before .before .args .text .now) (c .before .before .before .before .before .before .before .before .before .before .before .before .before .before .before .before .args .at)) q ∙ sym (c .before .fits2 .ensures) ∙ c .if6 .left)) (λ q. omega (arith, c .before .before .before .before .before .before .loop .inv .1 k f)))
+
+loop-less-2 : tie.Need-loop-less-2 Inv-loop μ-loop
+loop-less-2 c = omega arith
+
+loop-again-2 : tie.Need-loop-again-2 Inv-loop μ-loop
+loop-again-2 c = (omega arith, λ k f. by-eq k (c .before .before .before .loop .past - 1) (λ q. absurd (omega (arith, c .before .second-of2 .ensures, ap (λ (j : ℕ). getD (spellingOf j) 1 0) q, f .second-is))) (λ q. omega (arith, c .before .before .before .loop .inv .1 k f)))
 
 returns-5 : tie.Need-returns-5 Inv-loop μ-loop
 returns-5 c = longer-none (c .before .before .before .before .before .before .before .before .before .before .before .args .text .now) (c .before .before .before .before .before .before .before .before .before .before .before .args .at) (λ k f. omega (arith, c .before .loop .inv .1 k f, f .low))
@@ -104,4 +110,6 @@ past-longer-spec =
     returns-4
     loop-less
     loop-again
+    loop-less-2
+    loop-again-2
     returns-5)

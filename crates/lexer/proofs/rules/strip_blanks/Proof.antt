@@ -27,13 +27,21 @@ put-requires c κs = omega (arith, run-within blank (c .before .before .before .
 add-t6 : tie.Need-add-t6
 add-t6 c = omega arith
 
+add-t10 : tie.Need-add-t10
+add-t10 c = omega arith
+
 same-length : tie.Need-same-length
 same-length c = search needs
 
 returns : tie.Need-returns
-returns c = added-space (lexeme (c .before .before .before .before .before .before .before .before .args .p .next) (c .before .before .before .before .before .blanks-end .result - c .before .before .before .before .before .before .before .before .args .p .next) Space) refl (read-blank (c .before .before .before .before .before .before .before .before .args .text .now) (c .before .before .before .before .before .before .before .before .args .p .next) (omega arith) (c .before .before .before .before .before .before .before .before .pre .1) (c .before .before .before .before .before .blanks-end .result) (c .before .before .before .before .before .blanks-end .ensures)) refl (c .before .before .before .put .ensures)
+returns c =
+    let s = c .before .before .before .before .before .before .before .before .before in
+    let text = s .args .text .now in
+    let at = s .args .p .next in
+    let end = c .before .before .before .before .before .before .blanks-end in
+    added-space (lexeme at (end .result - at) Space) refl (read-blank text at (omega arith) (s .pre .1) (end .result) (end .ensures)) refl (c .before .before .before .before .put .ensures)
 
 pub strip-blanks-spec : {M : Type 1} → statement M
 strip-blanks-spec =
     tie.close
-    (tie.spec add-blanks-end blanks-end-requires sub-put put-requires add-t6 same-length returns)
+    (tie.spec add-blanks-end blanks-end-requires sub-put put-requires add-t6 add-t10 same-length returns)

@@ -50,19 +50,19 @@ find-end-requires : tie.Need-find-end-requires
 find-end-requires c κs = search needs
 
 put-other-requires-2 : tie.Need-put-other-requires-2
-put-other-requires-2 c κs = omega (arith, run-from blank (c .before .before .before .before .before .before .before .before .before .before .before .before .before .args .text .now) (c .before .before .before .before .before .before .before .before .before .before .before .before .before .args .p .next + 4), ap (λ (q : Listed). q .all) (c .before .before .before .before .before .before .before .before .before .put-other .ensures .0), ap (λ (q : Listed). q .others) (c .before .before .before .before .before .before .before .before .before .put-other .ensures .0))
+put-other-requires-2 c κs = omega (arith, run-from blank (c .before .before .before .before .before .before .before .before .before .before .before .before .before .args .text .now) (c .before .before .before .before .before .before .before .before .before .before .before .before .before .args .p .next + 4), ap (λ (q : Listed). q .all) (c .before .before .before .before .before .before .before .before .before .put-other .ensures .0))
 
 sub-put-other : tie.Need-sub-put-other
 sub-put-other c = omega (arith, run-from (other (c .before .before .before .before .before .before .before .closer-of .result)) (c .before .before .before .before .before .before .before .before .before .before .before .before .before .before .before .before .before .args .text .now) (c .before .before .before .before .before .before .before .before .before .before .blanks-end .result + 1))
 
 put-other-requires-3 : tie.Need-put-other-requires-3
-put-other-requires-3 c κs = omega (arith, run-from blank (c .before .before .before .before .before .before .before .before .before .before .before .before .before .before .before .before .before .args .text .now) (c .before .before .before .before .before .before .before .before .before .before .before .before .before .before .before .before .before .args .p .next + 4), run-from (other (c .before .before .before .before .before .before .before .closer-of .result)) (c .before .before .before .before .before .before .before .before .before .before .before .before .before .before .before .before .before .args .text .now) (c .before .before .before .before .before .before .before .before .before .before .blanks-end .result + 1), run-within (other (c .before .before .before .before .before .before .before .closer-of .result)) (c .before .before .before .before .before .before .before .before .before .before .before .before .before .before .before .before .before .args .text .now) (c .before .before .before .before .before .before .before .before .before .before .blanks-end .result + 1) (omega arith), ap (λ (q : Listed). q .all) (c .before .before .before .before .before .before .before .before .before .before .before .before .before .put-other .ensures .0), ap (λ (q : Listed). q .others) (c .before .before .before .before .before .before .before .before .before .before .before .before .before .put-other .ensures .0), ap (λ (q : Listed). q .all) (c .before .before .before .put-other2 .ensures .0), ap (λ (q : Listed). q .others) (c .before .before .before .put-other2 .ensures .0))
+put-other-requires-3 c κs = omega (arith, run-from blank (c .before .before .before .before .before .before .before .before .before .before .before .before .before .before .before .before .before .args .text .now) (c .before .before .before .before .before .before .before .before .before .before .before .before .before .before .before .before .before .args .p .next + 4), run-from (other (c .before .before .before .before .before .before .before .closer-of .result)) (c .before .before .before .before .before .before .before .before .before .before .before .before .before .before .before .before .before .args .text .now) (c .before .before .before .before .before .before .before .before .before .before .blanks-end .result + 1), run-within (other (c .before .before .before .before .before .before .before .closer-of .result)) (c .before .before .before .before .before .before .before .before .before .before .before .before .before .before .before .before .before .args .text .now) (c .before .before .before .before .before .before .before .before .before .before .blanks-end .result + 1) (omega arith), ap (λ (q : Listed). q .all) (c .before .before .before .before .before .before .before .before .before .before .before .before .before .put-other .ensures .0), ap (λ (q : Listed). q .all) (c .before .before .before .put-other2 .ensures .0))
 
 add-put-other-2 : tie.Need-add-put-other-2
 add-put-other-2 c = omega (arith, c .before .before .before .before .before .before .before .before .before .before .before .before .before .before .before .before .before .before .before .before .before .before .pre .0 .short)
 
 put-other-requires-4 : tie.Need-put-other-requires-4
-put-other-requires-4 c κs = omega (arith, c .before .before .before .before .before .before .before .before .before .before .before .before .before .before .before .before .before .before .before .before .before .before .pre .0 .short, c .before .before .before .before .before .before .before .before .before .before .before .before .before .before .before .before .before .before .before .before .before .before .pre .0 .fewer, c .before .before .before .before .before .before .before .before .before .before .before .before .before .before .before .before .before .before .before .before .before .before .pre .0 .few, c .before .before .before .before .before .before .before .before .before .before .before .before .before .before .before .before .before .before .before .before .before .before .pre .1, c .before .if3 .taken, run-from blank (c .before .before .before .before .before .before .before .before .before .before .before .before .before .before .before .before .before .before .before .before .before .before .args .text .now) (c .before .before .before .before .before .before .before .before .before .before .before .before .before .before .before .before .before .before .before .before .before .before .args .p .next + 4), run-from (other (c .before .before .before .before .before .before .before .before .before .before .before .before .closer-of .result)) (c .before .before .before .before .before .before .before .before .before .before .before .before .before .before .before .before .before .before .before .before .before .before .args .text .now) (c .before .before .before .before .before .before .before .before .before .before .before .before .before .before .before .blanks-end .result + 1), ap (λ (q : Listed). q .all) (c .before .before .before .before .before .before .before .before .before .before .before .before .before .before .before .before .before .before .put-other .ensures .0), ap (λ (q : Listed). q .others) (c .before .before .before .before .before .before .before .before .before .before .before .before .before .before .before .before .before .before .put-other .ensures .0), ap (λ (q : Listed). q .all) (c .before .before .before .before .before .before .before .before .put-other2 .ensures .0), ap (λ (q : Listed). q .others) (c .before .before .before .before .before .before .before .before .put-other2 .ensures .0), ap (λ (q : Listed). q .all) (c .before .before .before .before .put-other3 .ensures .0), ap (λ (q : Listed). q .others) (c .before .before .before .before .put-other3 .ensures .0))
+put-other-requires-4 c κs = omega (arith, c .before .before .before .before .before .before .before .before .before .before .before .before .before .before .before .before .before .before .before .before .before .before .pre .0 .short, c .before .before .before .before .before .before .before .before .before .before .before .before .before .before .before .before .before .before .before .before .before .before .pre .0 .fewer, c .before .before .before .before .before .before .before .before .before .before .before .before .before .before .before .before .before .before .before .before .before .before .pre .0 .few, c .before .before .before .before .before .before .before .before .before .before .before .before .before .before .before .before .before .before .before .before .before .before .pre .1, c .before .if3 .taken, run-from blank (c .before .before .before .before .before .before .before .before .before .before .before .before .before .before .before .before .before .before .before .before .before .before .args .text .now) (c .before .before .before .before .before .before .before .before .before .before .before .before .before .before .before .before .before .before .before .before .before .before .args .p .next + 4), run-from (other (c .before .before .before .before .before .before .before .before .before .before .before .before .closer-of .result)) (c .before .before .before .before .before .before .before .before .before .before .before .before .before .before .before .before .before .before .before .before .before .before .args .text .now) (c .before .before .before .before .before .before .before .before .before .before .before .before .before .before .before .blanks-end .result + 1), ap (λ (q : Listed). q .all) (c .before .before .before .before .before .before .before .before .before .before .before .before .before .before .before .before .before .before .put-other .ensures .0), ap (λ (q : Listed). q .all) (c .before .before .before .before .before .before .before .before .put-other2 .ensures .0), ap (λ (q : Listed). q .all) (c .before .before .before .before .put-other3 .ensures .0))
 
 same-length-3 : tie.Need-same-length-3
 same-length-3 c = omega (arith, c .before .before .before .before .before .before .before .before .before .before .before .before .before .before .before .before .before .before .before .before .before .put-other .kept, c .before .before .before .before .before .before .before .before .before .before .before .put-other2 .kept, c .before .before .before .before .before .before .before .put-other3 .kept, c .before .before .put-other4 .kept)
