@@ -87,7 +87,7 @@ pub record Lone (text : List ℕ) (at : ℕ) : Type 0 where
 
 module _ (text : List ℕ) (at : ℕ) (h : at < length text) (p : pastLonger (longestAt text at) ≡ 0) where
   pub read-plain : (byteKind (getD text at 0) ≡ 23 → ⊥) → spelledByte (getD text at 0) ≡ none → fromNumber text at ≡ readAt byteAt text at
-  read-plain f o = read-none text at h (kind-other (getD text at 0) f) (byte-none text at p o)
+  read-plain f o = read-none text at (kind-other (getD text at 0) f) (byte-none text at p o)
 
   pub lone : (byteKind (getD text at 0) ≡ 23 → ⊥) → (byteKind (getD text at 0) ≡ 4 → ⊥) → (byteKind (getD text at 0) ≡ 7 → ⊥) → Lone text at
   unfolding rowOf
@@ -105,7 +105,7 @@ module _ (text : List ℕ) (at : ℕ) (h : at < length text) (p : pastLonger (lo
         no-space = ap (λ (u : Token). eqb (numberOf u) 23) (sym (r .token-is)) ∙ w .no-space;
         read-is = (λ i. alone at (length (sym (r .spelling-is) i)) (sym (r .token-is) i))
             ∙ row-plain n text at plain
-            ∙ read-row text at h (kind-other c f) n (r .below) (byte-found text at p h t o);
+            ∙ read-row text at (kind-other c f) n (r .below) (byte-found text at p h t o);
       })
       (λ o e.
       by-plain c (λ a q. absurd (f (e ∙ q))) (λ a q. absurd (g (e ∙ q)))

@@ -20,6 +20,7 @@ use Rattle.lexer.specs.Coded.{fromQuotation, fromNumber, fromRow}
 use Rattle.tokens.proofs.Cases.{by-test, by-lt, by-eq, clash}
 use Rattle.lexing.proofs.Runs.{run-from, run-more, run-stop}
 use Rattle.lexing.proofs.Order.{before-strict}
+use Rattle.lexing.proofs.Spelled.{no-blanks}
 use Rattle.lexer.proofs.Sorted.{in-order}
 use Rattle.lexing.proofs.Moves.{past-on, same-is, command-length}
 
@@ -251,14 +252,10 @@ module _ (text : List ℕ) (at : ℕ) where
       ap (one at (e - at) Space) n ∙ rw r (sym q)
 
   -- no blank: what is found, or rules 3 to 5
-  module _ (l : at < length text) (b : blank (getD text at 0) ≡ false) where
-    no-blanks : blanksAt text at ≡ none
-    unfolding blanksAt
-    no-blanks = rw (le-ltb at (runEnd blank text at) (omega (arith, run-stop blank text at l b)), blanksAt)
-
+  module _ (b : blank (getD text at 0) ≡ false) where
     pub read-none : longestAt text at ≡ none → fromNumber text at ≡ readAt byteAt text at
     unfolding readAt fromNumber fromQuotation spellingAt
-    read-none e = sym (rw (no-blanks, readAt) (rw (e, spellingAt)))
+    read-none e = sym (rw (no-blanks text at b, readAt) (rw (e, spellingAt)))
 
     pub read-row : (k : ℕ) → k < 429 → longestAt text at ≡ some (record { number = k; row = rowOf k }) → fromRow k text at ≡ readAt byteAt text at
     unfolding readAt fromRow spellingAt spellingOf
@@ -267,5 +264,5 @@ module _ (text : List ℕ) (at : ℕ) where
         (λ t.
         let u = command-unary k h t in
         let n = command-four k text at t in
-        sym (row-command k text at t) ∙ rw (← u, ← n) (sym (rw (no-blanks, readAt) (rw (e, spellingAt) (rw t)))))
-        (λ t. sym (row-plain k text at t) ∙ sym (rw (no-blanks, readAt) (rw (e, spellingAt) (rw t))))
+        sym (row-command k text at t) ∙ rw (← u, ← n) (sym (rw (no-blanks text at b, readAt) (rw (e, spellingAt) (rw t)))))
+        (λ t. sym (row-plain k text at t) ∙ sym (rw (no-blanks text at b, readAt) (rw (e, spellingAt) (rw t))))

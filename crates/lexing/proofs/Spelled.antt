@@ -22,7 +22,7 @@ module _ (text : List ℕ) (at : ℕ) where
   no-run : blank (getD text at 0) ≡ false → runEnd blank text at ≡ at
   no-run b = by-lt at (length text) (λ l. run-stop blank text at l b) (λ l. run-past blank text at l)
 
-  no-blanks : blank (getD text at 0) ≡ false → blanksAt text at ≡ none
+  pub no-blanks : blank (getD text at 0) ≡ false → blanksAt text at ≡ none
   unfolding blanksAt
   no-blanks b = rw (le-ltb at (runEnd blank text at) (omega (arith, no-run b)), blanksAt)
 

@@ -111,9 +111,8 @@ returns-2 c =
     let past = c .before .before .before .before .before .before .before .past-longer .result in
     let v = past-row text at past (c .before .before .before .before .before .before .before .past-longer .ensures) (c .before .before .before .before .before .before .if2 .taken) in
     let e = c .before .before .before .with-found2 .ensures in
-    let h = s .pre .1 .inside in
     let b = kind-other (getD text at 0) (λ z. c .before .before .before .before .before .before .before .before .if1 .left (k ∙ z)) in
-    read-found text (s .args .p) e (c .before .before .strip-spelling .ensures) (at-place text (s .args .p) e (fromRow (past - 1)) (read-row text at h b (past - 1) (v .0) (v .1)))
+    read-found text (s .args .p) e (c .before .before .strip-spelling .ensures) (at-place text (s .args .p) e (fromRow (past - 1)) (read-row text at b (past - 1) (v .0) (v .1)))
     (c .before .before .before .before .word-of .ensures ∙ past-row-read text at past (c .before .before .before .before .before .before .before .past-longer .ensures) (c .before .before .before .before .before .before .if2 .taken))
 
 cast-if3 : tie.Need-cast-if3
