@@ -9,7 +9,7 @@
  * Every call returns 0 and puts its values first into `answer`, as many as `answer_len` has words
  * for (those behind stay as they were), or it returns the number of a refusal (below) and leaves
  * `answer` as it was. No bytes, words or lengths are wrong to pass: whatever they are, the call
- * ends with one of the two. A refusal writes nothing at all, except ASCIIMATH_SHORT_PRINT.
+ * ends with one of the two. A refusal writes nothing at all, except from ASCIIMATH_SHORT_PRINT on.
  *
  * ## Buffers
  *
@@ -77,6 +77,10 @@ extern "C" {
  * buffer is safe all the same.) */
 #define ASCIIMATH_PRINT_BYTES(n) (12 * ASCIIMATH_TREE_WORDS(n) + 64)
 
+/* Bytes that were enough for the MathML of each text tried, of so many bytes; not proved: a shorter
+ * buffer is refused by 12, and changes nothing. */
+#define ASCIIMATH_MATHML_BYTES(bytes) (48 * (size_t)(bytes) + 72)
+
 /* Refusals. The first that meets a call, in the order named at each call, is the answer. */
 enum asciimath_refusal {
     ASCIIMATH_LONG_TEXT = 1,    /* the text is longer than 4,096 bytes */
@@ -89,7 +93,11 @@ enum asciimath_refusal {
     ASCIIMATH_SHORT_WORK = 8,   /* work has fewer than ASCIIMATH_WORK_WORDS(n) words, or the buffer
                                    of closers fewer than ASCIIMATH_CLOSERS_WORDS(n) */
     ASCIIMATH_SHORT_TREE = 9,   /* tree has fewer than ASCIIMATH_TREE_WORDS(n) words */
-    ASCIIMATH_SHORT_PRINT = 10  /* the print buffer is shorter than the whole print */
+    ASCIIMATH_SHORT_PRINT = 10, /* the print buffer is shorter than the whole print */
+    ASCIIMATH_NO_MATHML = 11,   /* the tree holds id, class, color, a font command, a column line at a
+                                   matrix's edge or a second at one place, or a byte below 32 other
+                                   than 9, 10 and 13 */
+    ASCIIMATH_SHORT_MATHML = 12 /* the output buffer is shorter than the MathML */
 };
 
 /* Kinds of tokens. A token table has three words a token: its start and its length in the text, and
@@ -217,6 +225,14 @@ uint32_t asciimath_parse_tokens(const uint8_t *text, size_t text_len, const uint
 uint32_t asciimath_print(const uint8_t *text, size_t text_len, uint32_t *table, size_t table_len,
                          uint32_t *work, size_t work_len, uint32_t *tree, size_t tree_len,
                          uint8_t *out, size_t out_len, uint64_t *answer, size_t answer_len);
+
+/* Reads a text as asciimath_parse does and writes its MathML (docs/MATHML.md) into `out`, one math
+ * element in UTF-8 with no 0 byte at the end; bytes behind it stay as they were. Refusals 11 and 12
+ * leave `out` and `answer` as they were, and table, work and tree as after acceptance.
+ * Values: length of the MathML, takes, blank. Refusals: 1, 2, 7, 8, 9, 11, 12. */
+uint32_t asciimath_mathml(const uint8_t *text, size_t text_len, uint32_t *table, size_t table_len,
+                          uint32_t *work, size_t work_len, uint32_t *tree, size_t tree_len,
+                          uint8_t *out, size_t out_len, uint64_t *answer, size_t answer_len);
 
 /* Finds the closers of a list of `count` tokens over a text, as asciimath_parse_tokens takes it. For
  * each token other than Space, `out` gets the place of its closer, counted from 0 among those tokens,

@@ -374,6 +374,9 @@ class Maker:
         for one, other in itertools.product(NESTED, ["", *NESTED]):
             for end in ("x", "a)]" * 130, "x" + ")" * 260, "b)]" * 127 + ")" * 260):
                 yield (one + other) * 127 + end
+        # the deepest trees: matrices, cells and fractions, and then wraps
+        for one in ("[(", "1^[("):
+            yield one * 127 + "/1,1)]" * 127 + ")" * 256
 
     def nested(self):
         unit = "".join(self.rng.choices(NESTED, k=self.rng.randint(1, 4)))

@@ -102,6 +102,19 @@ def rows_of_antt(path):
     return rows
 
 
+def forms_of_rust(path):
+    """The display form of each row, or None, in the order of the rows."""
+    forms = {spelling: form for spelling, _, form in tokens_of_rust(path)}
+    return [(spelling, forms.get(spelling)) for spelling, _ in rows_of_rust(path)]
+
+
+def forms_of_antt(path):
+    """The lines `typed "!" ∷` and `drawn "!=" "≠" ∷`, in their order."""
+    quoted = r'("(?:[^"\\]|\\.)*")'
+    lines = re.findall(rf"^ +(typed|drawn) {quoted}(?: {quoted})? ∷$", read(path), re.M)
+    return [(rust_string(spelling), rust_string(form) if kind == "drawn" else None) for kind, spelling, form in lines]
+
+
 def rows_of(path):
     """The rows of either kind of file."""
     return rows_of_rust(path) if path.endswith(".rs") else rows_of_antt(path)

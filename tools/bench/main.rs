@@ -15,10 +15,13 @@
 //! every text: `cut` are buffers of just the words that the text needs, `any` such as any text of
 //! that length could need. `crate` are the bindings' own functions, which make a tree too, and drop
 //! it; `borrowed` is the one whose tree holds parts of the text, as the original's does. `closers` is
-//! the bracket call; the original has none, so its side is the reading of the text.
+//! the bracket call; the original has none, so its side is the reading of the text. `mathml` is the
+//! whole from text to MathML; the original's side is its tree and a plain writer over it.
 
 #[path = "../oracle/kinds.rs"]
 mod kinds;
+#[path = "../mathml/writer.rs"]
+mod writer;
 
 use asciimath::{borrowed, calls};
 use asciimath_parser::{Token, Tokenizer, parse, parse_tokens};
@@ -82,6 +85,8 @@ struct Room {
     work: Vec<u32>,
     tree: Vec<u32>,
     closers: Vec<u32>,
+    out: Vec<u8>,
+    written: Vec<u8>,
     answer: [u64; 4],
 }
 
@@ -96,7 +101,7 @@ struct Call {
     on_lists: bool,
 }
 
-const CALLS: [Call; 9] = [
+const CALLS: [Call; 10] = [
     Call {
         name: "tokens",
         original: original_tokens,
@@ -157,6 +162,30 @@ const CALLS: [Call; 9] = [
         same: |input, room| {
             assert_eq!(input.table, room.table[..input.table.len()]);
             assert_eq!(input.others as u64, room.answer[1]);
+        },
+        on_lists: false,
+    },
+    Call {
+        name: "mathml",
+        original: |input, room| {
+            room.written.clear();
+            writer::mathml(input.text, &mut room.written).expect("accepted");
+        },
+        ours: |input, room| {
+            let bytes = input.text.len();
+            accepted(calls::mathml(
+                input.bytes(),
+                &mut room.table[..3 * bytes],
+                &mut room.work[..WORK * (bytes + 1)],
+                &mut room.tree[..TREE * (bytes + 1)],
+                &mut room.out[..48 * bytes + 72],
+                &mut room.answer,
+            ));
+        },
+        same: |input, room| {
+            room.written.clear();
+            writer::mathml(input.text, &mut room.written).expect("accepted");
+            assert_eq!(room.written, room.out[..room.answer[0] as usize]);
         },
         on_lists: false,
     },
@@ -397,6 +426,8 @@ fn main() {
         work: vec![0; WORK * (LONGEST + 1)],
         tree: vec![0; TREE * (LONGEST + 1)],
         closers: vec![0; LONGEST],
+        out: vec![0; 48 * LONGEST + 72],
+        written: Vec::with_capacity(48 * LONGEST + 72),
         answer: [0; 4],
     };
     let pairs = CALLS

@@ -19,12 +19,12 @@
 #include <sys/mman.h>
 #include <unistd.h>
 
-enum { COUNT, TOKENS, LOOKUP, PARSE, PARSE_TOKENS, PRINT, CLOSERS, CLOSERS_TEXT, CALLS };
-static const char *const NAMES[CALLS] = {"count",        "tokens", "lookup",  "parse",
-                                         "parse_tokens", "print",  "closers", "closers_text"};
+enum { COUNT, TOKENS, LOOKUP, PARSE, PARSE_TOKENS, PRINT, MATHML, CLOSERS, CLOSERS_TEXT, CALLS };
+static const char *const NAMES[CALLS] = {"count", "tokens", "lookup",  "parse",       "parse_tokens",
+                                         "print", "mathml", "closers", "closers_text"};
 enum { PAGE = 4096 };
 
-static uint64_t made[11], seed = 1;
+static uint64_t made[ASCIIMATH_SHORT_MATHML + 1], seed = 1;
 
 static void fail(const char *what) {
     fprintf(stderr, "%s, on %s\n", what, line ? line : "random bytes");
@@ -80,6 +80,9 @@ static uint32_t call(int which, const struct room *r) {
     case CLOSERS_TEXT:
         return asciimath_closers_text(at[TEXT], n[TEXT], at[TABLE], n[TABLE], at[PLACES], n[PLACES],
                                       at[ANSWER], n[ANSWER]);
+    case MATHML:
+        return asciimath_mathml(at[TEXT], n[TEXT], at[TABLE], n[TABLE], at[WORK], n[WORK], at[TREE],
+                                n[TREE], at[OUT], n[OUT], at[ANSWER], n[ANSWER]);
     default:
         return asciimath_print(at[TEXT], n[TEXT], at[TABLE], n[TABLE], at[WORK], n[WORK], at[TREE],
                                n[TREE], at[OUT], n[OUT], at[ANSWER], n[ANSWER]);
@@ -91,7 +94,8 @@ static void lengths(struct room *r, int which, int one_short) {
     const size_t n[BUFFERS] = {text_len, table_len, ASCIIMATH_WORK_WORDS(others),
                                ASCIIMATH_TREE_WORDS(others), others, ASCIIMATH_PRINT_BYTES(others), 4};
     memcpy(r->length, n, sizeof n);
-    if (which == PRINT && some(2)) r->length[OUT] = some(2000);
+    if (which == MATHML) r->length[OUT] = ASCIIMATH_MATHML_BYTES(text_len);
+    if ((which == PRINT || which == MATHML) && some(2)) r->length[OUT] = some(2000);
     if (one_short) {
         int one = (int[]){TABLE, WORK, TREE}[some(3)];
         if (which >= CLOSERS && one != TABLE) one = PLACES;
@@ -250,7 +254,7 @@ int main(int argc, char **argv) {
     }
     free(line);
     printf("%s: %zu cases; calls accepted %" PRIu64 ", refused", mode, cases, made[0]);
-    for (int k = 1; k <= 10; k++) printf(" %d: %" PRIu64, k, made[k]);
+    for (int k = 1; k <= ASCIIMATH_SHORT_MATHML; k++) printf(" %d: %" PRIu64, k, made[k]);
     printf("\n");
     for (int which = 0; measure && which < CALLS; which++)
         printf("stack of %s: %zu bytes (%s)\n", NAMES[which], need[which], needs_line[which]);

@@ -90,6 +90,12 @@ calls! {
         text: &[u8], table: &[u32]; count: usize; out: &mut [u32], answer: &mut [u64]
     )
 
+    /// Reads a text and writes its MathML. Values: length of the MathML, takes, blank.
+    mathml = asciimath_mathml(
+        text: &[u8], table: &mut [u32], work: &mut [u32], tree: &mut [u32], out: &mut [u8],
+        answer: &mut [u64]
+    )
+
     /// Reads a text and prints its tree. Values: length of the print, takes, blank.
     print = asciimath_print(
         text: &[u8], table: &mut [u32], work: &mut [u32], tree: &mut [u32], out: &mut [u8],

@@ -135,3 +135,18 @@ pub fn pairs(text: &str) -> Result<Vec<Pair>, Refusal> {
 pub fn print(text: &str) -> Result<String, Refusal> {
     Reader::with_own(|reader| reader.print(text))
 }
+
+/// The MathML of a text: one `math` element, for a browser or a typesetter
+///
+/// ```
+/// let mathml = asciimath::mathml("x^2")?;
+/// assert!(mathml.ends_with("<msup><mi>x</mi><mn>2</mn></msup></math>"));
+/// # Ok::<(), asciimath::Refusal>(())
+/// ```
+///
+/// # Errors
+/// As [`parse`], and [`Refusal::NO_MATHML`] for a tree that holds `id`, `class`, `color`, a font
+/// command, a column line at a matrix's edge or a second at one place, or a control byte.
+pub fn mathml(text: &str) -> Result<String, Refusal> {
+    Reader::with_own(|reader| reader.mathml(text))
+}

@@ -26,7 +26,7 @@ pub type Pair = (Range<usize>, Range<usize>);
 
 /// The buffers of a reading, kept from one to the next
 ///
-/// They grow as the texts need it, to 0.6 MB at most, or 2.2 MB with a print. The functions of this
+/// They grow as the texts need it, to 0.6 MB at most, or 2.4 MB with a print and MathML. The functions of this
 /// crate use one that each thread keeps; a `Reader` of your own says how long its buffers live.
 ///
 /// ```
@@ -45,6 +45,7 @@ pub struct Reader {
     tree: Vec<u32>,
     closers: Vec<u32>,
     print: Vec<u8>,
+    mathml: Vec<u8>,
 }
 
 thread_local! {
@@ -61,6 +62,7 @@ impl Reader {
             tree: Vec::new(),
             closers: Vec::new(),
             print: Vec::new(),
+            mathml: Vec::new(),
         }
     }
 
@@ -188,6 +190,35 @@ impl Reader {
         Ok(str::from_utf8(printed).expect("the print is ASCII").into())
     }
 
+    /// The MathML of a text: one `math` element
+    ///
+    /// # Errors
+    /// As [`mathml`](crate::mathml).
+    pub fn mathml(&mut self, text: &str) -> Result<String, Refusal> {
+        let tokens = self.tokenize(text)?;
+        let others = self.others(tokens).count();
+        let mut bytes = mathml_bytes(text.len());
+        loop {
+            let out = first(&mut self.mathml, bytes);
+            let mut answer = [0];
+            match Refusal::of_code(calls::mathml(
+                text.as_bytes(),
+                first(&mut self.table, 3 * tokens),
+                first(&mut self.work, work_words(others)),
+                first(&mut self.tree, tree_words(others)),
+                out,
+                &mut answer,
+            )) {
+                Err(Refusal::SHORT_MATHML) => bytes *= 2,
+                Err(refusal) => return Err(refusal),
+                Ok(()) => {
+                    let written = &out[..answer[0] as usize];
+                    return Ok(str::from_utf8(written).expect("MathML is UTF-8").into());
+                }
+            }
+        }
+    }
+
     /// Writes the text's tokens into the table. How many there are.
     fn tokenize(&mut self, text: &str) -> Result<usize, Refusal> {
         // a text has at most as many tokens as bytes
@@ -306,6 +337,11 @@ const fn tree_words(others: usize) -> usize {
 /// Bytes that are enough for any print: a line has at most 12 for each word of its node.
 const fn print_bytes(others: usize) -> usize {
     12 * tree_words(others) + 64
+}
+
+/// Bytes that were enough for the MathML of each text tried, of so many bytes.
+const fn mathml_bytes(bytes: usize) -> usize {
+    48 * bytes + 72
 }
 
 /// Where a part starts in its text; past the end if it is no part of it.

@@ -25,6 +25,11 @@ impl Refusal {
     pub const SHORT_TREE: Refusal = Refusal(9);
     /// 10: the print buffer is too short
     pub const SHORT_PRINT: Refusal = Refusal(10);
+    /// 11: the tree holds what has no MathML here: `id`, `class`, `color`, a font command, a column
+    /// line at a matrix's edge or a second at one place, a control byte
+    pub const NO_MATHML: Refusal = Refusal(11);
+    /// 12: the output buffer is shorter than the MathML
+    pub const SHORT_MATHML: Refusal = Refusal(12);
 
     /// The refusal's number
     #[must_use]
@@ -54,6 +59,8 @@ impl fmt::Display for Refusal {
             Refusal::SHORT_WORK => "the work buffer or the buffer of closers is too short",
             Refusal::SHORT_TREE => "the tree buffer is too short",
             Refusal::SHORT_PRINT => "the print buffer is too short",
+            Refusal::NO_MATHML => "the tree holds what has no MathML here",
+            Refusal::SHORT_MATHML => "the output buffer is too short",
             Refusal(_) => "unknown",
         };
         write!(f, "refused ({}): {reason}", self.0)

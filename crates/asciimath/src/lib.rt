@@ -6,6 +6,8 @@ use closers::closers;
 use closers::closers_text;
 use lexer::prefix_map::Longest;
 use lexer::prefix_map::get_longest_prefix;
+use mathml::Marked;
+use mathml::mathml;
 use parse::Parsed;
 use parse::ParsedTokens;
 use parse::parse;
@@ -19,6 +21,7 @@ use tokenizer::tokenize;
 ghost use mathlib.Core.Path.{_≡_};
 ghost use Rattle.tokenizer.specs.Call.{tokenized, counted};
 ghost use Rattle.parse.specs.Call.{parsedText, parsedTokens};
+ghost use Rattle.mathml.specs.Call.{markedText};
 ghost use Rattle.print.specs.Call.{printedText};
 ghost use Rattle.closers.specs.Call.{closedTokens, closedText};
 ghost use Rattle.lexing.specs.Longest.{longestAt};
@@ -195,6 +198,37 @@ pub extern "C" fn asciimath_print(
     match print(text, table, work, tree, out) {
         Printed::Refused(k) => refusal(k),
         Printed::Whole { len, takes, blank } => {
+            put(answer, 0, len as u64);
+            put(answer, 1, takes);
+            put(answer, 2, blank as u64);
+            0
+        }
+    }
+}
+
+// Reads a text and writes its MathML. Values: the length of the MathML, takes, blank.
+#[no_mangle]
+pub extern "C" fn asciimath_mathml(
+    text: &[u8],
+    table: &mut [u32],
+    work: &mut [u32],
+    tree: &mut [u32],
+    out: &mut [u8],
+    answer: &mut [u64],
+) -> u32
+    ensures { λ r.
+        ⌜
+        (r ≡ codeOf (markedText (now (text .entry)) (now (table .entry)) (now (work .entry)) (now (tree .entry)) (now (out .entry)) .0))
+        × (now (table .exit) ≡ markedText (now (text .entry)) (now (table .entry)) (now (work .entry)) (now (tree .entry)) (now (out .entry)) .1)
+        × (now (work .exit) ≡ markedText (now (text .entry)) (now (table .entry)) (now (work .entry)) (now (tree .entry)) (now (out .entry)) .2)
+        × (now (tree .exit) ≡ markedText (now (text .entry)) (now (table .entry)) (now (work .entry)) (now (tree .entry)) (now (out .entry)) .3)
+        × (now (out .exit) ≡ markedText (now (text .entry)) (now (table .entry)) (now (work .entry)) (now (tree .entry)) (now (out .entry)) .4)
+        × (now (answer .exit) ≡ valuesIn (markedText (now (text .entry)) (now (table .entry)) (now (work .entry)) (now (tree .entry)) (now (out .entry)) .0) (now (answer .entry)))
+        ⌝ }
+{
+    match mathml(text, table, work, tree, out) {
+        Marked::Refused(k) => refusal(k),
+        Marked::Whole { len, takes, blank } => {
             put(answer, 0, len as u64);
             put(answer, 1, takes);
             put(answer, 2, blank as u64);

@@ -3,16 +3,17 @@ use Prim.Native.Nat.{ℕ, zero, suc, _+_, _*_, _-_, _≤_, _<_}
 use mathlib.Core.Path.{_≡_, refl, sym, ap, _∙_}
 use mathlib.Core.List.{List, [], _∷_, _++_, append-assoc, append-nil}
 use native.Mathlib.Omega.{arith}
-use lib.ListN.{length, getD, take, drop, length-drop, drop-of-length-le, List·getD-eq-default}
-use lib.Seq.{take-suc, take-all, take-nil, drop-length, getD-drop}
+use lib.ListN.{length, getD, take, drop, List·getD-eq-default}
+use lib.Seq.{take-suc, take-all, getD-drop}
 use borrow.Author.Tests.{ne-eqb}
 use borrow.Author.Count.{below-more}
 use Rattle.tokens.proofs.Cases.{by-lt}
 use Rattle.tokens.specs.Bytes.{bytes}
 use Rattle.tree.specs.declared.walk.Opened.{Opened}
+use Rattle.tree.specs.Walk.{linesOf}
 use Rattle.writer.specs.Decimal.{decimal}
 use Rattle.line.specs.Print.{names, nameOf, number, field, commas, more, newline}
-use Rattle.line.specs.Lines.{startOf, leftOf, scriptOf, groupOf, matrixOf, linesOf, wordOf, addedBy, addedOf, lineOf}
+use Rattle.line.specs.Lines.{startOf, leftOf, scriptOf, groupOf, matrixOf, wordOf, addedBy, addedOf, lineOf}
 
 -- the table of names, eight bytes each, and their lengths
 abbrev pub table : List ℕ
@@ -145,14 +146,6 @@ module _ (kind held start len cols count : ℕ) (lines : List ℕ) where
 
   pub added-above : (kind ≡ 15 → ⊥) → (kind ≡ 16 → ⊥) → (kind ≡ 17 → ⊥) → 15 ≤ kind → [] ≡ addedBy kind held start len cols count lines
   added-above d f g h = added-none (λ e. omega arith) (λ e. omega arith) (λ e. omega arith) d f g
-
--- the words from a place on
-module _ (words : List ℕ) (head : ℕ) where
-  pub own-past : length words < head → take (length words - length words) (drop (length words) words) ≡ drop head words
-  own-past h = rw (drop-length words, drop-of-length-le words {i = head} (omega arith), take-nil)
-
-  pub own-in : take (length words - head) (drop head words) ≡ drop head words
-  own-in = let l : length (drop head words) ≡ length words - head = length-drop head words in take-all (length words - head) (drop head words) (omega arith)
 
 -- a line by the words from the node's own on
 pub line-own : (words own : List ℕ) (o : Opened) (depth : ℕ) → own ≡ drop (o .head) words →

@@ -9,12 +9,13 @@ use Rattle.tokens.specs.Bytes.{bytes}
 use Rattle.tree.specs.declared.walk.Opened.{Opened}
 use Rattle.tree.specs.Tree.{Script, Head, Atom, Prefix, Nodes, count}
 use Rattle.tree.specs.Words.{headWords, tailWords, ofItems, isFrac, encodes}
-use Rattle.tree.specs.Walk.{rowWords, kindOf, cellsEnd}
+use Rattle.tree.specs.Walk.{rowWords, kindOf, linesOf}
 use Rattle.tree.specs.Laid.{HoldsCells}
-use Rattle.tree.proofs.Opens.{Opens, cells-end}
+use Rattle.tree.proofs.Opens.{Opens}
+use Rattle.tree.proofs.Heads.{lines-of}
 use Rattle.writer.specs.Decimal.{decimal}
 use Rattle.line.specs.Print.{nameOf, field, newline, left, right, scriptName, script, class, fields, name, line}
-use Rattle.line.specs.Lines.{startOf, leftOf, scriptOf, rightOf, groupOf, matrixOf, linesOf, wordOf, addedBy, addedOf, lineOf}
+use Rattle.line.specs.Lines.{startOf, leftOf, scriptOf, rightOf, groupOf, matrixOf, wordOf, addedBy, addedOf, lineOf}
 
 -- the fields and the line of these numbers: `word` gives a node's own words
 abbrev fieldsBy : ℕ → (ℕ → ℕ) → ℕ → List ℕ → List ℕ
@@ -66,24 +67,6 @@ unfolding startOf line name
 line-parts depth h word k ls e =
     ap (λ (x : List ℕ). startOf depth (kindOf h) ++ x) (sym (append-assoc (leftOf (kindOf h) (word 1) (word 2)) _ newline) ∙ ap (λ (x : List ℕ). x ++ newline) e)
     ∙ ap (λ (x : List ℕ). bytes "depth=" ++ x) (append-assoc (decimal depth) (field "node" (nameOf (kindOf h))) (fields h k ++ newline))
-
--- the column lines of a node's words are those of its head
-lines-of : (words : List ℕ) (at : ℕ) (items : Bool) (h : Head) (l : Nodes) (rest : List ℕ) (o : Opened) → HoldsCells h l →
-    Opens words at items h l rest o → linesOf words o ≡ tailWords h
-unfolding linesOf
-lines-of words at items Head.missing l rest o c p = rw (p .tail)
-lines-of words at items (Head.atom a sp) l rest o c p = rw (p .tail)
-lines-of words at items (Head.prefix q sp) l rest o c p = rw (p .tail)
-lines-of words at items (Head.simple sc) l rest o c p = rw (p .tail)
-lines-of words at items (Head.func sp sc) l rest o c p = rw (p .tail)
-lines-of words at items Head.frac l rest o c p = rw (p .tail)
-lines-of words at items Head.cell l rest o c p = rw (p .tail)
-lines-of words at items (Head.group a b) l rest o c p = rw (p .tail)
-lines-of words at items (Head.matrix a b k ls) l rest o c p =
-    let e : cellsEnd words (o .count) (o .from) ≡ o .from + length (encodes l) = rw (p .many) (cells-end words l (o .from) (ls ++ rest) c (p .row)) in
-    let d : drop (o .from + length (encodes l)) words ≡ ls ++ rest =
-    sym (drop-drop (length (encodes l)) (o .from) words) ∙ ap (drop (length (encodes l))) (p .row) ∙ drop-append-seam (encodes l) (ls ++ rest) in
-    rw (e, d, p .tail, take-append-seam)
 
 module _ (words : List ℕ) (at : ℕ) (items : Bool) (l : Nodes) (rest : List ℕ) (o : Opened) (depth : ℕ) where
   line-headed : (h : Head) → isFrac h ≡ false → HoldsCells h l → Opens words at items h l rest o →

@@ -2,11 +2,11 @@
 use mathlib.Core.Bool.{cond}
 use Prim.Native.Nat.{ℕ, _+_}
 use mathlib.Core.List.{List, [], _++_}
-use lib.ListN.{getD, take, drop}
+use lib.ListN.{getD}
 use lib.Dec.{eqb}
 use Rattle.tokens.specs.Bytes.{bytes}
 use Rattle.tree.specs.declared.walk.Opened.{Opened}
-use Rattle.tree.specs.Walk.{cellsEnd}
+use Rattle.tree.specs.Walk.{linesOf}
 use Rattle.writer.specs.Decimal.{decimal}
 use Rattle.line.specs.Print.{nameOf, field, number, commas, newline}
 
@@ -49,10 +49,7 @@ addedBy kind held start len cols count lines =
     (cond (eqb kind 16) (matrixOf start len cols count lines)
     (cond (eqb kind 17) (number "items" count) [])))))
 
--- a node's column lines, and its word i
-unfoldable pub linesOf : List ℕ → Opened → List ℕ
-linesOf words o = take (o .tail) (drop (cellsEnd words (o .count) (o .from)) words)
-
+-- a node's word i
 abbrev pub wordOf : List ℕ → Opened → ℕ → ℕ
 wordOf words o i = getD words (o .head + i) 0
 

@@ -9,25 +9,16 @@ use tree::kinds::NODE_SIMPLE;
 use tree::kinds::NODE_SYMBOL;
 use tree::walk::Opened;
 use tree::walk::column_lines;
+use tree::walk::own_words;
 use tree::walk::word;
 use writer::put_bytes;
 use writer::put_number;
 ghost use mathlib.Core.Path.{_≡_};
-ghost use lib.ListN.{getD, drop};
+ghost use lib.ListN.{getD};
+ghost use Rattle.tree.specs.Walk.{linesOf};
 ghost use Rattle.writer.specs.Put.{Put};
 ghost use Rattle.line.specs.Print.{nameOf, field, number, commas};
-ghost use Rattle.line.specs.Lines.{scriptOf, leftOf, rightOf, groupOf, matrixOf, linesOf, addedBy, startOf, lineOf};
-
-// The words from `head` on.
-fn own_words(words: &[u32], head: usize) -> &[u32]
-    ensures { λ r. ⌜ now r ≡ drop head (now (words .entry)) ⌝ }
-{
-    let n = words.len();
-    if n < head {
-        return &words[n..];
-    }
-    &words[head..]
-}
+ghost use Rattle.line.specs.Lines.{scriptOf, leftOf, rightOf, groupOf, matrixOf, addedBy, startOf, lineOf};
 
 // The lengths of the nodes' names, in the order of their kinds.
 const LENGTHS: [u8; 19] = [7, 6, 4, 5, 8, 4, 5, 6, 6, 7, 5, 5, 6, 6, 4, 5, 6, 4, 4];

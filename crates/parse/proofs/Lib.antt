@@ -18,3 +18,4 @@ pub mod Calls
 pub mod Theorems
 pub mod Second
 pub mod HalfWords
+pub mod Readings

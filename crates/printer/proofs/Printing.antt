@@ -13,7 +13,7 @@ use Rattle.tree.specs.declared.walk.Opened.{Opened}
 use Rattle.tree.specs.Tree.{Head, Node, node, Nodes, end, _▸_, count}
 use Rattle.tree.specs.Words.{tailWords, ofItems, encode, encodeItems}
 use Rattle.tree.specs.WellFormed.{WellFormed}
-use Rattle.tree.specs.Walk.{rowWords, nodeWords, placedAt}
+use Rattle.tree.specs.Walk.{rowWords, nodeWords, placedAt, pastOf}
 use Rattle.tree.specs.Laid.{Laids}
 use Rattle.tree.specs.Visits.{Visit, visits}
 use Rattle.tree.proofs.Laid.{expression-laid}
@@ -21,7 +21,7 @@ use Rattle.tree.proofs.Steps.{step-within}
 use Rattle.tree.proofs.Opens.{Opens, opens}
 use Rattle.line.specs.Print.{line, lines, first, printed}
 use Rattle.line.proofs.Heads.{line-of}
-use Rattle.printer.specs.Rows.{Row, pastOf, rowOf}
+use Rattle.printer.specs.Rows.{Row, rowOf}
 use Rattle.printer.specs.Call.{printWords}
 use Rattle.printer.proofs.Walks.{row-none, row-node}
 

@@ -11,12 +11,12 @@ use Rattle.tokens.proofs.Cases.{by-test, clash}
 use Rattle.tree.specs.declared.walk.Opened.{Opened}
 use Rattle.tree.specs.declared.walk.Step.{Step}
 use Rattle.tree.specs.declared.walk.Step.the-variants.{Node, End}
-use Rattle.tree.specs.Walk.{stepAt}
+use Rattle.tree.specs.Walk.{stepAt, pastOf}
 use Rattle.tree.proofs.Steps.{step-within, step-end}
 use Rattle.printer.specs.declared.row.Reached.{Reached}
 use Rattle.writer.specs.Put.{Put, most}
 use Rattle.line.specs.Lines.{lineOf}
-use Rattle.printer.specs.Rows.{Row, RowPut, noRow, nodeRow, lastOf, pastOf, rowWithin, rowOf}
+use Rattle.printer.specs.Rows.{Row, RowPut, noRow, nodeRow, lastOf, rowWithin, rowOf}
 use Rattle.writer.proofs.Puts.{none, then, put-as}
 
 by-step : {A : Type 0} (s : Step) → (s ≡ End → A) → ((o : Opened) → s ≡ Node o → A) → A

@@ -1,10 +1,9 @@
 -- The call that prints the words of a tree: its bytes, what it answers, and what it leaves in the lent buffer.
 use Prim.Native.Nat.{ℕ}
-use mathlib.Core.Bool.{true, false}
+use mathlib.Core.Bool.{true}
 use mathlib.Core.List.{List, [], _∷_, _++_}
-use lib.Dec.{ltb}
-use lib.ListN.{length, drop}
 use Rattle.tokens.specs.Refusals.{Answer, accepted, refused}
+use Rattle.writer.specs.Fitted.{fittedBy}
 use Rattle.line.specs.Print.{first}
 use Rattle.printer.specs.declared.Fitted.{Fitted}
 use Rattle.printer.specs.declared.Fitted.the-variants.{Whole, Refused}
@@ -21,9 +20,5 @@ printWords words text tokens takes items = first text tokens takes items ++ rowO
 
 -- "10 print buffer shorter than the whole print, first line included", which "leaves the print buffer unchanged"; else the print, its
 -- length answered, and "print bytes past the print unchanged".
-unfoldable pub fitted : List ℕ → List ℕ → Answer × List ℕ
-fitted print out =
-    elim (ltb (length out) (length print)) [
-      | true ↦ (refused 10, out)
-      | false ↦ (accepted (length print ∷ []), print ++ drop (length print) out)
-    ]
+abbrev pub fitted : List ℕ → List ℕ → Answer × List ℕ
+fitted print out = fittedBy 10 print out

@@ -1,5 +1,5 @@
 -- The lines of a row of nodes and of all below them, from any words: what no tree has put there is walked as the words say.
-use Prim.Native.Nat.{ℕ, zero, suc, _+_, min}
+use Prim.Native.Nat.{ℕ, zero, suc, _+_}
 use mathlib.Core.Path.{_≡_}
 use mathlib.Core.Bool.{Bool, false, cond}
 use mathlib.Core.List.{List, [], _++_}
@@ -7,7 +7,7 @@ use lib.ListN.{length}
 use lib.Dec.{eqb}
 use Rattle.tree.specs.declared.walk.Opened.{Opened}
 use Rattle.tree.specs.declared.walk.Step.the-variants.{Node, End}
-use Rattle.tree.specs.Walk.{stepAt}
+use Rattle.tree.specs.Walk.{stepAt, pastOf}
 use Rattle.printer.specs.declared.row.Reached.{Reached}
 use Rattle.line.specs.Lines.{lineOf}
 use Rattle.writer.specs.Put.{Put}
@@ -20,10 +20,6 @@ pub record Row : Type 0 where
 -- a node that is the last of its row, with no words behind the nodes below it
 abbrev pub lastOf : (left tail : ℕ) → Bool
 lastOf left tail = cond (eqb left 1) (eqb tail 0) false
-
--- `tail` words on from `at`, but not past the end
-abbrev pub pastOf : (size at tail : ℕ) → ℕ
-pastOf size at tail = min (at + tail) size
 
 -- no line, and no word
 abbrev pub noRow : ℕ → Row

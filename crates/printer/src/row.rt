@@ -2,27 +2,16 @@
 ghost use Prim.Native.Nat.{_≤_};
 ghost use lib.ListN.{length};
 ghost use mathlib.Core.Path.{_≡_};
-ghost use Rattle.printer.specs.Rows.{lastOf, pastOf, rowOf, RowPut};
+ghost use Rattle.printer.specs.Rows.{lastOf, rowOf, RowPut};
 use line::put_line;
 use tree::walk::Step;
 use tree::walk::node_at;
+use tree::walk::past;
 
 // Where the words read and the bytes put end.
 pub(crate) struct Reached {
     pub at: usize,
     pub end: usize,
-}
-
-// `tail` words on, but not past the end.
-fn past(words: &[u32], at: usize, tail: usize) -> usize
-    requires { ⌜ at ≤ length (now words) ⌝ }
-    ensures { λ r. ⌜ r ≡ pastOf (length (now (words .entry))) at tail ⌝ }
-{
-    if tail <= words.len() - at {
-        at + tail
-    } else {
-        words.len()
-    }
 }
 
 // Whether a node is the last of its row, with no words behind the nodes below it.

@@ -13,7 +13,7 @@ use Rattle.tree.specs.Words.{headWords, tailWords, ofItems, withHead, en
 use Rattle.tree.specs.WellFormed.{WellFormed}
 use Rattle.tree.specs.Laid.{Laid, Laids}
 use Rattle.tree.proofs.Laid.{expression-laid}
-use Rattle.tree.specs.Decode.{headOf, below, times, decodeItem, decodeNode, decode, Decoder}
+use Rattle.tree.specs.Decode.{kindHead, headOf, below, times, decodeItem, decodeNode, decode, Decoder}
 
 -- What decoding reads in the words of a node whose own words come before `behind`.
 record Own (h : Head) (k : ℕ) (words behind : List ℕ) : Type 0 where
@@ -36,7 +36,7 @@ some-words (Head.group a b) k w = omega arith
 some-words (Head.matrix a b c ls) k w = omega arith
 
 own : (h : Head) (k w : ℕ) (behind : List ℕ) → Own h k (headWords h k w ++ behind) behind
-unfolding headOf
+unfolding kindHead
 own Head.missing k w r = search
 own (Head.atom Atom.number sp) k w r = search
 own (Head.atom Atom.text sp) k w r = search

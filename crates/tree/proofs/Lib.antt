@@ -3,3 +3,4 @@ pub mod Decode
 pub mod Size
 pub mod Steps
 pub mod Opens
+pub mod Heads

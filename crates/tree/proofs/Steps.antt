@@ -83,6 +83,14 @@ module _ (words : List ℕ) (n : ℕ) {e end : ℕ} (u : e ≡ end) where
       let l : length (drop e words) ≡ length words - e = length-drop e words in
       rw (← u) (take-all (length words - e) (drop e words) (omega arith) ∙ sym (take-all n (drop e words) (omega arith)))
 
+-- the words from a place on
+module _ (words : List ℕ) (head : ℕ) where
+  pub own-past : length words < head → take (length words - length words) (drop (length words) words) ≡ drop head words
+  own-past h = rw (drop-length words, drop-of-length-le words {i = head} (omega arith), take-nil)
+
+  pub own-in : take (length words - head) (drop head words) ≡ drop head words
+  own-in = let l : length (drop head words) ≡ length words - head = length-drop head words in take-all (length words - head) (drop head words) (omega arith)
+
 -- a step that finds a node goes on, and stays within the words
 pub record Within (words : List ℕ) (at : ℕ) (o : Opened) : Type 0 where
   pub on : at < o .from

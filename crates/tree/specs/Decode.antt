@@ -20,9 +20,9 @@ classes =
 abbrev pub scripts : List Script
 scripts = Script.none ∷ Script.sub ∷ Script.super ∷ Script.subsuper ∷ []
 
--- The head that a node's own words tell: the heads in the order of their kinds. A matrix's lines stand elsewhere.
-unfoldable pub headOf : List ℕ → List ℕ → Head
-headOf words lines = getD heads (word 0) Head.missing
+-- The head that a kind and a node's own words tell: the heads in the order of their kinds. A matrix's lines stand elsewhere.
+unfoldable pub kindHead : ℕ → List ℕ → List ℕ → Head
+kindHead kind words lines = getD heads kind Head.missing
   where
     word : ℕ → ℕ
     word i = getD words i 0
@@ -57,6 +57,10 @@ headOf words lines = getD heads (word 0) Head.missing
         Head.matrix left right (word 6) lines ∷
         Head.cell ∷
         Head.frac ∷ []
+
+-- the kind is a node's first word
+abbrev pub headOf : List ℕ → List ℕ → Head
+headOf words lines = kindHead (getD words 0 0) words lines
 
 -- How many nodes stand below a head. Of a group, a cell and a matrix it is the number in their words, k.
 abbrev pub arguments : Script → ℕ

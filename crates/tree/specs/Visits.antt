@@ -1,5 +1,5 @@
--- The nodes of a tree in preorder: "each node before its children". Whatever goes through a tree from its first node to its last
--- (the printed tree, MathML) is a function of its visits.
+-- The nodes of a tree in preorder: "each node before its children". The printed tree is a function of its visits. (MathML is not: what
+-- closes a node stands behind its children.)
 use Prim.Native.Nat.{ℕ, suc}
 use mathlib.Core.List.{List, [], _∷_, _++_}
 use Rattle.tree.specs.Tree.{Head, Node, node, Nodes, end, _▸_, count}

@@ -1,14 +1,15 @@
 -- What a step of a walk over tree words finds, by the layout of docs/LAYOUT.md. A word past the end counts as 0.
-use Prim.Native.Nat.{ℕ, zero, suc, _+_}
+use Prim.Native.Nat.{ℕ, zero, suc, _+_, min}
 use mathlib.Core.Bool.{Bool, true, false, cond}
 use mathlib.Core.List.{List}
-use lib.ListN.{length, getD}
+use lib.ListN.{length, getD, take, drop}
 use lib.Dec.{eqb, ltb, leb}
 use Rattle.tree.specs.declared.walk.Opened.{Opened}
 use Rattle.tree.specs.declared.walk.Step.{Step}
 use Rattle.tree.specs.declared.walk.Step.the-variants as step
 use Rattle.tree.specs.Tree.{Head, Node, Nodes}
 use Rattle.tree.specs.Words.{headWords, encode, encodes, encodeItem, encodeItems}
+use Rattle.tree.specs.Decode.{kindHead}
 
 -- the words of a row, which is of items or not, and of one node of it
 abbrev pub rowWords : Bool → Nodes → List ℕ
@@ -64,3 +65,15 @@ unfoldable pub cellsEnd : List ℕ → ℕ → ℕ → ℕ
 cellsEnd words zero at = at
 cellsEnd words (suc count) at =
     cond (ltb at (length words)) (cellsEnd words count (at + 6 + getD words (at + 4) 0)) at
+
+-- `tail` words on from `at`, but not past the end
+abbrev pub pastOf : (size at tail : ℕ) → ℕ
+pastOf size at tail = min (at + tail) size
+
+-- the column lines of an opened node
+unfoldable pub linesOf : List ℕ → Opened → List ℕ
+linesOf words o = take (o .tail) (drop (cellsEnd words (o .count) (o .from)) words)
+
+-- the head of a node of this kind whose own words begin at `head`
+unfoldable pub headAt : List ℕ → ℕ → ℕ → Head
+headAt words kind head = kindHead kind (drop head words) (linesOf words (headedAt words head))

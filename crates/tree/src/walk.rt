@@ -9,8 +9,8 @@ use crate::kinds::NODE_SIGNED;
 use crate::kinds::NODE_SIMPLE;
 ghost use mathlib.Core.Path.{_≡_};
 ghost use Prim.Native.Nat.{_≤_, _<_};
-ghost use lib.ListN.{length, getD, take, drop};
-ghost use Rattle.tree.specs.Walk.{argumentsOf, belowOf, headedAt, placedAt, stepAt, cellsEnd};
+ghost use lib.ListN.{length, getD, drop};
+ghost use Rattle.tree.specs.Walk.{argumentsOf, belowOf, headedAt, placedAt, pastOf, stepAt, cellsEnd, linesOf};
 
 pub struct Opened {
     // the node's kind; a fraction is 18
@@ -36,6 +36,28 @@ pub fn word(words: &[u32], i: usize) -> u32
     ensures { λ r. ⌜ r ≡ getD (now (words .entry)) i 0 ⌝ }
 {
     if i < words.len() { words[i] } else { 0 }
+}
+
+// The words from `head` on.
+pub fn own_words(words: &[u32], head: usize) -> &[u32]
+    ensures { λ r. ⌜ now r ≡ drop head (now (words .entry)) ⌝ }
+{
+    let n = words.len();
+    if n < head {
+        return &words[n..];
+    }
+    &words[head..]
+}
+
+// `tail` words on, but not past the end.
+pub fn past(words: &[u32], at: usize, tail: usize) -> usize
+    ensures { λ r. ⌜ r ≡ pastOf (length (now (words .entry))) at tail ⌝ }
+{
+    let n = words.len();
+    if n < at {
+        return n;
+    }
+    if tail <= n - at { at + tail } else { n }
 }
 
 fn arguments(script: u32) -> u32
@@ -159,7 +181,7 @@ fn cells_end(words: &[u32], from: usize, count: usize) -> usize
 
 // The column lines of a matrix.
 pub fn column_lines(words: &[u32], o: Opened) -> &[u32]
-    ensures { λ r. ⌜ now r ≡ take (o .tail) (drop (cellsEnd (now (words .entry)) (o .count) (o .from)) (now (words .entry))) ⌝ }
+    ensures { λ r. ⌜ now r ≡ linesOf (now (words .entry)) o ⌝ }
 {
     let n = o.tail;
     let e = cells_end(words, o.from, o.count);
@@ -173,4 +195,15 @@ pub fn column_lines(words: &[u32], o: Opened) -> &[u32]
     } else {
         &words[e..]
     }
+}
+
+// The column lines of the matrix whose own words begin at `head`.
+pub fn lines_at(words: &[u32], head: usize) -> &[u32]
+    ensures { λ r. ⌜ now r ≡ linesOf (now (words .entry)) (headedAt (now (words .entry)) head) ⌝ }
+{
+    let len = words.len();
+    if head < len {
+        return column_lines(words, headed(words, head));
+    }
+    &words[len..]
 }

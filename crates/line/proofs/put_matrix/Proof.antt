@@ -2,7 +2,8 @@
 use mathlib.Core.Path.{_≡_}
 use lib.ListN.{getD}
 use Rattle.writer.proofs.Puts.{then, put-as}
-use Rattle.line.specs.Lines.{matrixOf, linesOf}
+use Rattle.tree.specs.Walk.{linesOf}
+use Rattle.line.specs.Lines.{matrixOf}
 use borrow.Author.Needs.{needs}
 use Rattle.line.proofs.put_matrix.Statement.{statement}
 use Rattle.line.proofs.put_matrix.Tie as tie

@@ -1,6 +1,6 @@
 -- The print, if the length found first fits the buffer.
 use native.Mathlib.Omega.{arith}
-use Rattle.printer.proofs.Fits.{put-whole, put-short}
+use Rattle.writer.proofs.Fits.{put-whole, put-short}
 use borrow.Author.Needs.{needs}
 use Rattle.printer.proofs.print_tree.Statement.{statement}
 use Rattle.printer.proofs.print_tree.Tie as tie
@@ -18,10 +18,10 @@ same-length : tie.Need-same-length
 same-length c = search needs
 
 returns : tie.Need-returns
-returns c = put-whole (c .before .before .before .before .before .before .put-tree .ensures) (omega arith) (c .before .before .before .before .if1 .taken) (c .before .before .put-tree2 .ensures)
+returns c = put-whole 10 (c .before .before .before .before .before .before .put-tree .ensures) (omega arith) (c .before .before .before .before .if1 .taken) (c .before .before .put-tree2 .ensures)
 
 returns-2 : tie.Need-returns-2
-returns-2 c = put-short (c .before .before .put-tree .ensures) (c .if1 .left)
+returns-2 c = put-short 10 (c .before .before .put-tree .ensures) (c .if1 .left)
 
 pub print-tree-spec : {M : Type 1} → statement M
 print-tree-spec =

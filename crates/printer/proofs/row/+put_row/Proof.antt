@@ -6,7 +6,7 @@ use lib.ListN.{length}
 use borrow.Author.Needs.{needs}
 use Rattle.tree.proofs.Steps.{step-within}
 use Rattle.printer.specs.Rows.{rowOf}
-use Rattle.printer.proofs.Walks.{Midway, upto, begin, done, cut, down, less, next}
+use Rattle.printer.proofs.Walks.{Midway, begin, done, cut, down, less, next}
 use borrow.Fn.Kinds.{In}
 use borrow.Fn.PlainCycle.{Measures, is, falls, and}
 use Rattle.printer.proofs.row.put_row.Reads as put-row
@@ -14,7 +14,7 @@ use Rattle.printer.proofs.row.put_row.Kinds as put-row-kinds
 use Rattle.printer.proofs.row.+put_row.Lts-put_row as put-row-lts
 use Rattle.line.proofs.put_line.Reads as put-line-reads
 use Rattle.printer.proofs.row.is_last.Reads as is-last-reads
-use Rattle.printer.proofs.row.past.Reads as past-reads
+use Rattle.tree.proofs.walk.past.Reads as past-reads
 use Rattle.tree.proofs.walk.node_at.Reads as node-at-reads
 use Rattle.printer.proofs.row.+put_row.{statement}
 use Rattle.printer.proofs.row.+put_row.Tie.{close}
@@ -76,7 +76,7 @@ put-row-put-row-requires t c κs = let i = step-within _ _ _ (c .before .before 
     (omega (arith, i, m .least, m .upto, c .before .before .before .before .before .before .before .before .before .before .before .before .before .before .before .pre), (i .upto, omega (arith, i, m .deep)))
 
 put-row-past-requires : (t : ℕ) → put-row-lts.Need-past-requires (put-row-uses t) (put-row-at t) put-row.Post put-row-Inv-all put-row-μ-all
-put-row-past-requires t c κs = let i = step-within _ _ _ (c .before .before .before .before .before .before .before .before .before .before .before .o .given .0 .0) (sym (c .before .before .before .before .before .before .before .before .before .before .before .o .given .1) ∙ c .before .before .before .before .before .before .before .before .before .before .before .before .before .node-at .ensures) in rw (c .before .before .put-row .ensures .end) (upto _ _ _ _ _ (i .upto))
+put-row-past-requires t c κs = search needs
 
 put-row-sub-left : (t : ℕ) → put-row-lts.Need-sub-left (put-row-uses t) (put-row-at t) put-row.Post put-row-Inv-all put-row-μ-all
 put-row-sub-left t c = omega (arith, c .before .before .before .before .before .before .before .before .before .before .before .before .before .before .before .all-test .taken)

@@ -1,5 +1,6 @@
 -- The words behind a matrix's cells.
 use Rattle.tree.proofs.Steps.{part-past, part-in, part-cut}
+use Rattle.tree.specs.Walk.{linesOf}
 use borrow.Author.Needs.{needs}
 use Rattle.tree.proofs.walk.column_lines.Statement.{statement}
 use Rattle.tree.proofs.walk.column_lines.Tie as tie
@@ -20,6 +21,7 @@ part-result-end : tie.Need-part-result-end
 part-result-end c = search needs
 
 returns : tie.Need-returns
+unfolding linesOf
 returns c = let a = c .before .before .before .before .args in
     part-past (a .words .now) (a .o .tail) (c .before .before .cells-end .ensures) (c .before .if1 .taken)
 
@@ -51,9 +53,11 @@ part-result-end-3 : tie.Need-part-result-end-3
 part-result-end-3 c = search needs
 
 returns-2 : tie.Need-returns-2
+unfolding linesOf
 returns-2 c = part-in _ _ (c .before .before .before .cells-end .ensures)
 
 returns-3 : tie.Need-returns-3
+unfolding linesOf
 returns-3 c = part-cut _ _ (c .before .before .before .cells-end .ensures) (c .before .if2 .left)
 
 pub column-lines-spec : {M : Type 1} → statement M

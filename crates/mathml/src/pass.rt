@@ -1,0 +1,61 @@
+// A walk that only passes over nodes: where they end, and whether one of them is refused.
+use mathml_heads::refusal::is_refused;
+use tree::walk::Step;
+use tree::walk::node_at;
+use tree::walk::past;
+ghost use Prim.Native.Nat.{_≤_};
+ghost use lib.ListN.{length};
+ghost use mathlib.Core.Path.{_≡_};
+ghost use mathlib.Core.Bool.{_||_};
+ghost use Rattle.mathml.specs.Walks.{RowPassed, NodeEnds};
+
+pub(crate) struct Passed {
+    // where their words end
+    pub at: usize,
+    pub refused: bool,
+}
+
+fn either(a: bool, b: bool, c: bool) -> bool
+    ensures { λ r. ⌜ r ≡ (a || (b || c)) ⌝ }
+{
+    if a {
+        true
+    } else if b {
+        true
+    } else {
+        c
+    }
+}
+
+// `count` nodes from `from` on, each with all below it.
+pub(crate) fn pass_row(words: &[u32], text: &[u8], from: usize, count: usize, items: bool) -> Passed
+    requires { ⌜ from ≤ length (now words) ⌝ }
+    ensures { λ r. ⌜ RowPassed (now (words .entry)) (now (text .entry)) from count items r ⌝ }
+{
+    let mut at = from;
+    let mut left = count;
+    let mut refused = false;
+    'all: while left > 0 {
+        match node_at(words, at, items) {
+            Step::Node(o) => {
+                let r = pass_row(words, text, o.from, o.count, o.items);
+                refused = either(refused, is_refused(words, text, o.kind, o.head), r.refused);
+                at = past(words, r.at, o.tail);
+                left -= 1;
+            }
+            Step::End => {
+                break 'all;
+            }
+        }
+    }
+    Passed { at, refused }
+}
+
+// Where the words of the node at a place end.
+pub(crate) fn node_end(words: &[u32], at: usize) -> usize
+    requires { ⌜ at ≤ length (now words) ⌝ }
+    ensures { λ r. ⌜ NodeEnds (now (words .entry)) at r ⌝ }
+{
+    let r = pass_row(words, b"", at, 1, false);
+    r.at
+}

@@ -1,0 +1,4 @@
+pub mod Keys
+pub mod Same
+pub mod Words
+pub mod Unpacks

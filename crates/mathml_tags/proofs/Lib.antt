@@ -1,0 +1,5 @@
+pub mod Alike
+pub mod Mrows
+pub mod Escaping
+pub mod Characters
+pub mod Columns
