@@ -77,8 +77,8 @@ extern "C" {
  * buffer is safe all the same.) */
 #define ASCIIMATH_PRINT_BYTES(n) (12 * ASCIIMATH_TREE_WORDS(n) + 64)
 
-/* Bytes that were enough for the MathML of each text tried, of so many bytes; not proved: a shorter
- * buffer is refused by 12, and changes nothing. */
+/* Bytes that are enough for the MathML of any text of so many bytes. (Proved. A shorter buffer that
+ * the MathML fits in will do; one that it does not fit in is refused by 12 and stays as it was.) */
 #define ASCIIMATH_MATHML_BYTES(bytes) (48 * (size_t)(bytes) + 72)
 
 /* Refusals. The first that meets a call, in the order named at each call, is the answer. */

@@ -327,7 +327,7 @@ fn matrix(rows: usize, columns: usize) -> String {
 }
 
 fn lined_matrix(rows: usize, pairs: usize) -> String {
-    let row = format!("({})", vec!["a,|"; pairs].join(","));
+    let row = format!("({},a)", vec!["a,|"; pairs].join(","));
     format!("[{}]", vec![row; rows].join(","))
 }
 

@@ -12,7 +12,7 @@ import math
 import sys
 from xml.sax.saxutils import escape
 
-COLOURS = ["#1b6ca8", "#c8553d", "#e0a030", "#4f8a4f", "#7a5aa6", "#2aa198", "#d33682", "#666666", "#8b5a2b"]
+COLOURS = ["#1b6ca8", "#c8553d", "#e0a030", "#4f8a4f", "#7a5aa6", "#2aa198", "#d33682", "#666666", "#8b5a2b", "#9bbb2d"]
 LEFT, WIDTH, TOP, STEP, GAP = 200, 560, 112, 8, 12
 LEGEND = 4  # calls on a line
 LOW, HIGH = 0.01, 20

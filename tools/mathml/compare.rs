@@ -100,29 +100,35 @@ struct Situation {
     work: isize,
     tree: isize,
     out: isize,
+    /// For the output what is needed by any text of as many bytes, not by this one.
+    most: bool,
     answer: usize,
     /// The words in the buffers come from it.
     seed: u64,
 }
 
-/// Just enough; the output a byte short; all longer; one buffer of the reading short; anything.
-fn situations(random: &mut Random) -> [Situation; 5] {
+/// Just enough; the output a byte short; all longer; an output for any text; one buffer of the reading
+/// short; anything.
+fn situations(random: &mut Random) -> [Situation; 6] {
     let mut plain = || Situation {
         table: 0,
         work: 0,
         tree: 0,
         out: 0,
+        most: false,
         answer: 5,
         seed: random.next(),
     };
     let (enough, mut out_short, mut longer) = (plain(), plain(), plain());
-    let (mut one_short, mut any) = (plain(), plain());
+    let (mut for_any, mut one_short, mut any) = (plain(), plain(), plain());
     out_short.out = -1;
     longer.table = random.below(40) as isize;
     longer.work = random.below(40) as isize;
     longer.tree = random.below(300) as isize;
     longer.out = 1 + random.below(300) as isize;
     longer.answer = random.below(5);
+    for_any.most = true;
+    for_any.out = random.pick(&[0, -1, 1, 300]);
     match random.below(3) {
         0 => one_short.table = -1,
         1 => one_short.work = -1,
@@ -137,7 +143,12 @@ fn situations(random: &mut Random) -> [Situation; 5] {
     (any.table, any.work, any.tree) = (more(), more(), more());
     any.out = random.pick(&[0, 1, -1, -9, -70, -300, isize::MIN]);
     any.answer = random.below(6);
-    [enough, out_short, longer, one_short, any]
+    [enough, out_short, longer, for_any, one_short, any]
+}
+
+/// The bytes that are enough for the MathML of any text of as many bytes.
+fn most_bytes(text: &[u8]) -> usize {
+    72 + 48 * text.len()
 }
 
 /// The buffers of a call.
@@ -156,7 +167,11 @@ impl Room {
         let random = &mut Random(situation.seed);
         let (word, byte) = (|word| word as u32, |word| word as u8);
         let length = |needed: usize, more| needed.saturating_add_signed(more);
-        let out = known.mathml.as_ref().map_or(100, Vec::len);
+        let out = match &known.mathml {
+            _ if situation.most => most_bytes(text),
+            Ok(mathml) => mathml.len(),
+            Err(_) => 100,
+        };
         Room {
             text: Guarded::of(text, random, byte),
             table: Guarded::random(length(3 * known.tokens, situation.table), random, word),
@@ -299,8 +314,7 @@ fn check(text: &[u8], known: &Known, situation: &Situation) -> Result<u32, Strin
     match (code, &known.mathml) {
         (0, Ok(mathml)) => {
             room.has_mathml(mathml, &[mathml.len() as u64, values[1], values[3]])?;
-            let most = 72 + 48 * text.len();
-            expect(mathml.len() <= most, "longer than 72 + 48 a byte")?;
+            expect(mathml.len() <= most_bytes(text), "longer than 72 + 48 a byte")?;
         }
         _ => room.nothing_written()?,
     }
@@ -314,15 +328,13 @@ fn check(text: &[u8], known: &Known, situation: &Situation) -> Result<u32, Strin
 /// The library's own answer, in an output of the length that is enough for any text of these bytes: the
 /// MathML, or `refused=` and the number.
 fn answered(text: &[u8]) -> Vec<u8> {
-    let known = Known {
-        mathml: Ok(vec![0; 72 + 48 * text.len()]),
-        ..known(text)
-    };
+    let known = known(text);
     let situation = Situation {
         table: 0,
         work: 0,
         tree: 0,
         out: 0,
+        most: true,
         answer: 1,
         seed: 0,
     };

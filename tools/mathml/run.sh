@@ -8,38 +8,18 @@
 # gets every text and answer, and check_xml.py reads it. First the page of examples is replayed through
 # writer.rs, if it is there. Exit status 1 on a difference. Not part of the gate.
 set -euo pipefail
-usage() { sed -n 's/^#   run/usage: run/p' "$0" >&2; exit 2; }
-[ -d "${1:-}" ] || usage
 here=$(cd "$(dirname "$0")" && pwd)
-src=$(cd "$1" && pwd)
-shift
-library='' seed=1 texts=20000 answers=''
-while [ $# -ge 2 ]; do
-    case $1 in
-        --library) library=$2 ;;
-        --seed) seed=$2 ;;
-        --texts) texts=$2 ;;
-        --answers) answers=$2 ;;
-        *) usage ;;
-    esac
-    shift 2
-done
-[ $# -eq 0 ] || usage
-source "$here/../library.sh"
-library=$(archive "$library")
-out=$(mktemp -d)
-trap 'rm -rf "$out"' EXIT
+options='library seed texts answers' library='' seed=1 texts=20000 answers=''
+source "$here/../comparison.sh"
 "$here/build.sh" "$src" "$out"
 "$here/build.sh" "$src" "$out" "$library"
 
 page=$here/../../docs/mathml-examples.txt
 if [ -f "$page" ]; then "$out/examples" "$page"; fi
 
-corpus() { python3 "$here/../corpus.py" "$src/tokenizer.rs" --seed "$seed" "$@"; }
-short=spellings,blanks,numbers,quotes,commands,bytes,soup,matrices,expressions,short,deep,all,answers,takes,brackets
 many_texts() {
     corpus --families strings,examples,$short --count $((texts / 32)) --max-length 150
-    corpus --families limits,soup,matrices,expressions,deep,nested,takes,brackets --count $((texts / 256)) --max-length 4100
+    corpus --families $long --count $((texts / 256)) --max-length 4100
     python3 "$here/texts.py" "$src/tokenizer.rs" --seed "$seed" --count $((texts / 2))
     python3 "$here/texts.py" "$src/tokenizer.rs" --seed "$seed long" --count $((texts / 64)) --max-length 4096 | tail -n $((texts / 64))
 }

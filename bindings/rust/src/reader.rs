@@ -21,13 +21,16 @@ pub struct Reading<T = Part> {
     pub blank: bool,
 }
 
+/// A call that reads a text and writes of it into the last of its buffers.
+type Writes = fn(&[u8], &mut [u32], &mut [u32], &mut [u32], &mut [u8], &mut [u64]) -> u32;
+
 /// The spans of an opener and its closer, in bytes of the text
 pub type Pair = (Range<usize>, Range<usize>);
 
 /// The buffers of a reading, kept from one to the next
 ///
-/// They grow as the texts need it, to 0.6 MB at most, or 2.4 MB with a print and MathML. The functions of this
-/// crate use one that each thread keeps; a `Reader` of your own says how long its buffers live.
+/// They grow as the texts need it, to 0.6 MB at most, or 2.2 MB with prints, 0.8 MB with MathML. The functions of
+/// this crate use one that each thread keeps; a `Reader` of your own says how long its buffers live.
 ///
 /// ```
 /// use asciimath::Reader;
@@ -44,8 +47,7 @@ pub struct Reader {
     work: Vec<u32>,
     tree: Vec<u32>,
     closers: Vec<u32>,
-    print: Vec<u8>,
-    mathml: Vec<u8>,
+    out: Vec<u8>,
 }
 
 thread_local! {
@@ -61,8 +63,7 @@ impl Reader {
             work: Vec::new(),
             tree: Vec::new(),
             closers: Vec::new(),
-            print: Vec::new(),
-            mathml: Vec::new(),
+            out: Vec::new(),
         }
     }
 
@@ -174,20 +175,7 @@ impl Reader {
     /// # Errors
     /// As [`parse`](crate::parse).
     pub fn print(&mut self, text: &str) -> Result<String, Refusal> {
-        let tokens = self.tokenize(text)?;
-        let others = self.others(tokens).count();
-        let out = first(&mut self.print, print_bytes(others));
-        let mut answer = [0];
-        Refusal::of_code(calls::print(
-            text.as_bytes(),
-            first(&mut self.table, 3 * tokens),
-            first(&mut self.work, work_words(others)),
-            first(&mut self.tree, tree_words(others)),
-            out,
-            &mut answer,
-        ))?;
-        let printed = &out[..answer[0] as usize];
-        Ok(str::from_utf8(printed).expect("the print is ASCII").into())
+        self.write(text, calls::print, print_bytes)
     }
 
     /// The MathML of a text: one `math` element
@@ -195,28 +183,30 @@ impl Reader {
     /// # Errors
     /// As [`mathml`](crate::mathml).
     pub fn mathml(&mut self, text: &str) -> Result<String, Refusal> {
+        self.write(text, calls::mathml, |_| mathml_bytes(text.len()))
+    }
+
+    /// What a call writes of a text, in at most so many bytes for so many tokens other than Space.
+    fn write(
+        &mut self,
+        text: &str,
+        call: Writes,
+        bytes: impl FnOnce(usize) -> usize,
+    ) -> Result<String, Refusal> {
         let tokens = self.tokenize(text)?;
         let others = self.others(tokens).count();
-        let mut bytes = mathml_bytes(text.len());
-        loop {
-            let out = first(&mut self.mathml, bytes);
-            let mut answer = [0];
-            match Refusal::of_code(calls::mathml(
-                text.as_bytes(),
-                first(&mut self.table, 3 * tokens),
-                first(&mut self.work, work_words(others)),
-                first(&mut self.tree, tree_words(others)),
-                out,
-                &mut answer,
-            )) {
-                Err(Refusal::SHORT_MATHML) => bytes *= 2,
-                Err(refusal) => return Err(refusal),
-                Ok(()) => {
-                    let written = &out[..answer[0] as usize];
-                    return Ok(str::from_utf8(written).expect("MathML is UTF-8").into());
-                }
-            }
-        }
+        let out = first(&mut self.out, bytes(others));
+        let mut answer = [0];
+        Refusal::of_code(call(
+            text.as_bytes(),
+            first(&mut self.table, 3 * tokens),
+            first(&mut self.work, work_words(others)),
+            first(&mut self.tree, tree_words(others)),
+            out,
+            &mut answer,
+        ))?;
+        let written = &out[..answer[0] as usize];
+        Ok(str::from_utf8(written).expect("it is UTF-8").into())
     }
 
     /// Writes the text's tokens into the table. How many there are.
@@ -339,7 +329,7 @@ const fn print_bytes(others: usize) -> usize {
     12 * tree_words(others) + 64
 }
 
-/// Bytes that were enough for the MathML of each text tried, of so many bytes.
+/// Bytes that are enough for the MathML of any text of so many bytes.
 const fn mathml_bytes(bytes: usize) -> usize {
     48 * bytes + 72
 }

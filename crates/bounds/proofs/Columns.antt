@@ -1,5 +1,5 @@
 -- The column lines of a matrix: the two ways in which rows become a matrix, and how many columns are looked at.
-use Prim.Native.Nat.{ℕ, zero, suc, min}
+use Prim.Native.Nat.{ℕ, zero, suc, min, _≤_}
 use mathlib.Core.Path.{_≡_, refl, ap}
 use mathlib.Core.List.{List, [], _∷_}
 use mathlib.Core.Bool.{Bool, true, false, _||_}
@@ -29,6 +29,11 @@ module _ (text : List ℕ) (es : List Entry) where
   unfolding lineCells
   cells-length end = refl
   cells-length (x ▸ l) = ap suc (cells-length l)
+
+  pub cols-length : (r : Nodes) (rs : List Nodes) → length (lineCols text es r rs) ≤ count r
+  unfolding lineCols
+  cols-length r [] = omega (arith, cells-length r)
+  cols-length r (q ∷ qs) = omega (arith, cells-length r, both-length (lineCells text es r) (lineCols text es q qs))
 
   abbrev pub maskOf : Rows → List Bool
   maskOf r = lineCols text es (r .head .cells) (r .others)

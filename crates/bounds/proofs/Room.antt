@@ -15,11 +15,11 @@ use Rattle.tokens.specs.Lexeme.{Span, Lexeme}
 use Rattle.tree.specs.Tree.{nowhere, Head, Atom, Node, node, Nodes, end, _▸_, _⧺_, count, leaf}
 use Rattle.tree.specs.Words.{encode, encodeItems}
 use Rattle.tree.proofs.Size.{size, sizes, sizeItem, sizeItems, sizes-join, sizeItems-join, item-within, length-encode, length-encodes, length-encodeItem, length-encodeItems}
-use Rattle.bounds.proofs.Columns.{rowsOf, maskOf, both-length, cells-length, split-either}
+use Rattle.bounds.proofs.Columns.{rowsOf, maskOf, cols-length, split-either}
 use Rattle.bounds.proofs.Takes.{entry-inside}
 use Rattle.reading.specs.Stop.{Stop}
 use Rattle.reading.specs.Entries.{Entry, is, entries}
-use Rattle.reading.specs.Reading.{State, M, return, _>>=_, here, current, closed, Mark, openMark, matrixMark, slot, Try, made, lost, nought, Readers, advance, failed, giveUp, attempt, argument, nextScript, nextScriptFunc, nextIntermediate, intermediates, Row, Rows, nextMatrixRow, rowCells, moreRows, nextMatrixRows, matrixBody, tryMatrix, nextOpenGroup, barBody, nextOpenCloseGroup, nextBracket, begun, nextSimple, step, level, parse, start, parseEntries, lastOf, splitColumnLines, prefixes, spaced, any, marksScript, heads, begins, if_then_else_, joinRows, keepCells, columnLines, lineCells, lineCols, unscripted, readingBy, readTokens}
+use Rattle.reading.specs.Reading.{State, M, return, _>>=_, here, current, closed, Mark, openMark, matrixMark, slot, Try, made, lost, nought, Readers, advance, failed, giveUp, attempt, argument, nextScript, nextScriptFunc, nextIntermediate, intermediates, Row, Rows, nextMatrixRow, rowCells, moreRows, nextMatrixRows, matrixBody, tryMatrix, nextOpenGroup, barBody, nextOpenCloseGroup, nextBracket, begun, nextSimple, step, level, parse, start, parseEntries, lastOf, splitColumnLines, prefixes, spaced, any, marksScript, heads, begins, if_then_else_, joinRows, keepCells, columnLines, unscripted, readingBy, readTokens}
 use Rattle.bounds.specs.Peak.{words, itemsWords, rowsWords, perhaps, tryWords, spaceWords, Counted, more, ran, either, answer, answerClosed, place, whole, take, known, back, peak, attempt-counted, CountedReaders, argument-counted, nextScript-counted, nextScriptFunc-counted, nextIntermediate-counted, intermediates-counted, rowCells-counted, nextMatrixRow-counted, moreRows-counted, nextMatrixRows-counted, matrixBody-counted, tryMatrix-counted, nextOpenGroup-counted, barBody-counted, nextOpenCloseGroup-counted, nextBracket-counted, begun-counted, nextSimple-counted, step-counted, level-counted, parse-counted, peakOf}
 
 ruleset lengths = (length-encode, length-encodes, length-encodeItem, length-encodeItems)
@@ -78,11 +78,6 @@ lines-length b (true ∷ m) = omega (arith, lines-length b m)
 lines-length b (false ∷ m) = omega (arith, lines-length (suc b) m)
 
 module _ (text : List ℕ) (es : List Entry) (rem : Bool) where
-  cols-length : (r : Nodes) (rs : List Nodes) → length (lineCols text es r rs) ≤ count r
-  unfolding lineCols
-  cols-length r [] = omega (arith, cells-length text es r)
-  cols-length r (q ∷ qs) = omega (arith, cells-length text es r, both-length (lineCells text es r) (lineCols text es q qs))
-
   matrix-words : (r : Rows) (a b : Span) →
       words ((splitColumnLines text es r) .0 a b) ≤ 8 + rowsWords (rowsOf r) + count (r .head .cells)
   unfolding size
@@ -94,7 +89,7 @@ module _ (text : List ℕ) (es : List Entry) (rem : Bool) where
         arith,
         join-size (keepCells mask) (keep-size mask) (rowsOf r),
         lines-length zero mask,
-        cols-length (r .head .cells) (r .others),
+        cols-length text es (r .head .cells) (r .others),
       )))
 
   -- A reader that has c words of room, and 32 more for each token that it moves over, has room for its answer's words and for g

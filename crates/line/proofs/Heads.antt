@@ -3,12 +3,12 @@ use Prim.Native.Nat.{ℕ, _+_}
 use mathlib.Core.Path.{_≡_, refl, sym, ap, _∙_}
 use mathlib.Core.Bool.{Bool, false}
 use mathlib.Core.List.{List, _++_, append-assoc, append-nil}
-use lib.ListN.{length, getD, drop}
-use lib.Seq.{getD-drop, drop-drop, drop-append-seam, take-append-seam}
+use lib.ListN.{length, getD}
+use lib.Seq.{getD-drop}
 use Rattle.tokens.specs.Bytes.{bytes}
 use Rattle.tree.specs.declared.walk.Opened.{Opened}
 use Rattle.tree.specs.Tree.{Script, Head, Atom, Prefix, Nodes, count}
-use Rattle.tree.specs.Words.{headWords, tailWords, ofItems, isFrac, encodes}
+use Rattle.tree.specs.Words.{headWords, tailWords, ofItems, isFrac}
 use Rattle.tree.specs.Walk.{rowWords, kindOf, linesOf}
 use Rattle.tree.specs.Laid.{HoldsCells}
 use Rattle.tree.proofs.Opens.{Opens}

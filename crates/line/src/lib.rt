@@ -13,7 +13,6 @@ use tree::walk::own_words;
 use tree::walk::word;
 use writer::put_bytes;
 use writer::put_number;
-ghost use mathlib.Core.Path.{_≡_};
 ghost use lib.ListN.{getD};
 ghost use Rattle.tree.specs.Walk.{linesOf};
 ghost use Rattle.writer.specs.Put.{Put};

@@ -1,26 +1,24 @@
 -- The call: from what the reading of the text answers and leaves, and from what is said of its tree, to its own answer.
 use Prim.Native.Nat.{ℕ, _-_, _*_, _≤_, _<_}
-use mathlib.Core.Path.{_≡_, refl, sym, ap, _∙_}
+use mathlib.Core.Path.{_≡_, sym, ap, _∙_}
 use mathlib.Core.Bool.{true, false}
 use mathlib.Core.List.{List, [], _∷_, _++_}
 use mathlib.Core.Option.{none, some}
-use lib.ListN.{length, drop, replicate}
+use lib.ListN.{length, drop}
 use Rattle.tokens.specs.Table.{tableWords}
-use Rattle.tokens.specs.Refusals.{Answer, accepted, refused, bit}
+use Rattle.tokens.specs.Refusals.{Answer, accepted, refused}
 use Rattle.tokens.proofs.Cases.{by-lt, by-test, apart}
 use Rattle.lexing.specs.Rules.{tokens}
-use Rattle.writer.specs.Fitted.{fittedBy}
 use Rattle.writer.proofs.Fits.{fits, short}
-use Rattle.tree.specs.Tree.{Nodes}
-use Rattle.tree.specs.Words.{encodeItems}
 use Rattle.tree.proofs.Laid.{expression-laid}
-use Rattle.reading.specs.Reading.{readText, blank}
+use Rattle.reading.specs.Reading.{readText}
 use Rattle.bounds.proofs.Theorems.{bounds}
 use Rattle.parse.specs.Call.{parseRefusal, parsedText, workAfter, treeAfter}
 use Rattle.parse.proofs.Readings.{Left, text-reads, text-refused, takes-are, items-are, blank-is, words-are}
 use Rattle.mathml_rules.specs.Mathml.{mathmlOf}
 use Rattle.mathml_rules.specs.Refusal.{refusal11}
 use Rattle.mathml_rules.proofs.Parts.{expression-whole}
+use Rattle.mathml_length.proofs.Theorems.{length-within}
 use Rattle.mathml.specs.Walks.{Begins}
 use Rattle.mathml.specs.Call.{markOf, values, marks, TreeMarked, marking, markedText}
 use Rattle.mathml.proofs.Marks.{marks-refused, marks-fitted}
@@ -74,7 +72,7 @@ module _ (text table work tree out : List ℕ) where
 
       module _ (after : List ℕ) (f : Answer) (put : TreeMarked y text out items after f) where
         said : marks text (readText text .tree) out ≡ (f, after)
-        said = sym (put .read (readText text .tree) begins)
+        said = sym (put .read (readText text .tree) begins (length-within text))
 
         pub not-marked : (k : ℕ) → f ≡ refused k → _≡_ {A = LeftAll} (refused k, t, w, y, after) (markedText text table work tree out)
         unfolding markedText

@@ -1,5 +1,5 @@
 -- The items of the root, one after the other, and the whole.
-use Prim.Native.Nat.{ℕ, zero, suc, _+_, _-_, _≤_, _<_}
+use Prim.Native.Nat.{ℕ, suc, _+_, _-_, _≤_, _<_}
 use native.Mathlib.Omega.{arith}
 use mathlib.Core.Path.{_≡_, refl, sym, ap, _∙_}
 use mathlib.Core.Bool.{true}
@@ -17,9 +17,10 @@ use Rattle.mathml_rules.specs.Mathml.{together, handed, out, outs, root, mathml
 use Rattle.mathml_rules.specs.Parts.{Wholes}
 use Rattle.mathml_rules.proofs.Escapes.{written-append}
 use Rattle.mathml_heads.proofs.Runs.{then-written, pieces-as}
+use Rattle.mathml.specs.declared.place.Place.{Place}
 use Rattle.mathml.specs.declared.node.Reached.{Reached}
-use Rattle.mathml.specs.Walks.{NodePut, Begins, ItemsPut, RootPut}
-use Rattle.mathml.proofs.Rows.{none-left, First, first, there, behind}
+use Rattle.mathml.specs.Walks.{InnerPlace, NodePut, Begins, ItemsPut, RootPut}
+use Rattle.mathml.proofs.Rows.{none-left, first, there, behind}
 
 -- the items by themselves: each keeps its brackets, whichever it is
 module _ (text : List ℕ) where
@@ -76,24 +77,26 @@ module _ (words text start : List ℕ) (place items : ℕ) where
   }
 
   module _ {after : List ℕ} {at to left : ℕ} (w : Midway after at to left) where
-    onward : {after₂ : List ℕ} {r : Reached} → 0 < left → NodePut words text after at true to mode.Keep after₂ r → (l : Nodes) → Begins words l items →
+    onward : {p : Place} {after₂ : List ℕ} {r : Reached} → InnerPlace words at true p → 0 < left →
+        NodePut words text after (p .at) (p .items) to mode.Keep after₂ r → (l : Nodes) → Begins words l items →
         (x : T.Node) (ms : Nodes) → (a : Ahead l after at to left) → a .nodes ≡ (x ▸ ms) → Ahead l after₂ (r .at) (r .end) (left - 1)
-    onward {after₂} {r} f q l b x ms a u =
+    onward i f q l b x ms a u =
         let c : Laids (x ▸ ms) = rw u at (a .laid) in
         let v : Wholes (x ▸ ms) = rw u at (a .whole) in
         let row : drop at words ≡ nodeWords true x ++ (rowWords true ms ++ a .rest) =
         there words at true x ms (a .rest) (a .here ∙ ap (λ (y : Nodes). rowWords true y ++ a .rest) u) in
-        let read = q .read x (rowWords true ms ++ a .rest) (c .0) (v .0) row in
+        let y = i .read x (rowWords true ms ++ a .rest) (c .0) row in
+        let read = q .read (y .node) (rowWords true ms ++ a .rest) (y .laid) (y .whole (v .0)) (y .here) in
         let number : left ≡ suc (count ms) = rw u at (a .many) in
         record {
           nodes = ms;
           laid = c .1;
           whole = v .1;
           rest = a .rest;
-          here = rw (read .0) (behind words at true x ms (a .rest) row);
+          here = rw (read .0 ∙ y .ends) (behind words at true x ms (a .rest) row);
           many = omega arith;
           done = a .done ++ out text mode.Keep x;
-          put = then-written (a .done) (out text mode.Keep x) (a .put) (read .1);
+          put = then-written (a .done) (out text mode.Keep x) (a .put) (pieces-as (y .same text mode.Keep) (read .1));
           goes =
               append-assoc (a .done) (out text mode.Keep x) (itemsOut text ms)
               ∙ ap (λ (y : List Piece). a .done ++ y) (sym (one-item text x ms))
@@ -101,14 +104,15 @@ module _ (words text start : List ℕ) (place items : ℕ) where
               ∙ a .goes;
         }
 
-    pub more : {after₂ : List ℕ} {r : Reached} → 0 < left → NodePut words text after at true to mode.Keep after₂ r → Midway after₂ (r .at) (r .end) (left - 1)
-    more f q = record {
+    pub more : {p : Place} {after₂ : List ℕ} {r : Reached} → InnerPlace words at true p → 0 < left →
+        NodePut words text after (p .at) (p .items) to mode.Keep after₂ r → Midway after₂ (r .at) (r .end) (left - 1)
+    more i f q = record {
       upto = q .upto;
       same = q .same ∙ w .same;
       ahead = λ l b.
           let a = w .ahead l b in
           let x = first (a .nodes) (omega (arith, a .many)) in
-          onward f q l b (node (x .head) (x .below)) (x .behind) a (x .are);
+          onward i f q l b (node (x .head) (x .below)) (x .behind) a (x .are);
     }
 
     pub done : left ≤ 0 → ItemsPut words text start place items after to

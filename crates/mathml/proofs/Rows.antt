@@ -1,5 +1,5 @@
 -- A row of nodes in the words of a tree: its first node, and the nodes behind it.
-use Prim.Native.Nat.{ℕ, suc, _+_, _-_, _≤_, _<_, min}
+use Prim.Native.Nat.{ℕ, _+_, _-_, _≤_, _<_}
 use native.Mathlib.Omega.{arith}
 use mathlib.Core.Path.{_≡_, refl, sym, ap, _∙_}
 use mathlib.Core.Bool.{Bool, true, false}
@@ -8,7 +8,7 @@ use lib.ListN.{length, drop, length-append, length-drop}
 use lib.Seq.{drop-drop, drop-append-seam}
 use Rattle.tree.specs.declared.walk.Opened.{Opened}
 use Rattle.tree.specs.Tree.{Head, Node, node, Nodes, end, _▸_, count}
-use Rattle.tree.specs.Words.{tailWords, ofItems, encode}
+use Rattle.tree.specs.Words.{ofItems, encode}
 use Rattle.tree.specs.Walk.{rowWords, nodeWords, pastOf}
 use Rattle.tree.proofs.Opens.{Opens}
 

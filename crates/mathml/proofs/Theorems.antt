@@ -2,9 +2,9 @@
 -- the definition's, with all that is promised of them.
 use Prim.Native.Nat.{ℕ, _*_, _≤_}
 use mathlib.Core.Path.{_≡_, refl, sym, ap, _∙_}
-use mathlib.Core.Bool.{Bool, true, false}
+use mathlib.Core.Bool.{true, false}
 use mathlib.Core.List.{List, [], _∷_, _++_}
-use mathlib.Core.Option.{none, some}
+use mathlib.Core.Option.{none}
 use lib.Dec.{ltb}
 use lib.ListN.{length, take, drop}
 use lib.Seq.{take-append-seam}
@@ -26,6 +26,7 @@ use Rattle.mathml_rules.proofs.Nesting.{nested-output}
 use Rattle.mathml_rules.proofs.Children.{children-output}
 use Rattle.mathml_rules.proofs.Controls.{no-control-byte}
 use Rattle.mathml_rules.proofs.Wellcoded.{references-output, utf8-output}
+use Rattle.mathml_length.proofs.Theorems.{length-within}
 use Rattle.mathml.specs.Call.{markOf, values, markedText}
 use Rattle.mathml.specs.Answers.{Answers}
 use Rattle.mathml.proofs.Calls.{LeftAll, refused-so, eleven-so, short-so, whole-so}
@@ -69,6 +70,7 @@ module _ (text table work tree out : List ℕ) (len takes blankness : ℕ) (tabl
         reading = rw (t, b, y) (text-answered text table work tree _ _ _ _ _ _ _ (text-read entryWords text table work tree h) .1);
         length-is = n;
         fits = rw n f;
+        short = rw n (length-within text);
         bytes = z ∙ rw n;
         allowed = g;
         nests = rw m (nested-output text (readText text .tree));

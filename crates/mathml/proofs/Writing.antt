@@ -1,10 +1,10 @@
 -- A node written front to back: what opens it, its children one after the other, each behind what stands before it, what closes it.
-use Prim.Native.Nat.{ℕ, zero, suc, _+_, _-_, _≤_, _<_}
+use Prim.Native.Nat.{ℕ, suc, _+_, _-_, _≤_, _<_}
 use native.Mathlib.Omega.{arith}
 use native.Mathlib.Numerals.{add-one}
 use mathlib.Core.Path.{_≡_, refl, sym, ap, _∙_}
 use mathlib.Core.Bool.{Bool, true, false}
-use mathlib.Core.List.{List, [], _∷_, _++_, append-assoc, append-nil}
+use mathlib.Core.List.{List, [], _++_, append-assoc, append-nil}
 use lib.ListN.{length, drop, length-append}
 use lib.Seq.{drop-drop, drop-append-seam}
 use borrow.Author.Tests.{ne-eqb}
@@ -13,11 +13,11 @@ use Rattle.tokens.proofs.Cases.{by-test, by-lt, clash}
 use Rattle.writer.specs.Put.{Put, most}
 use Rattle.writer.proofs.Puts.{none}
 use Rattle.tree.specs.declared.walk.Opened.{Opened}
-use Rattle.tree.specs.declared.walk.Step.the-variants.{Node, End}
+use Rattle.tree.specs.declared.walk.Step.the-variants.{Node}
 use Rattle.tree.specs.Tree as T
 use Rattle.tree.specs.Tree.{Head, Prefix, node, Nodes, end, _▸_, count}
 use Rattle.tree.specs.Words.{tailWords, ofItems, encode}
-use Rattle.tree.specs.Walk.{rowWords, nodeWords, placedAt, pastOf, stepAt, headAt}
+use Rattle.tree.specs.Walk.{rowWords, nodeWords, placedAt, stepAt, headAt}
 use Rattle.tree.specs.Laid.{Laid, Laids}
 use Rattle.tree.proofs.Steps.{step-within}
 use Rattle.tree.proofs.Opens.{Opens, opens}
@@ -31,8 +31,8 @@ use Rattle.mathml_rules.proofs.Parts.{in-parts}
 use Rattle.mathml_heads.proofs.Runs.{then-written, pieces-as}
 use Rattle.mathml.specs.declared.part.Part.{Part}
 use Rattle.mathml.specs.declared.node.Reached.{Reached}
-use Rattle.mathml.specs.Walks.{begun, rowLeft, NodeEnds, ChildPlace, PartPut, NodePut}
-use Rattle.mathml.proofs.Rows.{row-words, row-none, none-left, First, first, there, behind, sizes, past-node}
+use Rattle.mathml.specs.Walks.{begun, rowLeft, countAt, ChildPlace, PartPut, NodePut}
+use Rattle.mathml.proofs.Rows.{row-none, none-left, first, there, behind, sizes, past-node}
 
 -- A node whose words stand at `at`, as a step of the walk opens it.
 record Found (words : List ℕ) (at : ℕ) (items : Bool) (h : Head) (l : Nodes) (rest : List ℕ) : Type 0 where
@@ -202,6 +202,7 @@ module _ (words text start : List ℕ) (at : ℕ) (items : Bool) (place : ℕ) (
   pub record Midway (after : List ℕ) (next to left i : ℕ) : Type 0 where
     pub least : at ≤ next
     pub upto : next ≤ length words
+    pub fits : length start ≤ most
     pub same : length after ≡ length start
     pub ahead : (h : Head) (l : Nodes) (rest : List ℕ) → Laid (node h l) → Whole (node h l) → drop at words ≡ nodeWords items (node h l) ++ rest →
         Ahead h l rest after next to left i
@@ -264,7 +265,7 @@ module _ (words text start : List ℕ) (at : ℕ) (items : Bool) (place : ℕ) (
       (λ s. begin-plain h l rest c v d s f k)
 
   pub begin : at ≤ length words → length start ≤ most → place ≤ most → Midway start at place 0 0
-  begin h f k = record { least = omega arith; upto = h; same = refl; ahead = begin-any f k }
+  begin h f k = record { least = omega arith; upto = h; fits = f; same = refl; ahead = begin-any f k }
 
   module _ {after : List ℕ} {next to left i : ℕ} (w : Midway after next to left i) {out₁ : List ℕ} {p : Part}
       (q : PartPut words text after to at items m i left next out₁ p) where
@@ -318,9 +319,9 @@ module _ (words text start : List ℕ) (at : ℕ) (items : Bool) (place : ℕ) (
             let v₁ : Wholes (x ▸ ms) = rw u at (a .whole) in
             let y = a-child x ms u k in
             let sort : o .items ≡ ofItems h = g .opens .sort in
-            let z = b .3 .1 .1 .read x (y .more) (c₁ .0) (v₁ .0) (y .here ∙ ap (λ (t : Bool). nodeWords t x ++ y .more) (sym sort)) in
-            let read = n .read (z .0) (y .more) (z .1 .0) (z .1 .1 .0) (z .1 .1 .1 .0) in
-            let on : r .at ≡ e₁ + length (nodeWords (ofItems h) x) = read .0 ∙ z .1 .1 .1 .1 .0 ∙ ap (λ (t : Bool). e₁ + length (nodeWords t x)) sort in
+            let z = b .3 .1 .1 .read x (y .more) (c₁ .0) (y .here ∙ ap (λ (t : Bool). nodeWords t x ++ y .more) (sym sort)) in
+            let read = n .read (z .node) (y .more) (z .laid) (z .whole (v₁ .0)) (z .here) in
+            let on : r .at ≡ e₁ + length (nodeWords (ofItems h) x) = read .0 ∙ z .ends ∙ ap (λ (t : Bool). e₁ + length (nodeWords t x)) sort in
             let tail : List ℕ = tailWords h ++ rest in
             let row : swaps text h ≡ false → drop e₁ words ≡ nodeWords (ofItems h) x ++ (rowWords (ofItems h) ms ++ tail) =
             λ s. there words e₁ (ofItems h) x ms tail (a .here s e₁ (k .start s) (k .on s) ∙ ap (λ (z : Nodes). rowWords (ofItems h) z ++ tail) u) in
@@ -332,7 +333,7 @@ module _ (words text start : List ℕ) (at : ℕ) (items : Bool) (place : ℕ) (
             let mine : List Piece = out text (handed text m h i) x in
             let put-front : Put after to out₁ (p .end) (written front) =
             pieces-as (ap (λ (z : Head). begun text m z i ++ before text z i (rowLeft z i left)) (g .is)) (b .4) in
-            let put-mine : Put out₁ (p .end) out₂ (r .end) (written mine) = pieces-as (z .1 .1 .1 .1 .1 text (p .mode) ∙ ap (λ (w : Mode). out text w x) mode-is) (read .1) in
+            let put-mine : Put out₁ (p .end) out₂ (r .end) (written mine) = pieces-as (z .same text (p .mode) ∙ ap (λ (w : Mode). out text w x) mode-is) (read .1) in
             record {
               nodes = ms;
               laid = c₁ .1;
@@ -392,6 +393,7 @@ module _ (words text start : List ℕ) (at : ℕ) (items : Bool) (place : ℕ) (
     more {out₂} {r} f n = record {
       least = omega (arith, q .least, n .least);
       upto = n .upto;
+      fits = w .fits;
       same = n .same ∙ q .same ∙ w .same;
       ahead = λ h l rest c v d.
           by-lt i (placedAt words at items .count)
@@ -413,3 +415,20 @@ module _ (words text start : List ℕ) (at : ℕ) (items : Bool) (place : ℕ) (
             by-lt i (placedAt words at items .count)
             (λ k. clash (p .more) (q .child (placedAt words at items) (seen h l rest c v d) k .0) f)
             (λ k. closed-here h l rest c v d k)
+
+-- A node without children is one part.
+pub leaf-put : (words text start : List ℕ) (at : ℕ) (items : Bool) (place : ℕ) (m : Mode) {out₁ : List ℕ} {p : Part} →
+    at ≤ length words → length start ≤ most → place ≤ most → countAt words at items ≡ 0 →
+    PartPut words text start place at items m 0 0 at out₁ p → NodePut words text start at items place m out₁ (record { at = p .at; end = p .end })
+leaf-put words text start at items place m {p = p} h f k z q =
+    closed words text start at items place m (begin words text start at items place m h f k) q (only (p .more) refl)
+  where
+    only : (b : Bool) → p .more ≡ b → p .more ≡ false
+    only true e = absurd (omega (arith, q .deeper e .1 .0))
+    only false e = e
+
+-- the same place and buffer by other names
+pub child-as : {words text start out₁ out₂ : List ℕ} {at place next next₂ end end₂ : ℕ} {items : Bool} {m : Mode} → out₂ ≡ out₁ → next₂ ≡ next → end₂ ≡ end →
+    NodePut words text start at items place m out₁ (record { at = next; end = end }) →
+    NodePut words text start at items place m out₂ (record { at = next₂; end = end₂ })
+child-as u v w q = rw (u, v, w) q

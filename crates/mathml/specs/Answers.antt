@@ -15,6 +15,7 @@ use Rattle.mathml_rules.specs.Refusal.{refusal11}
 use Rattle.mathml_rules.specs.Nested.{nested}
 use Rattle.mathml_rules.specs.Children.{fitting}
 use Rattle.mathml_rules.specs.Wellcoded.{Reference, refer, Coding, coded}
+use Rattle.mathml_length.specs.Length.{longest}
 use Rattle.mathml.specs.Call.{markOf}
 
 -- the answered length, takes and blank; the words left in the tree buffer; the output buffer before and after
@@ -24,6 +25,8 @@ pub record Answers (text : List ℕ) (len takes blankness : ℕ) (tree before af
   -- "The call answers the length, and output bytes past it are unchanged."
   pub length-is : len ≡ length (markOf text)
   pub fits : len ≤ length before
+  -- at most 72 bytes, and 48 for each of the text's
+  pub short : len ≤ longest (length text)
   pub bytes : after ≡ markOf text ++ drop len before
   -- nothing in the tree is refused by 11
   pub allowed : refusal11 text (readText text .tree) ≡ false

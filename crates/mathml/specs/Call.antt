@@ -2,7 +2,7 @@
 use mathlib.Core.Path.{_≡_}
 use mathlib.Core.Bool.{true, false}
 use mathlib.Core.List.{List, [], _∷_}
-use Prim.Native.Nat.{ℕ}
+use Prim.Native.Nat.{ℕ, _≤_}
 use lib.ListN.{length}
 use Rattle.tokens.specs.Refusals.{Answer, accepted, refused, bit}
 use Rattle.writer.specs.Fitted.{fittedBy}
@@ -11,6 +11,7 @@ use Rattle.reading.specs.Reading.{readText, blank}
 use Rattle.parse.specs.Call.{parsedText}
 use Rattle.mathml_rules.specs.Mathml.{mathmlOf}
 use Rattle.mathml_rules.specs.Refusal.{refusal11}
+use Rattle.mathml_length.specs.Length.{longest}
 use Rattle.mathml.specs.declared.Written.{Written}
 use Rattle.mathml.specs.declared.Written.the-variants as write
 use Rattle.mathml.specs.Walks.{Begins}
@@ -52,9 +53,10 @@ marking text out p =
           (elim (f .0) [ refused k ↦ refused k | accepted len ↦ accepted (values text) ], p .1, p .2, p .3, f .1)
     ]
 
--- what is answered for a tree whose words come first
+-- what is answered for a tree whose words come first, and whose MathML is no longer than a text's
 pub record TreeMarked (words text before : List ℕ) (items : ℕ) (after : List ℕ) (answer : Answer) : Type 0 where
-  pub read : (l : Nodes) → Begins words l items → _≡_ {A = Answer × List ℕ} (answer, after) (marks text l before)
+  pub read : (l : Nodes) → Begins words l items → length (mathmlOf text l) ≤ longest (length text) →
+      _≡_ {A = Answer × List ℕ} (answer, after) (marks text l before)
 
 unfoldable pub markedText : List ℕ → List ℕ → List ℕ → List ℕ → List ℕ → Answer × List ℕ × List ℕ × List ℕ × List ℕ
 markedText text table work tree out = marking text out (parsedText text table work tree)

@@ -10,17 +10,17 @@ use Rattle.tree.specs.Tree.{Head, Node, Nodes, count}
 use Rattle.tree.specs.Words.{encode}
 use Rattle.tree.specs.declared.walk.Opened.{Opened}
 use Rattle.tree.specs.declared.walk.Step.the-variants as step
-use Rattle.tree.specs.Walk.{rowWords, nodeWords, stepAt, pastOf, headAt}
+use Rattle.tree.specs.Walk.{rowWords, nodeWords, headedAt, placedAt, stepAt, pastOf, headAt}
 use Rattle.tree.specs.Laid.{Laid, Laids}
 use Rattle.mathml_rules.specs.declared.Mode.{Mode}
 use Rattle.mathml_rules.specs.declared.Mode.the-variants as mode
 use Rattle.mathml_rules.specs.Pieces.{Piece, written}
 use Rattle.mathml_rules.specs.Mathml.{together, handed, out, outs, mathmlOf}
-use Rattle.mathml_rules.specs.Refusal.{refusal11}
+use Rattle.mathml_rules.specs.Refusal.{refusedNode, refusal11}
 use Rattle.mathml_rules.specs.Parts as parts
 use Rattle.mathml_rules.specs.Parts.{opening, closing, colsOf, cellsLeft, swaps, Whole, Wholes}
 use Rattle.mathml.specs.declared.pass.Passed.{Passed}
-use Rattle.mathml.specs.declared.part.Place.{Place}
+use Rattle.mathml.specs.declared.place.Place.{Place}
 use Rattle.mathml.specs.declared.part.Part.{Part}
 use Rattle.mathml.specs.declared.node.Reached.{Reached}
 
@@ -56,14 +56,26 @@ pub record ChildPlace (words : List ℕ) (swapped : Bool) (from i next at : ℕ)
   pub first : swapped ≡ true → i ≡ 1 → at ≡ from
   pub behind : swapped ≡ true → 1 < i → (e : ℕ) × (NodeEnds words from e × NodeEnds words e at)
 
--- Where a node begins that is written in place of the one at `at`: the one in a simple without script, or the node itself.
+-- Where the own words of the node at a place begin, or the end of all words.
+pub record OwnPlace (words : List ℕ) (at : ℕ) (items : Bool) (head : ℕ) : Type 0 where
+  pub upto : head ≤ length words
+  pub read : head < length words → (at < length words) × (placedAt words at items ≡ headedAt words head)
+
+-- A node that stands for x, which begins at `at`: it ends where x ends, is written as x is, and is refused where x is.
+pub record Inner (words : List ℕ) (at : ℕ) (items : Bool) (x : Node) (more : List ℕ) (p : Place) : Type 0 where
+  pub node : Node
+  pub laid : Laid node
+  pub whole : Whole x → Whole node
+  pub here : drop (p .at) words ≡ nodeWords (p .items) node ++ more
+  pub ends : p .at + length (nodeWords (p .items) node) ≡ at + length (nodeWords items x)
+  pub same : (text : List ℕ) (m : Mode) → out text m node ≡ out text m x
+  pub refused : (text : List ℕ) → refusedNode text node ≡ refusedNode text x
+
+-- Where such a node begins: the one in a simple without script, or the node itself.
 pub record InnerPlace (words : List ℕ) (at : ℕ) (items : Bool) (p : Place) : Type 0 where
   pub least : at ≤ p .at
   pub upto : p .at ≤ length words
-  pub read : (x : Node) (more : List ℕ) → Laid x → Whole x → drop at words ≡ nodeWords items x ++ more →
-      (y : Node)
-      × (Laid y × (Whole y × ((drop (p .at) words ≡ nodeWords (p .items) y ++ more)
-      × ((p .at + length (nodeWords (p .items) y) ≡ at + length (nodeWords items x)) × ((text : List ℕ) (m : Mode) → out text m y ≡ out text m x)))))
+  pub read : (x : Node) (more : List ℕ) → Laid x → drop at words ≡ nodeWords items x ++ more → Inner words at items x more p
 
 -- a part of a node of this kind whose own words begin at `head`: what stands before child i, and what closes it
 pub record ChildPut (words text before : List ℕ) (from kind head : ℕ) (m : Mode) (i left at : ℕ) (items : Bool) (after : List ℕ) (p : Part) : Type 0 where
@@ -78,6 +90,10 @@ pub record LastPut (words text before : List ℕ) (place kind head : ℕ) (m : M
   pub ends : p .at ≡ pastOf (length words) at tail
   pub put : Put before place after (p .end) (written (closing text m (headAt words kind head)))
 
+-- the last part of a node that ends at `at`
+abbrev pub lastPart : ℕ → ℕ → Mode → Part
+lastPart at end m = record { more = false; at = at; items = false; mode = m; left = 0; end = end }
+
 -- how many children the node at a place has
 unfoldable pub countAt : List ℕ → ℕ → Bool → ℕ
 countAt words at items = elim (stepAt words at items) [ step.End ↦ 0 | step.Node o ↦ o .count ]
@@ -86,6 +102,7 @@ countAt words at items = elim (stepAt words at items) [ step.End ↦ 0 | step.No
 pub record PartPut (words text before : List ℕ) (place at : ℕ) (items : Bool) (m : Mode) (i left next : ℕ) (after : List ℕ) (p : Part) : Type 0 where
   pub least : at ≤ p .at
   pub upto : p .at ≤ length words
+  pub fits : p .end ≤ most
   pub deeper : p .more ≡ true → (at < p .at) × ((i < countAt words at items) × (i < most))
   pub same : length after ≡ length before
   pub child : (o : Opened) → step.Node o ≡ stepAt words at items → i < o .count →

@@ -2,15 +2,21 @@
 mod node;
 mod part;
 mod pass;
+mod place;
 
 use mathml_rules::Mode;
+use mathml_tags::elements;
 use mathml_tags::tags::put_end;
 use mathml_tags::tags::put_start;
 use node::put_node;
 use parse::Parsed;
 use parse::parse;
 use pass::pass_row;
+use place::inner_place;
 ghost use mathlib.Core.Path.{_≡_};
+ghost use mathlib.Core.Bool.{true};
+ghost use Prim.Native.Nat.{_≤_};
+ghost use Rattle.mathml_length.specs.Length.{longest};
 ghost use Rattle.mathml.specs.Walks.{ItemsPut, RootPut};
 ghost use Rattle.mathml.specs.Call.{answerOf, writtenAs, TreeMarked, markedText};
 
@@ -36,7 +42,8 @@ fn put_items(words: &[u32], text: &[u8], out: &mut [u8], place: usize, items: us
     let mut end = place;
     let mut left = items;
     while left > 0 {
-        let r = put_node(words, text, out, at, true, end, Mode::Keep);
+        let p = inner_place(words, at, true);
+        let r = put_node(words, text, out, p.at, p.items, end, Mode::Keep);
         at = r.at;
         end = r.end;
         left -= 1;
@@ -48,19 +55,41 @@ fn put_items(words: &[u32], text: &[u8], out: &mut [u8], place: usize, items: us
 fn put_root(words: &[u32], text: &[u8], out: &mut [u8], items: usize) -> usize
     ensures { λ r. ⌜ RootPut (now (words .entry)) (now (text .entry)) (now (out .entry)) items (now (out .exit)) r ⌝ }
 {
-    let begun = put_start(out, 0, 19);
+    let begun = put_start(out, 0, elements::MATH);
     let end = put_items(words, text, out, begun, items);
-    put_end(out, end, 19)
+    put_end(out, end, elements::MATH)
 }
 
-// The MathML of the tree whose words stand first in `words`, or 11 or 12. The length is found first, with a buffer of one byte, so
-// that a buffer that is too short stays as it was.
+// No text that is read is longer. The MathML of one has at most so many bytes around its items, and so many for each of the text's:
+// crates/mathml_length.
+const LONGEST_TEXT: usize = 4096;
+
+const AROUND: usize = 72;
+
+const FOR_EACH: usize = 48;
+
+// Whether the MathML of any text of so many bytes fits.
+fn has_room(text: usize, out: usize) -> bool
+    ensures { λ r. ⌜ (r ≡ true → longest text ≤ out) ⌝ }
+{
+    if text <= LONGEST_TEXT {
+        AROUND + FOR_EACH * text <= out
+    } else {
+        false
+    }
+}
+
+// The MathML of the tree whose words stand first in `words`, or 11 or 12. Where it might not fit, its length is found first, with a
+// buffer of one byte, so that a buffer that is too short stays as it was.
 fn mark_tree(words: &[u32], text: &[u8], out: &mut [u8], items: usize) -> Written
     ensures { λ r. ⌜ TreeMarked (now (words .entry)) (now (text .entry)) (now (out .entry)) items (now (out .exit)) (writtenAs r) ⌝ }
 {
     let passed = pass_row(words, text, 0, items, true);
     if passed.refused {
         return Written::Refused(11);
+    }
+    if has_room(text.len(), out.len()) {
+        return Written::Whole(put_root(words, text, out, items));
     }
     let mut probe = [0u8; 1];
     let need = put_root(words, text, &mut probe, items);

@@ -1,6 +1,7 @@
 // A node and all below it, written front to back. A call that waits for a node below it keeps as little as it can, so that a deep tree
-// needs little stack: all else is done in put_part.
+// needs little stack: all else is done in put_part. A child that has no children is one part.
 use crate::part::put_part;
+use crate::place::is_leaf;
 use mathml_rules::Mode;
 ghost use Prim.Native.Nat.{_≤_};
 ghost use lib.ListN.{length};
@@ -33,9 +34,15 @@ pub(crate) fn put_node(
         let p = put_part(words, text, out, end, at, items, m, i, left, next);
         if p.more {
             let mode = p.mode;
-            let r = put_node(words, text, out, p.at, p.items, p.end, mode);
-            next = r.at;
-            end = r.end;
+            if is_leaf(words, p.at, p.items) {
+                let c = put_part(words, text, out, p.end, p.at, p.items, mode, 0, 0, p.at);
+                next = c.at;
+                end = c.end;
+            } else {
+                let r = put_node(words, text, out, p.at, p.items, p.end, mode);
+                next = r.at;
+                end = r.end;
+            }
             left = p.left;
             i += 1;
         } else {

@@ -1,6 +1,7 @@
 // A part of what a node is written as, its children aside: what stands before a child, or what closes the node; and where that child
 // begins.
 use crate::pass::node_end;
+use crate::place::inner_place;
 use mathml_heads::below::cells_left;
 use mathml_heads::below::columns;
 use mathml_heads::below::mode_below;
@@ -9,28 +10,18 @@ use mathml_heads::below::swaps_children;
 use mathml_heads::closing::put_closing;
 use mathml_heads::opening::put_opening;
 use mathml_rules::Mode;
-use tree::kinds::NODE_SIMPLE;
+use tree::kinds::NODE_SIGNED;
 use tree::walk::Step;
 use tree::walk::node_at;
-use tree::walk::own_words;
 use tree::walk::past;
-use tree::walk::word;
 ghost use mathlib.Core.Path.{_≡_};
-ghost use mathlib.Core.Bool.{true};
-ghost use Rattle.tree.specs.Tree.{Script, Head};
 ghost use Prim.Native.Nat.{_≤_};
 ghost use lib.ListN.{length};
 ghost use Rattle.writer.specs.Put.{Put};
 ghost use Rattle.tree.specs.Walk.{headAt};
 ghost use Rattle.mathml_rules.specs.Pieces.{written};
 ghost use Rattle.mathml_rules.specs.Parts.{swaps};
-ghost use Rattle.mathml.specs.Walks.{begun, rowLeft, ChildPlace, InnerPlace, ChildPut, LastPut, PartPut};
-
-// A place of a row of items, or of nodes that are none.
-pub(crate) struct Place {
-    pub at: usize,
-    pub items: bool,
-}
+ghost use Rattle.mathml.specs.Walks.{lastPart, begun, rowLeft, ChildPlace, ChildPut, LastPut, PartPut};
 
 pub(crate) struct Part {
     // whether a child follows: its place, whether it is an item, its mode, and the cells left in its row behind it
@@ -41,6 +32,20 @@ pub(crate) struct Part {
     pub left: usize,
     // where the bytes put end
     pub end: usize,
+}
+
+// The last part of a node that ends at `at`.
+fn no_more(at: usize, end: usize, mode: Mode) -> Part
+    ensures { λ r. ⌜ r ≡ lastPart at end mode ⌝ }
+{
+    Part {
+        more: false,
+        at,
+        items: false,
+        mode,
+        left: 0,
+        end,
+    }
 }
 
 // Before child 0 stands what opens the node.
@@ -99,37 +104,6 @@ fn row_left(words: &[u32], kind: u32, head: usize, i: usize, left: usize) -> usi
     left
 }
 
-// A simple without script.
-fn is_bare(words: &[u32], kind: u32, head: usize) -> bool
-    ensures { λ r. ⌜ (r ≡ true → headAt (now (words .entry)) kind head ≡ Head.simple Script.none) ⌝ }
-{
-    if kind == NODE_SIMPLE {
-        word(own_words(words, head), 3) == 0
-    } else {
-        false
-    }
-}
-
-// A simple without script is written as the node in it: where that begins. Any other node's place.
-fn inner_place(words: &[u32], at: usize, items: bool) -> Place
-    requires { ⌜ at ≤ length (now words) ⌝ }
-    ensures { λ r. ⌜ InnerPlace (now (words .entry)) at items r ⌝ }
-{
-    match node_at(words, at, items) {
-        Step::Node(o) => {
-            if is_bare(words, o.kind, o.head) {
-                Place {
-                    at: o.from,
-                    items: false,
-                }
-            } else {
-                Place { at, items }
-            }
-        }
-        Step::End => Place { at, items },
-    }
-}
-
 // What stands before child i, which begins at `at`.
 fn put_child(
     words: &[u32],
@@ -174,14 +148,7 @@ fn put_last(
     ensures { λ r. ⌜ LastPut (now (words .entry)) (now (text .entry)) (now (out .entry)) place kind head m at tail (now (out .exit)) r ⌝ }
 {
     let end = put_closing(words, text, out, place, kind, head, m);
-    Part {
-        more: false,
-        at: past(words, at, tail),
-        items: false,
-        mode: m,
-        left: 0,
-        end,
-    }
+    no_more(past(words, at, tail), end, m)
 }
 
 // The part before child i of the node at a place, or behind its last child, if i is their number.
@@ -207,6 +174,9 @@ pub(crate) fn put_part(
             let head = o.head;
             let begun = put_begun(words, text, out, place, kind, head, m, i);
             let child = child_place(words, text, kind, head, o.from, i, next);
+            if kind < NODE_SIGNED {
+                return no_more(child, begun, m);
+            }
             if i < o.count {
                 let row = row_left(words, kind, head, i, left);
                 return put_child(
@@ -225,13 +195,6 @@ pub(crate) fn put_part(
             }
             put_last(words, text, out, begun, kind, head, m, child, o.tail)
         }
-        Step::End => Part {
-            more: false,
-            at,
-            items: false,
-            mode: m,
-            left: 0,
-            end: place,
-        },
+        Step::End => no_more(at, place, m),
     }
 }

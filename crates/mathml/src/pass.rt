@@ -1,4 +1,5 @@
 // A walk that only passes over nodes: where they end, and whether one of them is refused.
+use crate::place::inner_place;
 use mathml_heads::refusal::is_refused;
 use tree::walk::Step;
 use tree::walk::node_at;
@@ -15,16 +16,10 @@ pub(crate) struct Passed {
     pub refused: bool,
 }
 
-fn either(a: bool, b: bool, c: bool) -> bool
-    ensures { λ r. ⌜ r ≡ (a || (b || c)) ⌝ }
+fn either(a: bool, b: bool) -> bool
+    ensures { λ r. ⌜ r ≡ (a || b) ⌝ }
 {
-    if a {
-        true
-    } else if b {
-        true
-    } else {
-        c
-    }
+    if a { true } else { b }
 }
 
 // `count` nodes from `from` on, each with all below it.
@@ -36,11 +31,17 @@ pub(crate) fn pass_row(words: &[u32], text: &[u8], from: usize, count: usize, it
     let mut left = count;
     let mut refused = false;
     'all: while left > 0 {
-        match node_at(words, at, items) {
+        let p = inner_place(words, at, items);
+        match node_at(words, p.at, p.items) {
             Step::Node(o) => {
-                let r = pass_row(words, text, o.from, o.count, o.items);
-                refused = either(refused, is_refused(words, text, o.kind, o.head), r.refused);
-                at = past(words, r.at, o.tail);
+                refused = either(refused, is_refused(words, text, o.kind, o.head));
+                at = o.from;
+                if o.count > 0 {
+                    let r = pass_row(words, text, o.from, o.count, o.items);
+                    refused = either(refused, r.refused);
+                    at = r.at;
+                }
+                at = past(words, at, o.tail);
                 left -= 1;
             }
             Step::End => {

@@ -1,5 +1,6 @@
 // The element of a binary command.
 use mathml_forms::key::key_of;
+use mathml_tags::elements;
 ghost use mathlib.Core.Path.{_≡_};
 ghost use Rattle.mathml_rules.specs.Commands.{exchanging};
 ghost use Rattle.mathml_rules.specs.Parts.{binaryElement, exchanges};
@@ -12,23 +13,14 @@ const OVERSET: u64 = 1076624793107311;
 
 const UNDERSET: u64 = 137807973517440885;
 
-// Elements by their numbers.
-const MFRAC: usize = 12;
-
-const MOVER: usize = 28;
-
-const MUNDER: usize = 29;
-
-const MROOT: usize = 30;
-
 pub fn binary_element(s: &[u8]) -> usize
     ensures { λ r. ⌜ r ≡ binaryElement exchanging (now (s .entry)) ⌝ }
 {
     match key_of(s) {
-        ROOT => MROOT,
-        STACKREL | OVERSET => MOVER,
-        UNDERSET => MUNDER,
-        _ => MFRAC,
+        ROOT => elements::MROOT,
+        STACKREL | OVERSET => elements::MOVER,
+        UNDERSET => elements::MUNDER,
+        _ => elements::MFRAC_COMMAND,
     }
 }
 
@@ -36,5 +28,5 @@ pub fn binary_element(s: &[u8]) -> usize
 pub fn is_exchanging(s: &[u8]) -> bool
     ensures { λ r. ⌜ r ≡ exchanges exchanging (now (s .entry)) ⌝ }
 {
-    binary_element(s) != MFRAC
+    binary_element(s) != elements::MFRAC_COMMAND
 }

@@ -1,6 +1,7 @@
 // What a unary command puts before its argument and behind it.
 use mathml_forms::equal::same_bytes;
 use mathml_forms::key::key_of;
+use mathml_tags::elements;
 use mathml_tags::leaf::put_leaf;
 use mathml_tags::tags::put_end;
 use mathml_tags::tags::put_start;
@@ -59,24 +60,8 @@ const TEXT: u64 = 513684212;
 
 const MBOX: u64 = 521924973;
 
-// Elements by their numbers, and 0 where a command has none.
+// What stands for no element.
 const NO_ELEMENT: usize = 0;
-
-const MO: usize = 4;
-
-const MROW: usize = 10;
-
-const MSQRT: usize = 24;
-
-const MENCLOSE: usize = 25;
-
-const ACCENT_OVER: usize = 26;
-
-const ACCENT_UNDER: usize = 27;
-
-const MOVER: usize = 28;
-
-const MUNDER: usize = 29;
 
 // Commands with the same element and the same marks are one.
 enum Command {
@@ -131,22 +116,22 @@ fn element_of(c: Command) -> usize
 {
     match c {
         Command::Unknown => NO_ELEMENT,
-        Command::Sqrt => MSQRT,
-        Command::Cancel => MENCLOSE,
-        Command::Abs => MROW,
-        Command::Norm => MROW,
-        Command::Floor => MROW,
-        Command::Ceil => MROW,
-        Command::Hat => ACCENT_OVER,
-        Command::Bar => ACCENT_OVER,
-        Command::Vec => ACCENT_OVER,
-        Command::Dot => ACCENT_OVER,
-        Command::Ddot => ACCENT_OVER,
-        Command::Tilde => ACCENT_OVER,
-        Command::Arc => ACCENT_OVER,
-        Command::Underline => ACCENT_UNDER,
-        Command::Ubrace => MUNDER,
-        Command::Obrace => MOVER,
+        Command::Sqrt => elements::MSQRT,
+        Command::Cancel => elements::MENCLOSE,
+        Command::Abs => elements::MROW_FENCED,
+        Command::Norm => elements::MROW_FENCED,
+        Command::Floor => elements::MROW_FENCED,
+        Command::Ceil => elements::MROW_FENCED,
+        Command::Hat => elements::MOVER_ACCENT,
+        Command::Bar => elements::MOVER_ACCENT,
+        Command::Vec => elements::MOVER_ACCENT,
+        Command::Dot => elements::MOVER_ACCENT,
+        Command::Ddot => elements::MOVER_ACCENT,
+        Command::Tilde => elements::MOVER_ACCENT,
+        Command::Arc => elements::MOVER_ACCENT,
+        Command::Underline => elements::MUNDER_ACCENT,
+        Command::Ubrace => elements::MUNDER,
+        Command::Obrace => elements::MOVER,
     }
 }
 
@@ -155,10 +140,10 @@ fn put_left(out: &mut [u8], at: usize, c: Command) -> usize
     ensures { λ r. ⌜ Put (now (out .entry)) at (now (out .exit)) r (written (mark (leftMark c))) ⌝ }
 {
     match c {
-        Command::Abs => put_leaf(out, at, MO, b"|"),
-        Command::Norm => put_leaf(out, at, MO, &[226, 128, 150]), // ‖
-        Command::Floor => put_leaf(out, at, MO, &[226, 140, 138]), // ⌊
-        Command::Ceil => put_leaf(out, at, MO, &[226, 140, 136]), // ⌈
+        Command::Abs => put_leaf(out, at, elements::MO, b"|"),
+        Command::Norm => put_leaf(out, at, elements::MO, &[226, 128, 150]), // ‖
+        Command::Floor => put_leaf(out, at, elements::MO, &[226, 140, 138]), // ⌊
+        Command::Ceil => put_leaf(out, at, elements::MO, &[226, 140, 136]), // ⌈
         _ => at,
     }
 }
@@ -168,20 +153,20 @@ fn put_right(out: &mut [u8], at: usize, c: Command) -> usize
     ensures { λ r. ⌜ Put (now (out .entry)) at (now (out .exit)) r (written (mark (rightMark c))) ⌝ }
 {
     match c {
-        Command::Abs => put_leaf(out, at, MO, b"|"),
-        Command::Norm => put_leaf(out, at, MO, &[226, 128, 150]), // ‖
-        Command::Floor => put_leaf(out, at, MO, &[226, 140, 139]), // ⌋
-        Command::Ceil => put_leaf(out, at, MO, &[226, 140, 137]), // ⌉
-        Command::Hat => put_leaf(out, at, MO, b"^"),
-        Command::Bar => put_leaf(out, at, MO, &[226, 128, 190]), // ‾
-        Command::Vec => put_leaf(out, at, MO, &[226, 134, 146]), // →
-        Command::Dot => put_leaf(out, at, MO, &[203, 153]), // ˙
-        Command::Ddot => put_leaf(out, at, MO, &[194, 168]), // ¨
-        Command::Tilde => put_leaf(out, at, MO, b"~"),
-        Command::Arc => put_leaf(out, at, MO, &[226, 143, 156]), // ⏜
-        Command::Underline => put_leaf(out, at, MO, b"_"),
-        Command::Ubrace => put_leaf(out, at, MO, &[226, 143, 159]), // ⏟
-        Command::Obrace => put_leaf(out, at, MO, &[226, 143, 158]), // ⏞
+        Command::Abs => put_leaf(out, at, elements::MO, b"|"),
+        Command::Norm => put_leaf(out, at, elements::MO, &[226, 128, 150]), // ‖
+        Command::Floor => put_leaf(out, at, elements::MO, &[226, 140, 139]), // ⌋
+        Command::Ceil => put_leaf(out, at, elements::MO, &[226, 140, 137]), // ⌉
+        Command::Hat => put_leaf(out, at, elements::MO, b"^"),
+        Command::Bar => put_leaf(out, at, elements::MO, &[226, 128, 190]), // ‾
+        Command::Vec => put_leaf(out, at, elements::MO, &[226, 134, 146]), // →
+        Command::Dot => put_leaf(out, at, elements::MO, &[203, 153]), // ˙
+        Command::Ddot => put_leaf(out, at, elements::MO, &[194, 168]), // ¨
+        Command::Tilde => put_leaf(out, at, elements::MO, b"~"),
+        Command::Arc => put_leaf(out, at, elements::MO, &[226, 143, 156]), // ⏜
+        Command::Underline => put_leaf(out, at, elements::MO, b"_"),
+        Command::Ubrace => put_leaf(out, at, elements::MO, &[226, 143, 159]), // ⏟
+        Command::Obrace => put_leaf(out, at, elements::MO, &[226, 143, 158]), // ⏞
         _ => at,
     }
 }

@@ -1,5 +1,6 @@
 // A text's display form, or its own bytes if it has none.
 use crate::forms::form_word;
+use mathml_tags::elements;
 use mathml_tags::escape::put_escaped;
 use mathml_tags::tags::put_end;
 use mathml_tags::tags::put_start;
@@ -13,9 +14,6 @@ const NO_FORM: u64 = 0;
 
 // The word of the form that has no bytes.
 const EMPTY_FORM: u64 = 1;
-
-// The element of a bracket.
-const MO: usize = 4;
 
 // The bytes that a word holds behind its 1.
 fn put_packed(out: &mut [u8], at: usize, word: u64) -> usize
@@ -63,7 +61,7 @@ pub fn put_bracket(out: &mut [u8], at: usize, s: &[u8]) -> usize
     if s.len() == 0 || word == EMPTY_FORM {
         return at;
     }
-    let a = put_start(out, at, MO);
+    let a = put_start(out, at, elements::MO);
     let b = put_by_word(out, a, word, s);
-    put_end(out, b, MO)
+    put_end(out, b, elements::MO)
 }

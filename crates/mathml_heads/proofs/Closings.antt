@@ -1,6 +1,6 @@
 -- What closes a node, kind by kind.
 use Prim.Native.Nat.{ℕ}
-use mathlib.Core.Path.{_≡_, refl, sym, ap, _∙_}
+use mathlib.Core.Path.{_≡_, refl, ap, _∙_}
 use mathlib.Core.List.{List, [], _++_}
 use lib.ListN.{getD, drop}
 use Rattle.tree.specs.Decode.{kindHead}
@@ -13,7 +13,7 @@ use Rattle.mathml_rules.specs.Parts.{finish, finishScript, finishUnary, binaryE
 use Rattle.mathml_heads.specs.Spans.{leftSpan, rightSpan, scriptOf, matrixClosing}
 use Rattle.mathml_heads.proofs.ByKind.{by-kinds}
 
-close-none : (text words lines : List ℕ) (m : Mode) (k : ℕ) → (k ≡ 8 → ⊥) → (k ≡ 9 → ⊥) → (k ≡ 10 → ⊥) → (k ≡ 11 → ⊥) → (k ≡ 12 → ⊥) → (k ≡ 13 → ⊥) → (k ≡ 14 → ⊥) → (k ≡ 15 → ⊥) → (k ≡ 16 → ⊥) → (k ≡ 17 → ⊥) → (k ≡ 18 → ⊥) → _≡_ {A = List Piece} [] (closing text m (kindHead k words lines))
+pub close-none : (text words lines : List ℕ) (m : Mode) (k : ℕ) → (k ≡ 8 → ⊥) → (k ≡ 9 → ⊥) → (k ≡ 10 → ⊥) → (k ≡ 11 → ⊥) → (k ≡ 12 → ⊥) → (k ≡ 13 → ⊥) → (k ≡ 14 → ⊥) → (k ≡ 15 → ⊥) → (k ≡ 16 → ⊥) → (k ≡ 17 → ⊥) → (k ≡ 18 → ⊥) → _≡_ {A = List Piece} [] (closing text m (kindHead k words lines))
 unfolding kindHead closing
 close-none text words lines m =
     by-kinds (λ k. (k ≡ 8 → ⊥) → (k ≡ 9 → ⊥) → (k ≡ 10 → ⊥) → (k ≡ 11 → ⊥) → (k ≡ 12 → ⊥) → (k ≡ 13 → ⊥) → (k ≡ 14 → ⊥) → (k ≡ 15 → ⊥) → (k ≡ 16 → ⊥) → (k ≡ 17 → ⊥) → (k ≡ 18 → ⊥) → _≡_ {A = List Piece} [] (closing text m (kindHead k words lines)))

@@ -1,7 +1,7 @@
 -- What opens a node, kind by kind: what the code puts is the opening of the head that the words tell. `all` are the node's own words,
 -- s its token's bytes or those of its left bracket.
 use Prim.Native.Nat.{ℕ}
-use mathlib.Core.Path.{_≡_, refl, sym, ap, _∙_}
+use mathlib.Core.Path.{_≡_, refl, ap, _∙_}
 use mathlib.Core.List.{List, [], _++_}
 use lib.ListN.{getD, drop}
 use Rattle.tree.specs.Decode.{kindHead}

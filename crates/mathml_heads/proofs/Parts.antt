@@ -1,15 +1,15 @@
 -- The parts of a node: scripts, classes, brackets, rows, modes.
 use Prim.Native.Nat.{ℕ, zero, suc, _≤_, _<_}
-use mathlib.Core.Path.{_≡_, refl, sym, ap, _∙_}
+use mathlib.Core.Path.{_≡_, refl, sym, ap}
 use mathlib.Core.Bool.{true, false, _||_}
-use mathlib.Core.List.{List, [], _∷_, _++_, append-nil}
+use mathlib.Core.List.{List, [], _++_, append-nil}
 use native.Mathlib.Omega.{arith}
 use borrow.Author.Tests.{eq-eqb, ne-eqb, lt-ltb, le-ltb}
 use Rattle.tokens.specs.Bytes.{bytes, same}
 use Rattle.tree.specs.Tree.{Script}
 use Rattle.mathml_rules.specs.declared.Mode.{Mode}
 use Rattle.mathml_rules.specs.declared.Mode.the-variants as mode
-use Rattle.mathml_rules.specs.Pieces.{Piece, bytesOf, written, L}
+use Rattle.mathml_rules.specs.Pieces.{Piece, bytesOf, written}
 use Rattle.mathml_rules.specs.Mathml.{symbolElement, arguments, A, B, dropped, textMode, simpleMode, funcMode}
 use Rattle.mathml_rules.specs.Parts.{beginScript, finishScript, kept, betweenFunc, betweenRows}
 use Rattle.mathml_heads.specs.Spans.{scriptOf, classOf}

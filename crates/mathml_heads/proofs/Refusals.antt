@@ -1,7 +1,7 @@
 -- Whether a node is refused, kind by kind.
 use Prim.Native.Nat.{ℕ}
 use mathlib.Core.Path.{_≡_, refl, sym, ap, _∙_}
-use mathlib.Core.Bool.{Bool, false, _||_, or-false}
+use mathlib.Core.Bool.{Bool, false, or-false}
 use mathlib.Core.List.{List}
 use lib.ListN.{getD, drop}
 use Rattle.tree.specs.Decode.{kindHead}

@@ -5,6 +5,7 @@ use crate::span::left_text;
 use mathml_commands::binary::is_exchanging;
 use mathml_commands::unary::is_text;
 use mathml_rules::Mode;
+use mathml_tags::elements;
 use mathml_tags::leaf::put_apply;
 use mathml_tags::tags::put_end;
 use mathml_tags::tags::put_start;
@@ -40,8 +41,8 @@ fn put_between_rows(out: &mut [u8], at: usize, left: usize) -> usize
     ensures { λ r. ⌜ Put (now (out .entry)) at (now (out .exit)) r (written (betweenRows left)) ⌝ }
 {
     if left == 0 {
-        let end = put_end(out, at, 32);
-        return put_start(out, end, 32);
+        let end = put_end(out, at, elements::MTR);
+        return put_start(out, end, elements::MTR);
     }
     at
 }

@@ -8,6 +8,7 @@ use mathml_commands::unary::put_begin_unary;
 use mathml_forms::shown::put_bracket;
 use mathml_forms::shown::put_drawn;
 use mathml_rules::Mode;
+use mathml_tags::elements;
 use mathml_tags::leaf::put_apply;
 use mathml_tags::leaf::put_leaf;
 use mathml_tags::lines::put_table;
@@ -34,7 +35,6 @@ use tree::kinds::NODE_UNARY;
 use tree::walk::lines_at;
 use tree::walk::own_words;
 use tree::walk::word;
-ghost use mathlib.Core.Path.{_≡_};
 ghost use mathlib.Core.List.{[], _++_};
 ghost use Rattle.writer.specs.Put.{Put};
 ghost use Rattle.tree.specs.Walk.{headAt};
@@ -56,12 +56,12 @@ fn put_symbol(out: &mut [u8], at: usize, class: u32, s: &[u8]) -> usize
     ensures { λ r. ⌜ Put (now (out .entry)) at (now (out .exit)) r (written (L (symbolElement (classOf class)) (shown (now (s .entry))))) ⌝ }
 {
     match class {
-        2 => put_drawn(out, at, 7, s),
-        3 => put_drawn(out, at, 7, s),
-        4 => put_drawn(out, at, 7, s),
-        5 => put_drawn(out, at, 7, s),
-        7 => put_drawn(out, at, 7, s),
-        _ => put_drawn(out, at, 22, s),
+        2 => put_drawn(out, at, elements::MO_SYMBOL, s),
+        3 => put_drawn(out, at, elements::MO_SYMBOL, s),
+        4 => put_drawn(out, at, elements::MO_SYMBOL, s),
+        5 => put_drawn(out, at, elements::MO_SYMBOL, s),
+        7 => put_drawn(out, at, elements::MO_SYMBOL, s),
+        _ => put_drawn(out, at, elements::MO_TIGHT, s),
     }
 }
 
@@ -70,24 +70,24 @@ fn put_signed(out: &mut [u8], at: usize, e: usize, s: &[u8]) -> usize
     ensures { λ r. ⌜ Put (now (out .entry)) at (now (out .exit)) r (written (begin e ++ L 5 (shown (now (s .entry))))) ⌝ }
 {
     let end = put_start(out, at, e);
-    put_drawn(out, end, 5, s)
+    put_drawn(out, end, elements::MO_SIGN, s)
 }
 
 // A function's name in a simple place.
 fn put_sfunc(out: &mut [u8], at: usize, s: &[u8]) -> usize
     ensures { λ r. ⌜ Put (now (out .entry)) at (now (out .exit)) r (written (sfuncOpening (now (s .entry)))) ⌝ }
 {
-    let a = put_start(out, at, 11);
-    let b = put_leaf(out, a, 3, s);
+    let a = put_start(out, at, elements::MROW_SFUNC);
+    let b = put_leaf(out, a, elements::MI, s);
     put_apply(out, b, s)
 }
 
 fn put_func(out: &mut [u8], at: usize, script: u32, s: &[u8]) -> usize
     ensures { λ r. ⌜ Put (now (out .entry)) at (now (out .exit)) r (written (funcOpening script (now (s .entry)))) ⌝ }
 {
-    let a = put_start(out, at, 14);
+    let a = put_start(out, at, elements::MROW_FUNC);
     let b = put_begin_script(out, a, script);
-    put_leaf(out, b, 3, s)
+    put_leaf(out, b, elements::MI, s)
 }
 
 // A bracket s of a group whose brackets are these two.
@@ -110,7 +110,7 @@ pub(crate) fn put_kept(
 fn put_group(out: &mut [u8], at: usize, m: Mode, left: &[u8], right: &[u8]) -> usize
     ensures { λ r. ⌜ Put (now (out .entry)) at (now (out .exit)) r (written (begin 15 ++ kept m (now (left .entry)) (now (right .entry)) (now (left .entry)))) ⌝ }
 {
-    let end = put_start(out, at, 15);
+    let end = put_start(out, at, elements::MROW_GROUP);
     put_kept(out, end, m, left, right, left)
 }
 
@@ -118,10 +118,10 @@ fn put_group(out: &mut [u8], at: usize, m: Mode, left: &[u8], right: &[u8]) -> u
 fn put_matrix(out: &mut [u8], at: usize, left: &[u8], cols: usize, lines: &[u32]) -> usize
     ensures { λ r. ⌜ Put (now (out .entry)) at (now (out .exit)) r (written (matrixOpening (now (left .entry)) cols (now (lines .entry)))) ⌝ }
 {
-    let a = put_start(out, at, 16);
+    let a = put_start(out, at, elements::MROW_MATRIX);
     let b = put_bracket(out, a, left);
     let c = put_table(out, b, cols, lines);
-    put_start(out, c, 32)
+    put_start(out, c, elements::MTR)
 }
 
 // What opens the node of this kind whose own words begin at `head`.
@@ -140,15 +140,15 @@ pub fn put_opening(
     let s = left_text(text, own);
     let held = word(own, 3);
     match kind {
-        NODE_NUMBER => put_leaf(out, at, 1, s),
-        NODE_TEXT => put_leaf(out, at, 2, s),
-        NODE_IDENT => put_leaf(out, at, 3, s),
-        NODE_OPERATOR => put_leaf(out, at, 4, s),
-        NODE_SIGN => put_drawn(out, at, 5, s),
-        NODE_SPACE => put_empty(out, at, 6),
+        NODE_NUMBER => put_leaf(out, at, elements::MN, s),
+        NODE_TEXT => put_leaf(out, at, elements::MTEXT, s),
+        NODE_IDENT => put_leaf(out, at, elements::MI, s),
+        NODE_OPERATOR => put_leaf(out, at, elements::MO, s),
+        NODE_SIGN => put_drawn(out, at, elements::MO_SIGN, s),
+        NODE_SPACE => put_empty(out, at, elements::MSPACE),
         NODE_SYMBOL => put_symbol(out, at, held, s),
-        NODE_SIGNED => put_signed(out, at, 8, s),
-        NODE_SSIGNED => put_signed(out, at, 9, s),
+        NODE_SIGNED => put_signed(out, at, elements::MROW_SIGNED, s),
+        NODE_SSIGNED => put_signed(out, at, elements::MROW_SSIGNED, s),
         NODE_UNARY => put_begin_unary(out, at, s),
         NODE_SFUNC => put_sfunc(out, at, s),
         NODE_BINARY => put_start(out, at, binary_element(s)),
@@ -156,8 +156,8 @@ pub fn put_opening(
         NODE_FUNC => put_func(out, at, held, s),
         NODE_GROUP => put_group(out, at, m, s, right_text(text, own)),
         NODE_MATRIX => put_matrix(out, at, s, word(own, 6) as usize, lines_at(words, head)),
-        NODE_CELL => put_start(out, at, 17),
-        NODE_FRAC => put_start(out, at, 18),
-        _ => put_empty(out, at, 0),
+        NODE_CELL => put_start(out, at, elements::MTD),
+        NODE_FRAC => put_start(out, at, elements::MFRAC),
+        _ => put_empty(out, at, elements::MROW_MISSING),
     }
 }

@@ -1,4 +1,5 @@
 // The element of a script, by the script's number (docs/LAYOUT.md).
+use mathml_tags::elements;
 use mathml_tags::tags::put_end;
 use mathml_tags::tags::put_start;
 ghost use mathlib.Core.Path.{_≡_};
@@ -12,9 +13,9 @@ pub(crate) fn put_begin_script(out: &mut [u8], at: usize, script: u32) -> usize
     ensures { λ r. ⌜ Put (now (out .entry)) at (now (out .exit)) r (written (beginScript (scriptOf script))) ⌝ }
 {
     match script {
-        1 => put_start(out, at, 13),
-        2 => put_start(out, at, 20),
-        3 => put_start(out, at, 21),
+        1 => put_start(out, at, elements::MSUB),
+        2 => put_start(out, at, elements::MSUP),
+        3 => put_start(out, at, elements::MSUBSUP),
         _ => at,
     }
 }
@@ -23,9 +24,9 @@ pub(crate) fn put_finish_script(out: &mut [u8], at: usize, script: u32) -> usize
     ensures { λ r. ⌜ Put (now (out .entry)) at (now (out .exit)) r (written (finishScript (scriptOf script))) ⌝ }
 {
     match script {
-        1 => put_end(out, at, 13),
-        2 => put_end(out, at, 20),
-        3 => put_end(out, at, 21),
+        1 => put_end(out, at, elements::MSUB),
+        2 => put_end(out, at, elements::MSUP),
+        3 => put_end(out, at, elements::MSUBSUP),
         _ => at,
     }
 }

@@ -1,20 +1,21 @@
 -- MATHML.md, section 7, 3: in the output of every well-formed tree each element holds what it may.
 use Prim.Native.Nat.{ℕ, zero, suc, _+_, _*_}
+use Prim.Native.String.{String}
 use mathlib.Core.Path.{_≡_, refl, ap, _∙_}
-use mathlib.Core.Bool.{Bool, true, false, not, _&&_, _||_, or-true}
+use mathlib.Core.Bool.{Bool, true, false, not, _&&_}
 use mathlib.Core.List.{List, [], _∷_, _++_, append-nil}
 use native.Mathlib.Omega.{arith}
 use native.Mathlib.Nat.{suc-mul}
 use lib.Dec.{eqb}
-use lib.ListN.{length, take, drop, length-take, length-drop}
+use lib.ListN.{length, take, drop, replicate, length-take, length-drop}
 use lib.Seq.{take-at, getD-at}
 use borrow.Author.Tests.{eq-eqb, not-true}
 use Rattle.tokens.specs.declared.token.SymbolClass.{SymbolClass}
 use Rattle.tokens.specs.declared.token.SymbolClass.the-variants as class
-use Rattle.tokens.specs.Bytes.{same}
+use Rattle.tokens.specs.Bytes.{bytes, same}
 use Rattle.tokens.specs.Lexeme.{Span}
-use Rattle.tokens.proofs.Cases.{clash}
-use Rattle.tree.specs.Tree.{Script, Head, Atom, Node, node, Nodes, end, _▸_, _⧺_, count}
+use Rattle.tokens.proofs.Cases.{by-test, clash}
+use Rattle.tree.specs.Tree.{Script, Head, Atom, Node, Nodes, end, _▸_, _⧺_, count}
 use Rattle.tree.specs.WellFormed.{Simple, Cells, Arguments, ScriptFunc, Intermediate, Expression, Behind, WellFormed}
 use Rattle.mathml_rules.specs.declared.Mode.{Mode}
 use Rattle.mathml_rules.specs.declared.Mode.the-variants as mode
@@ -24,8 +25,8 @@ use Rattle.mathml_rules.specs.Forms.{shown}
 use Rattle.mathml_rules.specs.Elements.{elements, elementOf}
 use Rattle.mathml_rules.specs.Pieces.{Piece, within, E, L}
 use Rattle.mathml_rules.specs.Commands.{Command, unaries, exchanging, mark, unaryBy, unary, binaryBy, binary}
-use Rattle.mathml_rules.specs.Mathml.{own, together, symbolElement, atom, S, arguments, A, B, dropped, group, columnlines, tableRows, table, handed, child, join, out, outs, root}
-use Rattle.mathml_rules.specs.Children.{Shape, Sort, shapes, shapeBy, shape, sort, allows, full, isCells, isCharacters, Frame, frame, Held?, entered, rowLeft, left, ended, lettered, stepped, steps, isWhole, fitting}
+use Rattle.mathml_rules.specs.Mathml.{own, together, symbolElement, atom, S, arguments, A, B, dropped, group, has, lineEntry, lineEntries, columnlines, tableRows, table, handed, child, join, out, outs, root}
+use Rattle.mathml_rules.specs.Children.{Shape, Sort, shapes, shapeBy, shape, sort, allows, full, isCells, isCharacters, blanks, columnsOf, Frame, frame, Held?, entered, rowLeft, left, ended, lettered, stepped, steps, isWhole, fitting}
 use Rattle.mathml_rules.proofs.Run.{run-append, run-cons, run-one, run-on}
 use Rattle.mathml_rules.proofs.Lists.{All, all-take, all-drop, every, passed, both}
 
@@ -56,10 +57,11 @@ plain-allowed Sort.plain p s a = a
 plain-allowed Sort.row p s a = clash false p refl
 plain-allowed Sort.cell p s a = clash false p refl
 
-plain-entered : (e : ℕ) → isPlain (sort e) ≡ true → (s : Shape) (k w : ℕ) (st : List Frame) → allows s Sort.plain ≡ true →
-    entered e (frame s k w ∷ st) ≡ Held?.inside (frame (shape e) 0 0 ∷ frame s (k + 1) w ∷ st)
+plain-entered : (e : ℕ) (more : List ℕ) → isPlain (sort e) ≡ true → (s : Shape) (k w : ℕ) (st : List Frame) →
+    allows s Sort.plain ≡ true →
+    entered e more (frame s k w ∷ st) ≡ Held?.inside (frame (shape e) 0 (columnsOf more) ∷ frame s (k + 1) w ∷ st)
 unfolding entered
-plain-entered e p s k w st a = rw (plain-allowed (sort e) p s a, entered)
+plain-entered e more p s k w st a = rw (plain-allowed (sort e) p s a, entered)
 
 plain-ended : (s : Shape) (k w : ℕ) (st : List Frame) → full s k ≡ true → isCells s ≡ false → ended (frame s k w ∷ st) ≡ left st
 unfolding ended
@@ -67,28 +69,35 @@ plain-ended s k w st u c = rw (u, c, ended)
 
 -- an element from its start tag to its end tag
 module _ (e n : ℕ) (more : List ℕ) (x : List Piece) (u : full (shape e) n ≡ true) (c : isCells (shape e) ≡ false)
-    (inner : (st : List Frame) → (w : ℕ) × (steps (Held?.inside (frame (shape e) 0 0 ∷ st)) x ≡ Held?.inside (frame (shape e) n w ∷ st))) where
-  ends : (st : List Frame) → steps (Held?.inside (frame (shape e) 0 0 ∷ st)) (x ++ (Piece.end e ∷ [])) ≡ left st
+    (inner : (st : List Frame) →
+    steps (Held?.inside (frame (shape e) 0 (columnsOf more) ∷ st)) x ≡ Held?.inside (frame (shape e) n (columnsOf more) ∷ st)) where
+  ends : (st : List Frame) → steps (Held?.inside (frame (shape e) 0 (columnsOf more) ∷ st)) (x ++ (Piece.end e ∷ [])) ≡ left st
   unfolding stepped
   ends st =
-      let i = inner st in
       rw (
-        run-append stepped (Held?.inside (frame (shape e) 0 0 ∷ st)) x (Piece.end e ∷ []),
-        i .1,
-        run-one stepped (Held?.inside (frame (shape e) n (i .0) ∷ st)) (Piece.end e),
-      ) (plain-ended (shape e) n (i .0) st u c)
+        run-append stepped (Held?.inside (frame (shape e) 0 (columnsOf more) ∷ st)) x (Piece.end e ∷ []),
+        inner st,
+        run-one stepped (Held?.inside (frame (shape e) n (columnsOf more) ∷ st)) (Piece.end e),
+      ) (plain-ended (shape e) n (columnsOf more) st u c)
 
   one-element : isPlain (sort e) ≡ true → Many 1 (within e more x)
   unfolding within stepped left
   one-element p = record {
     counted = λ s k w st a.
-        rw (run-cons stepped (Held?.inside (frame s k w ∷ st)) (Piece.start e more) (x ++ (Piece.end e ∷ [])), plain-entered e p s k w st a)
-        (ends (frame s (k + 1) w ∷ st));
+        rw (
+          run-cons stepped (Held?.inside (frame s k w ∷ st)) (Piece.start e more) (x ++ (Piece.end e ∷ [])),
+          plain-entered e more p s k w st a,
+        ) (ends (frame s (k + 1) w ∷ st));
   }
 
-  the-root : steps (Held?.inside []) (within e more x) ≡ Held?.whole
+  the-root : isPlain (sort e) ≡ true → steps (Held?.inside []) (within e more x) ≡ Held?.whole
   unfolding within stepped entered left
-  the-root = rw (run-cons stepped (Held?.inside []) (Piece.start e more) (x ++ (Piece.end e ∷ []))) (ends [])
+  the-root p =
+      rw (
+        run-cons stepped (Held?.inside []) (Piece.start e more) (x ++ (Piece.end e ∷ [])),
+        plain-allowed (sort e) p Shape.any refl,
+        entered,
+      ) (ends [])
 
 -- an element that holds n elements
 abbrev takes : ℕ → ℕ → Bool
@@ -107,9 +116,9 @@ taking e n t =
     let d = both (full (shape e) n) (allows (shape e) Sort.plain) (b .1) in
     record { plain = a .0; no-cells = not-true (isCells (shape e)) (b .0); filled = d .0; elements = d .1 }
 
-inner-many : (e n : ℕ) (x : List Piece) → allows (shape e) Sort.plain ≡ true → Many n x → (st : List Frame) →
-    (w : ℕ) × (steps (Held?.inside (frame (shape e) 0 0 ∷ st)) x ≡ Held?.inside (frame (shape e) n w ∷ st))
-inner-many e n x a p st = let z : 0 + n ≡ n = omega arith in (0, rw z at (p .counted (shape e) 0 0 st a))
+inner-many : (e n : ℕ) {w : ℕ} (x : List Piece) → allows (shape e) Sort.plain ≡ true → Many n x → (st : List Frame) →
+    steps (Held?.inside (frame (shape e) 0 w ∷ st)) x ≡ Held?.inside (frame (shape e) n w ∷ st)
+inner-many e n {w} x a p st = let z : 0 + n ≡ n = omega arith in rw z at (p .counted (shape e) 0 w st a)
 
 wrap : (e n : ℕ) {x : List Piece} → takes e n ≡ true → Many n x → Many 1 (E e x)
 wrap e n {x} t p = let h = taking e n t in one-element e n [] x (h .filled) (h .no-cells) (inner-many e n x (h .elements) p) (h .plain)
@@ -130,7 +139,7 @@ unfolding run stepped lettered
 leaf e s t =
     let h = both (isPlain (sort e)) (isCharacters (shape e)) t in
     let c = characters (shape e) (h .1) in
-    one-element e 0 [] (Piece.chars s ∷ []) (rw c) (rw c) (λ st. (0, rw c)) (h .0)
+    one-element e 0 [] (Piece.chars s ∷ []) (rw c) (rw c) (λ st. rw c) (h .0)
 
 -- The parts of the output.
 abbrev marks : List ℕ → ℕ
@@ -250,60 +259,81 @@ cells-counted (x ∷ cs) h k w st =
     let e : k + suc (length cs) ≡ k + 1 + length cs = omega arith in
     rw e (run-on stepped (Held?.inside (frame Shape.cells k w ∷ st)) x (together cs) (h .0 .counted k w st) (cells-counted cs (h .1) (k + 1) w st))
 
-row-left : (n : ℕ) (s : Shape) (k w : ℕ) (st : List Frame) → (eqb k 1 || eqb w n) ≡ true →
-    rowLeft n (frame s k w ∷ st) ≡ Held?.inside (frame s k n ∷ st)
+row-left : (n : ℕ) (s : Shape) (k : ℕ) (st : List Frame) → rowLeft n (frame s k n ∷ st) ≡ Held?.inside (frame s k n ∷ st)
 unfolding rowLeft
-row-left n s k w st r = rw (r, rowLeft)
+row-left n s k st = rw (eq-eqb n n refl, rowLeft)
 
--- a row that is the table's first, or as long as the one before
-row-counted : (cs : List (List Piece)) → All Cell cs → (k w : ℕ) → (eqb (k + 1) 1 || eqb w (length cs)) ≡ true → (st : List Frame) →
-    steps (Held?.inside (frame Shape.rows k w ∷ st)) (E 32 (together cs)) ≡ Held?.inside (frame Shape.rows (k + 1) (length cs) ∷ st)
-unfolding within stepped entered ended elementOf elements shape shapeBy shapes sort same
-row-counted cs h k w r st =
-    let f = frame Shape.rows (k + 1) w in
-    let z : 0 + length cs ≡ length cs = omega arith in
+-- a table of cols columns with k rows: x makes them n
+abbrev Makes : ℕ → ℕ → ℕ → List Piece → Type 0
+Makes cols k n x =
+    (st : List Frame) → steps (Held?.inside (frame Shape.rows k cols ∷ st)) x ≡ Held?.inside (frame Shape.rows n cols ∷ st)
+
+-- a row of as many cells as the table has columns
+row-counted : (cols : ℕ) (cs : List (List Piece)) → length cs ≡ cols → All Cell cs → (k : ℕ) →
+    Makes cols k (k + 1) (E 32 (together cs))
+unfolding within stepped entered ended elementOf elements shape shapeBy shapes sort same blanks
+row-counted cols cs e h k st =
+    let f = frame Shape.rows (k + 1) cols in
+    let z : 0 + length cs ≡ cols = omega arith in
     rw (
-      run-cons stepped (Held?.inside (frame Shape.rows k w ∷ st)) (Piece.start 32 []) (together cs ++ (Piece.end 32 ∷ [])),
-      run-append stepped (Held?.inside (frame Shape.cells 0 0 ∷ f ∷ st)) (together cs) (Piece.end 32 ∷ []),
-      cells-counted cs h 0 0 (f ∷ st),
+      run-cons stepped (Held?.inside (frame Shape.rows k cols ∷ st)) (Piece.start 32 []) (together cs ++ (Piece.end 32 ∷ [])),
+      run-append stepped (Held?.inside (frame Shape.cells 0 1 ∷ f ∷ st)) (together cs) (Piece.end 32 ∷ []),
+      cells-counted cs h 0 1 (f ∷ st),
       z,
-      run-one stepped (Held?.inside (frame Shape.cells (length cs) 0 ∷ f ∷ st)) (Piece.end 32),
+      run-one stepped (Held?.inside (frame Shape.cells cols 1 ∷ f ∷ st)) (Piece.end 32),
     )
-    (row-left (length cs) Shape.rows (k + 1) w st r)
+    (row-left cols Shape.rows (k + 1) st)
 
--- whole rows, each of cols cells
-row-of : (cols : ℕ) (cs : List (List Piece)) → length cs ≡ cols → All Cell cs → (k w : ℕ) → (eqb (k + 1) 1 || eqb w cols) ≡ true → (st : List Frame) →
-    steps (Held?.inside (frame Shape.rows k w ∷ st)) (E 32 (together cs)) ≡ Held?.inside (frame Shape.rows (k + 1) cols ∷ st)
-row-of cols cs e h k w t st = rw (← e) (row-counted cs h k w (rw e t) st)
-
--- from a table with k rows so far, the last of w cells: rows only, n in the end
+-- x is rows only, whatever their number
 abbrev Rows : ℕ → ℕ → List Piece → Type 0
-Rows k w x = (n : ℕ) × ((st : List Frame) → (v : ℕ) × (steps (Held?.inside (frame Shape.rows k w ∷ st)) x ≡ Held?.inside (frame Shape.rows n v ∷ st)))
+Rows cols k x = (n : ℕ) × Makes cols k n x
 
-one-more : (k w j u : ℕ) (x y : List Piece) → ((st : List Frame) → steps (Held?.inside (frame Shape.rows k w ∷ st)) x ≡ Held?.inside (frame Shape.rows j u ∷ st)) →
-    Rows j u y → Rows k w (x ++ y)
-one-more k w j u x y p q = (q .0, λ st. (q .1 st .0, run-on stepped (Held?.inside (frame Shape.rows k w ∷ st)) x y (p st) (q .1 st .1)))
+one-more : (cols k j : ℕ) (x y : List Piece) → Makes cols k j x → Rows cols j y → Rows cols k (x ++ y)
+one-more cols k j x y p q = (q .0, λ st. run-on stepped (Held?.inside (frame Shape.rows k cols ∷ st)) x y (p st) (q .1 st))
 
-rows-counted : (f r cols : ℕ) (cs : List (List Piece)) → length cs ≡ r * cols → All Cell cs → (k w : ℕ) → (eqb (k + 1) 1 || eqb w cols) ≡ true →
-    Rows k w (tableRows f cols cs)
+rows-counted : (f r cols : ℕ) (cs : List (List Piece)) → length cs ≡ r * cols → All Cell cs → (k : ℕ) →
+    Rows cols k (tableRows f cols cs)
 unfolding tableRows run
-rows-counted zero r cols cs e h k w t = (k, λ st. (w, refl))
-rows-counted (suc f) r cols [] e h k w t = (k, λ st. (w, refl))
-rows-counted (suc f) zero cols (c ∷ cs) e h k w t = absurd (omega arith)
-rows-counted (suc f) (suc r) cols (c ∷ cs) e h k w t =
+rows-counted zero r cols cs e h k = (k, λ st. refl)
+rows-counted (suc f) r cols [] e h k = (k, λ st. refl)
+rows-counted (suc f) zero cols (c ∷ cs) e h k = absurd (omega arith)
+rows-counted (suc f) (suc r) cols (c ∷ cs) e h k =
     let all = c ∷ cs in
     let m = suc-mul r cols in
     let a : length (take cols all) ≡ cols = simp length-take (omega arith) in
     let b : length (drop cols all) ≡ r * cols = simp length-drop (omega arith) in
-    one-more k w (k + 1) cols (E 32 (together (take cols all))) (tableRows f cols (drop cols all))
-    (row-of cols (take cols all) a (all-take Cell cols all h) k w t)
-    (rows-counted f r cols (drop cols all) b (all-drop Cell cols all h) (k + 1) cols (rw (eq-eqb cols cols refl, or-true)))
+    one-more cols k (k + 1) (E 32 (together (take cols all))) (tableRows f cols (drop cols all))
+    (row-counted cols (take cols all) a (all-take Cell cols all h) k)
+    (rows-counted f r cols (drop cols all) b (all-drop Cell cols all h) (k + 1))
 
-a-table : (r cols : ℕ) (lines : List ℕ) (cs : List (List Piece)) → length cs ≡ r * cols → All Cell cs → Many 1 (table cols lines cs)
+-- The start tag of a table says how many columns it has.
+blanks-append : (s t : List ℕ) → blanks (s ++ t) ≡ blanks s + blanks t
+unfolding blanks
+blanks-append [] t = omega arith
+blanks-append (b ∷ s) t =
+    let r = blanks-append s t in by-test (eqb b 32) (λ e. rw (e, blanks) (omega arith)) (λ e. rw (e, blanks) r)
+
+entry-blanks : (lines : List ℕ) (j : ℕ) → blanks (lineEntry lines j) ≡ 0
+unfolding blanks lineEntry
+entry-blanks lines j = by-test (has j lines) (λ e. rw (e, lineEntry)) (λ e. rw (e, lineEntry))
+
+entries-blanks : (lines : List ℕ) (j n : ℕ) → blanks (lineEntries lines j n) ≡ n
+unfolding blanks lineEntries
+entries-blanks lines j zero = refl
+entries-blanks lines j (suc n) = rw (blanks-append, entry-blanks, entries-blanks lines (suc j) n) (omega arith)
+
+columns-said : (d : ℕ) (lines : List ℕ) → columnsOf (columnlines (suc d) lines) ≡ suc d
+unfolding blanks columnlines
+columns-said zero lines = refl
+columns-said (suc n) lines = simp (blanks-append, entry-blanks, entries-blanks) (omega arith)
+
+a-table : (r d : ℕ) (lines : List ℕ) (cs : List (List Piece)) → length cs ≡ r * suc d → All Cell cs →
+    Many 1 (table (suc d) lines cs)
 unfolding table elementOf elements shape shapeBy shapes sort same
-a-table r cols lines cs e h =
-    let c = rows-counted (length cs) r cols cs e h 0 0 refl in
-    one-element 31 (c .0) (columnlines cols lines) (tableRows (length cs) cols cs) refl refl (c .1) refl
+a-table r d lines cs e h =
+    let c = rows-counted (length cs) r (suc d) cs e h 0 in
+    one-element 31 (c .0) (columnlines (suc d) lines) (tableRows (length cs) (suc d) cs) refl refl
+    (rw (columns-said d lines) (c .1)) refl
 
 -- A node with its children's pieces.
 record Ones (n : ℕ) (cs : List (List Piece)) : Type 0 where
@@ -351,12 +381,14 @@ module _ (text : List ℕ) where
         a-binary exchanging (passed binaryTakes exchanging exchanging-take) (own text sp) (simple-one s _) (simple-one t _)
     simple-one (Simple.group {left = a} {right = b} {l = l} w) m =
         a-group m (own text a) (own text b) (all-together (outs text m (Head.group a b) 0 l) (expression-all w m (Head.group a b) 0))
-    simple-one (Simple.matrix {left = a} {right = b} {cols = cols} {lines = ls} {l = l} w r e g v) m =
+    -- there are cells, so there are columns
+    simple-one (Simple.matrix {cols = zero} w r e g v) m = absurd (omega arith)
+    simple-one (Simple.matrix {left = a} {right = b} {cols = suc d} {lines = ls} {l = l} w r e g v) m =
+        let h = Head.matrix a b (suc d) ls in
         wrap 16 _ refl
         (beside (a-bracket (own text a))
         (beside
-        (a-table r cols ls (outs text m (Head.matrix a b cols ls) 0 l) (outs-length m (Head.matrix a b cols ls) 0 l ∙ e)
-        (cells-all w m (Head.matrix a b cols ls) 0))
+        (a-table r d ls (outs text m h 0 l) (outs-length m h 0 l ∙ e) (cells-all w m h 0))
         (a-bracket (own text b))))
 
     cells-all : {l : Nodes} → Cells l → (m : Mode) (h : Head) (i : ℕ) → All Cell (outs text m h i l)
@@ -402,4 +434,17 @@ unfolding fitting root isWhole elementOf elements shape shapeBy shapes sort same
 children-output text tree w =
     let cs = outs text mode.Keep Head.cell 0 tree in
     rw (the-root 19 (length cs) [] (together cs) refl refl
-    (inner-many 19 (length cs) (together cs) refl (all-together cs (expression-all text w mode.Keep Head.cell 0))))
+    (inner-many 19 (length cs) (together cs) refl (all-together cs (expression-all text w mode.Keep Head.cell 0))) refl)
+
+-- a table with one row of n cells
+abbrev oneRow : String → ℕ → List Piece
+oneRow more n = E 19 (within 31 (bytes more) (E 32 (together (replicate n (E 17 [])))))
+
+-- where the start tag says three columns a row has three cells and not two; where it says one, not two; a cell stands in a row
+pub columns-tested :
+    (fitting (oneRow " columnlines=\"none solid\"" 3) ≡ true)
+    × (fitting (oneRow " columnlines=\"none solid\"" 2) ≡ false)
+    × (fitting (oneRow "" 2) ≡ false)
+    × (fitting (E 17 []) ≡ false)
+unfolding within together run fitting isWhole stepped entered ended left rowLeft blanks elementOf elements shape shapeBy shapes sort same
+columns-tested = (refl, refl, refl, refl)

@@ -15,7 +15,7 @@ use Rattle.mathml_rules.specs.Utf8.{utf8}
 use Rattle.mathml_rules.specs.Forms.{Form, formOr, forms, shownBy, shown}
 use Rattle.mathml_rules.specs.Pieces.{Piece, within, E, L}
 use Rattle.mathml_rules.specs.Commands.{Command, unaries, exchanging, mark, unaryBy, unary, binaryBy, binary}
-use Rattle.mathml_rules.specs.Mathml.{own, together, atom, symbolElement, S, arguments, A, B, dropped, group, columnlines, tableRows, table, handed, child, join, out, outs, root}
+use Rattle.mathml_rules.specs.Mathml.{own, together, atom, symbolElement, S, arguments, A, B, dropped, group, columnlines, tableRows, table, handed, child, join, out, outs}
 use Rattle.mathml_rules.proofs.Lists.{All, all-at, all-take, all-drop, every, both as two}
 
 pub record Closed (Good : List ℕ → Type 0) (P : List Piece → Type 0) : Type 0 where

@@ -9,7 +9,6 @@ use Rattle.tokens.specs.Bytes.{bytes, same}
 use Rattle.lexing.specs.Spellings.{rows}
 use Rattle.lexing.specs.Longest as longest
 use Rattle.lexing.specs.Rules as rules
-use Rattle.lexing.specs.Rules.{tokens}
 use Rattle.tree.specs.Tree.{Nodes}
 use Rattle.reading.specs.Entries.{is, entries, closeAfter, hasSep}
 use Rattle.reading.specs.Reading.{readText, stops, any, marksScript, heads, begins, slot, return, _>>=_, if_then_else_, here, current, closed, prefixes, textOf, isByte, sameText, isAt, closeOf, isBar, closes, couldBeMatrix, advance, failed, giveUp, attempt, isBarSymbol, isUnscripted, isColumnLine, lineCells, bothLines, lineCols, keptCols, columnLines, keepCells, joinRows, rowBrackets, alike, splitColumnLines, argument, nextScript, nextScriptFunc, nextIntermediate, spaced, atOpenClose, intermediates, rowCells, nextMatrixRow, moreRows, nextMatrixRows, makesMatrix, matrixBody, tryMatrix, nextOpenGroup, barBody, nextOpenCloseGroup, nextBracket, begun, nextSimple, step, level, lastOf, parse, parseEntries, readingBy, endsOperand, atomEnds, look}

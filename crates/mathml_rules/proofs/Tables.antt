@@ -7,7 +7,7 @@ use mathlib.Core.List.{List, [], _∷_, map}
 use mathlib.Core.Option.{Option, none, some}
 use lib.Dec.{leb}
 use lib.ListN.{length, getD}
-use Rattle.tokens.specs.Bytes.{bytes, same}
+use Rattle.tokens.specs.Bytes.{same}
 use Rattle.lexing.specs.Spellings.{Row, rows}
 use Rattle.lexing.proofs.Moves.{same-is}
 use Rattle.mathml_rules.specs.Utf8.{encoded, utf8}

@@ -1,6 +1,6 @@
 -- MATHML.md, section 7, 3: what each element holds, by a reader of pieces with a stack of counts. (That each end tag is its start
 -- tag's is Nested.antt's.)
-use mathlib.Core.Bool.{Bool, true, false, _||_}
+use mathlib.Core.Bool.{Bool, true, false}
 use mathlib.Core.List.{List, [], _∷_}
 use Prim.Native.Nat.{ℕ, _+_}
 use Prim.Native.String.{String}
@@ -106,7 +106,17 @@ isCharacters Shape.characters = true
 isCharacters Shape.rows = false
 isCharacters Shape.cells = false
 
--- An open element: its shape, its child elements so far, and, of a table, the cells of its last row.
+-- "mtr only mtd, `cols` of them": as many as the table's start tag says, by what stands there behind the table's attributes. For one
+-- column that is nothing, else ` columnlines="V"`, "V having cols − 1 entries, one for each place between two columns, with one byte
+-- 32 between" (section 6). So each column but the first has one blank: that of the second stands before `columnlines`.
+unfoldable pub blanks : List ℕ → ℕ
+blanks [] = 0
+blanks (b ∷ s) = elim (eqb b 32) [ true ↦ blanks s + 1 | false ↦ blanks s ]
+
+abbrev pub columnsOf : List ℕ → ℕ
+columnsOf more = blanks more + 1
+
+-- An open element: its shape, its child elements so far, and, if it is a table, how many cells each row has.
 pub data Frame : Type 0 where
   frame : Shape → ℕ → ℕ → Frame
 
@@ -114,20 +124,20 @@ pub data Held? : Type 0 where
   inside : List Frame → Held?
   whole wrong : Held?
 
--- a child element begins
-unfoldable pub entered : ℕ → List Frame → Held?
-entered e [] = Held?.inside (frame (shape e) 0 0 ∷ [])
-entered e (frame s k w ∷ st) =
+-- An element begins: the outermost one, which is no row and no cell, or a child.
+unfoldable pub entered : ℕ → List ℕ → List Frame → Held?
+entered e more [] =
+    elim (allows Shape.any (sort e)) [ true ↦ Held?.inside (frame (shape e) 0 (columnsOf more) ∷ []) | false ↦ Held?.wrong ]
+entered e more (frame s k w ∷ st) =
     elim (allows s (sort e)) [
-      | true ↦ Held?.inside (frame (shape e) 0 0 ∷ frame s (k + 1) w ∷ st)
+      | true ↦ Held?.inside (frame (shape e) 0 (columnsOf more) ∷ frame s (k + 1) w ∷ st)
       | false ↦ Held?.wrong
     ]
 
--- a row of n cells ends: "`cols` of them", as many as each row of the table before it
+-- a row of n cells ends
 unfoldable pub rowLeft : ℕ → List Frame → Held?
 rowLeft n [] = Held?.wrong
-rowLeft n (frame s k w ∷ st) =
-    elim (eqb k 1 || eqb w n) [ true ↦ Held?.inside (frame s k n ∷ st) | false ↦ Held?.wrong ]
+rowLeft n (frame s k w ∷ st) = elim (eqb n w) [ true ↦ Held?.inside (frame s k w ∷ st) | false ↦ Held?.wrong ]
 
 -- an element ends
 unfoldable pub left : List Frame → Held?
@@ -147,7 +157,7 @@ lettered [] = Held?.wrong
 lettered (frame s k w ∷ st) = elim (isCharacters s) [ true ↦ Held?.inside (frame s k w ∷ st) | false ↦ Held?.wrong ]
 
 unfoldable pub stepped : Held? → Piece → Held?
-stepped (Held?.inside st) (Piece.start e more) = entered e st
+stepped (Held?.inside st) (Piece.start e more) = entered e more st
 stepped (Held?.inside st) (Piece.end e) = ended st
 stepped (Held?.inside st) (Piece.chars s) = lettered st
 stepped Held?.whole p = Held?.wrong

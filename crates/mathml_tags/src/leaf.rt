@@ -1,15 +1,11 @@
 // Elements that hold characters alone.
+use crate::elements;
 use crate::escape::put_escaped;
 use crate::tags::put_end;
 use crate::tags::put_start;
 ghost use Rattle.writer.specs.Put.{Put};
 ghost use Rattle.mathml_rules.specs.Pieces.{written, L};
 ghost use Rattle.mathml_tags.specs.Application.{application};
-
-// Elements by their numbers: an operator, and one with a thin space behind it.
-const MO: usize = 4;
-
-const MO_SPACED: usize = 23;
 
 pub fn put_leaf(out: &mut [u8], at: usize, e: usize, s: &[u8]) -> usize
     ensures { λ r. ⌜ Put (now (out .entry)) at (now (out .exit)) r (written (L e (now (s .entry)))) ⌝ }
@@ -24,7 +20,7 @@ pub fn put_apply(out: &mut [u8], at: usize, name: &[u8]) -> usize
     ensures { λ r. ⌜ Put (now (out .entry)) at (now (out .exit)) r (written (application (now (name .entry)))) ⌝ }
 {
     if name.len() == 1 {
-        return put_leaf(out, at, MO, &[226, 129, 161]);
+        return put_leaf(out, at, elements::MO, &[226, 129, 161]);
     }
-    put_leaf(out, at, MO_SPACED, &[226, 129, 161])
+    put_leaf(out, at, elements::MO_SPACED, &[226, 129, 161])
 }

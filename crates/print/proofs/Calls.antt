@@ -3,14 +3,12 @@ use Prim.Native.Nat.{ℕ, _*_, _-_, _≤_, _<_}
 use mathlib.Core.Path.{_≡_, sym, ap, _∙_}
 use mathlib.Core.List.{List, [], _∷_, _++_}
 use mathlib.Core.Option.{none, some}
-use lib.ListN.{length, drop, replicate}
+use lib.ListN.{length, drop}
 use Rattle.lexing.specs.Rules.{tokens}
 use Rattle.tokens.specs.Table.{tableWords}
-use Rattle.tokens.specs.Refusals.{Answer, accepted, refused, entryWords, bit}
-use Rattle.tokens.proofs.Cases.{by-lt, by-option, apart}
-use Rattle.tree.specs.Tree.{count}
-use Rattle.tree.specs.Words.{encodeItems}
-use Rattle.reading.specs.Reading.{readText, blank}
+use Rattle.tokens.specs.Refusals.{Answer, accepted, refused}
+use Rattle.tokens.proofs.Cases.{by-lt, apart}
+use Rattle.reading.specs.Reading.{readText}
 use Rattle.bounds.proofs.Theorems.{bounds}
 use Rattle.parse.specs.Call.{parseRefusal, parsedText, workAfter, treeAfter}
 use Rattle.parse.proofs.Readings.{Left, text-reads, text-refused, n-is, takes-are, items-are, blank-is, words-are}

@@ -4,8 +4,9 @@ use mathlib.Core.Path.{_≡_, refl, ap, sym, _∙_}
 use mathlib.Core.List.{List, [], _∷_, _++_}
 use native.Mathlib.Omega.{arith}
 use native.Mathlib.Nat.{add-zero}
-use lib.ListN.{length, set, length-append, length-set}
-use lib.Seq.{sets, set-out, length-sets}
+use native.Mathlib.Numerals.{add-one}
+use lib.ListN.{length, getD, set, take, length-append, length-set}
+use lib.Seq.{sets, set-out, length-sets, take-suc}
 use Rattle.tokens.proofs.Cases.{by-lt}
 use Rattle.writer.specs.Put.{Put, most}
 
@@ -36,9 +37,6 @@ none x e a h = record { fits = a; same = refl; count = omega arith; bytes = refl
 pub stored : (x : List ℕ) (e b : ℕ) → length x ≤ most → e < most → Put x e (set x e b) (e + 1) (b ∷ [])
 stored x e b a k = record { fits = a; same = length-set x e b; count = omega arith; bytes = refl }
 
-pub skipped : (x : List ℕ) (e b f : ℕ) → length x ≤ most → length x ≤ e → f ≡ min (e + 1) most → Put x e x f (b ∷ [])
-skipped x e b f a h k = record { fits = a; same = refl; count = k; bytes = sym (set-out x e b h) }
-
 pub then : {x y z v w : List ℕ} {e f g : ℕ} → Put x e y f v → Put y f z g w → Put x e z g (v ++ w)
 then {x} {y} {z} {v} {w} {e} {f} {g} p q =
     let l : length (v ++ w) ≡ length v + length w = length-append v w in
@@ -51,3 +49,19 @@ then {x} {y} {z} {v} {w} {e} {f} {g} p q =
 
 pub put-as : {x y v w : List ℕ} {e f : ℕ} → v ≡ w → Put x e y f v → Put x e y f w
 put-as u p = rw u at p
+
+-- all of them past the end
+pub past-end : (x v : List ℕ) (e f : ℕ) → length x ≤ most → length x ≤ e → f ≡ min (e + length v) most → Put x e x f v
+past-end x v e f a h k = record { fits = a; same = refl; count = k; bytes = sym (sets-out x v e h) }
+
+put-to : {x y v : List ℕ} {e f g : ℕ} → f ≡ g → Put x e y f v → Put x e y g v
+put-to u p = rw u at p
+
+-- one byte more of those that have room
+pub inside-on : (x y s : List ℕ) (e i : ℕ) → i < length s → e + length s ≤ length x → Put x e y (e + i) (take i s) →
+    Put x e (set y (e + i) (getD s i 0)) (e + (i + 1)) (take (i + 1) s)
+inside-on x y s e i h k p =
+    let q = then p (stored y (e + i) (getD s i 0) (omega (arith, p .fits, p .same)) (omega (arith, p .fits))) in
+    let n : e + i + 1 ≡ e + (i + 1) = omega arith in
+    let t : take i s ++ (getD s i 0 ∷ []) ≡ take (i + 1) s = sym (take-suc s i 0 h) ∙ ap (λ (j : ℕ). take j s) (sym (add-one i)) in
+    put-as t (put-to n q)

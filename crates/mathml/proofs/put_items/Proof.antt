@@ -1,8 +1,6 @@
 -- The items of the root, one after the other.
 use native.Mathlib.Omega.{arith}
-use mathlib.Core.Path.{_∙_}
 use Rattle.mathml.proofs.Items.{Midway, begin, more, done}
-use borrow.Author.Needs.{needs}
 use Rattle.mathml.proofs.put_items.Statement.{statement}
 use Rattle.mathml.proofs.put_items.Tie as tie
 
@@ -16,17 +14,20 @@ abbrev μ-loop : tie.MeasureT-loop
 loop-holds : tie.Need-loop-holds Inv-loop μ-loop
 loop-holds c = begin _ _ _ _ _ (omega arith) (omega arith)
 
+inner-place-requires : tie.Need-inner-place-requires Inv-loop μ-loop
+inner-place-requires c κs = c .before .loop .inv .upto
+
 put-node-requires : tie.Need-put-node-requires Inv-loop μ-loop
-put-node-requires c κs = c .before .before .loop .inv .upto
+put-node-requires c κs = c .before .inner-place .ensures .upto
 
 sub-left : tie.Need-sub-left Inv-loop μ-loop
-sub-left c = omega (arith, c .before .before .before .before .loop-test .taken)
+sub-left c = omega (arith, c .before .before .before .before .before .loop-test .taken)
 
 loop-less : tie.Need-loop-less Inv-loop μ-loop
-loop-less c = omega (arith, c .before .before .before .before .loop-test .taken)
+loop-less c = omega (arith, c .before .before .before .before .before .loop-test .taken)
 
 loop-again : tie.Need-loop-again Inv-loop μ-loop
-loop-again c = more _ _ _ _ _ (c .before .before .before .before .before .loop .inv) (omega (arith, c .before .before .before .before .loop-test .taken)) (c .before .before .put-node .ensures)
+loop-again c = more _ _ _ _ _ (c .before .before .before .before .before .before .loop .inv) (c .before .before .before .before .inner-place .ensures) (omega (arith, c .before .before .before .before .before .loop-test .taken)) (c .before .before .put-node .ensures)
 
 same-length : tie.Need-same-length Inv-loop μ-loop
 same-length c = c .before .loop .inv .same
@@ -35,4 +36,4 @@ returns : tie.Need-returns Inv-loop μ-loop
 returns c = done _ _ _ _ _ (c .before .loop .inv) (c .loop-test .left)
 
 pub put-items-spec : {M : Type 1} → statement M
-put-items-spec = tie.close (tie.spec Inv-loop μ-loop loop-holds put-node-requires sub-left loop-less loop-again same-length returns)
+put-items-spec = tie.close (tie.spec Inv-loop μ-loop loop-holds inner-place-requires put-node-requires sub-left loop-less loop-again same-length returns)

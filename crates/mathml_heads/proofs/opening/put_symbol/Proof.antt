@@ -7,7 +7,6 @@ use Rattle.mathml_rules.specs.Mathml.{symbolElement}
 use Prim.Native.Nat.{ℕ}
 use mathlib.Core.List.{List}
 use mathlib.Core.Path.{_≡_}
-use Rattle.mathml_heads.specs.Spans.{classOf}
 use Rattle.mathml_heads.proofs.Parts.{glyph}
 use borrow.Author.Needs.{needs}
 use Rattle.mathml_heads.proofs.opening.put_symbol.Statement.{statement}

@@ -1,5 +1,4 @@
 -- A command by itself.
-use mathlib.Core.Path.{_∙_}
 use borrow.Author.Needs.{needs}
 use Rattle.mathml_heads.proofs.refusal.refuses_unary.Statement.{statement}
 use Rattle.mathml_heads.proofs.refusal.refuses_unary.Tie as tie

@@ -1,7 +1,6 @@
 -- How many arguments a script has.
 use Rattle.mathml_rules.specs.Mathml.{arguments}
 use Rattle.mathml_heads.proofs.Parts.{no-arguments}
-use borrow.Author.Needs.{needs}
 use Rattle.mathml_heads.proofs.script.arguments_of.Statement.{statement}
 use Rattle.mathml_heads.proofs.script.arguments_of.Tie as tie
 

@@ -1,7 +1,6 @@
 -- An end tag by the element's number; a number that no arm has is an mrow's.
 use Prim.Native.Nat.{ℕ}
 use mathlib.Core.Path.{refl}
-use mathlib.Core.List.{[]}
 use mathlib.Core.Logic.{inl, inr}
 use Rattle.writer.proofs.Puts.{put-as}
 use Rattle.mathml_rules.specs.Elements.{elements, elementOf}
