@@ -76,7 +76,7 @@ cells-join : {l m : Nodes} → Cells l → Cells m → Cells (l ⧺ m)
 cells-join Cells.no-more-cells d = d
 cells-join (Cells.cell e c) d = Cells.cell e (cells-join c d)
 
-count-join : (l m : Nodes) → count (l ⧺ m) ≡ count l + count m
+pub count-join : (l m : Nodes) → count (l ⧺ m) ≡ count l + count m
 count-join end m = omega arith
 count-join (x ▸ l) m = omega (arith, count-join l m)
 

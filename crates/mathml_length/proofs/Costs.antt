@@ -1,6 +1,6 @@
 -- What a node costs: in no mode is it written with more bytes.
 use Prim.Native.Nat.{ℕ, suc, _+_, _*_, _≤_}
-use mathlib.Core.Path.{_≡_, refl, ap}
+use mathlib.Core.Path.{_≡_}
 use mathlib.Core.List.{List, []}
 use native.Mathlib.Omega.{arith}
 use lib.ListN.{length, take, drop}
@@ -14,6 +14,7 @@ use Rattle.mathml_rules.specs.declared.Mode.the-variants as mode
 use Rattle.mathml_rules.specs.Elements.{elements, elementOf}
 use Rattle.mathml_rules.specs.Pieces.{Piece, L}
 use Rattle.mathml_rules.specs.Mathml.{own, together, child, symbolElement, atom, S, arguments, dropped, group, handed, join, out, outs, root, mathmlOf}
+use Rattle.mathml_rules.proofs.Children.{outs-length}
 use Rattle.mathml_length.proofs.Widths.{width, tags, widths, width-within, total, total-cons, total-none, total-split, child-first, esc-length, shown-length, own-length, bracket-width, around, named, unary-width, binary-width, table-width}
 
 -- a script's two tags
@@ -140,17 +141,12 @@ module _ (text : List ℕ) where
         table-width cols lines cs,
       ))
 
-  outs-count : (m : Mode) (h : Head) (i : ℕ) (l : Nodes) → length (outs text m h i l) ≡ count l
-  unfolding outs
-  outs-count m h i end = refl
-  outs-count m h i (x ▸ l) = ap suc (outs-count m h (suc i) l)
-
   mutual
     unfolding outs costs
 
     out-width : (m : Mode) (x : Node) → width (out text m x) ≤ cost x
     out-width m (node h l) =
-        rw (← outs-count m h 0 l) (omega (arith, joined m h (outs text m h 0 l), outs-width m h 0 l))
+        rw (← outs-length text m h 0 l) (omega (arith, joined m h (outs text m h 0 l), outs-width m h 0 l))
 
     outs-width : (m : Mode) (h : Head) (i : ℕ) (l : Nodes) → total (outs text m h i l) ≤ costs l
     outs-width m h i end = omega (arith, total-none)

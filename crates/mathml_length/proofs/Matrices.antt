@@ -1,16 +1,16 @@
 -- A matrix costs no more than its rows and its brackets, with six bytes for each cell of the first row, and 38.
 use Prim.Native.Nat.{ℕ, _+_, _*_, _≤_}
-use mathlib.Core.Path.{_≡_}
 use mathlib.Core.List.{List, [], _∷_}
 use mathlib.Core.Bool.{Bool, true, false}
 use native.Mathlib.Omega.{arith}
 use native.Mathlib.Nat.{le-refl}
 use lib.ListN.{length}
 use Rattle.tokens.specs.Lexeme.{Span}
-use Rattle.tree.specs.Tree.{Nodes, end, _▸_, _⧺_, count}
+use Rattle.tree.specs.Tree.{Nodes, end, _▸_, count}
 use Rattle.reading.specs.Entries.{Entry}
 use Rattle.reading.specs.Reading.{Rows, splitColumnLines, joinRows, keepCells, keptCols}
 use Rattle.bounds.proofs.Columns.{rowsOf, maskOf, cols-length, split-either}
+use Rattle.bounds.proofs.WellFormed.{count-join}
 use Rattle.mathml_length.proofs.Costs.{cost, costs, costs-join}
 
 kept-cols : (m : List Bool) → keptCols m ≤ length m
@@ -18,10 +18,6 @@ unfolding keptCols
 kept-cols [] = omega arith
 kept-cols (true ∷ m) = omega (arith, kept-cols m)
 kept-cols (false ∷ m) = omega (arith, kept-cols m)
-
-count-join : (l m : Nodes) → count (l ⧺ m) ≡ count l + count m
-count-join end m = omega arith
-count-join (x ▸ l) m = omega (arith, count-join l m)
 
 module _ (text : List ℕ) where
   -- a row's cells, with the two tags of a row for each

@@ -2,7 +2,8 @@
 // partner have the same letter.
 use closers::PairedText;
 use libc::STDIN_FILENO;
-use libc::STDOUT_FILENO;
+use read_output::write_line;
+use read_output::write_refusal;
 use tokens::kinds::SPACE;
 ghost use Prim.Native.Nat.{_*_, _≤_, _<_};
 ghost use lib.ListN.{length};
@@ -91,19 +92,6 @@ fn show_bytes(text: &[u8], line: &mut [u8])
         line[i] = shown(text[i]);
         i += 1;
     }
-}
-
-fn write_line(line: &[u8], len: usize)
-    requires { ⌜ len ≤ length (now line) ⌝ }
-{
-    io::write_all(STDOUT_FILENO, &line[..len]);
-    io::write_all(STDOUT_FILENO, b"\n");
-}
-
-fn write_refusal(number: u8) {
-    io::write_all(STDOUT_FILENO, b"refused=");
-    io::print_decimal(STDOUT_FILENO, number as u64);
-    io::write_all(STDOUT_FILENO, b"\n");
 }
 
 // A text of more bytes is refused.

@@ -1,22 +1,8 @@
 // The program of `./read --mathml`: reads a text from standard input and writes its MathML, and a newline.
 use libc::STDIN_FILENO;
-use libc::STDOUT_FILENO;
 use mathml::Marked;
-ghost use Prim.Native.Nat.{_≤_};
-ghost use lib.ListN.{length};
-
-fn write_line(line: &[u8], len: usize)
-    requires { ⌜ len ≤ length (now line) ⌝ }
-{
-    io::write_all(STDOUT_FILENO, &line[..len]);
-    io::write_all(STDOUT_FILENO, b"\n");
-}
-
-fn write_refusal(number: u8) {
-    io::write_all(STDOUT_FILENO, b"refused=");
-    io::print_decimal(STDOUT_FILENO, number as u64);
-    io::write_all(STDOUT_FILENO, b"\n");
-}
+use read_output::write_line;
+use read_output::write_refusal;
 
 // A text of more bytes is refused.
 const MOST: usize = 500;

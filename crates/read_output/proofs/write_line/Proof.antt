@@ -1,0 +1,28 @@
+-- `write_line` is safe.
+use mathlib.Core.Path.{sym}
+use native.Mathlib.Omega.{arith}
+use lib.Seq.{length-take-le}
+use borrow.Author.Needs.{needs}
+use Rattle.read_output.proofs.write_line.Statement.{statement}
+use Rattle.read_output.proofs.write_line.Tie as tie
+
+slice-aggregate-write-all : tie.Need-slice-aggregate-write-all
+slice-aggregate-write-all c = sym (length-take-le _ _ (omega (arith, c .before .if1 .taken)))
+
+write-all-requires : tie.Need-write-all-requires
+write-all-requires c κs = search needs
+
+write-all-requires-2 : tie.Need-write-all-requires-2
+write-all-requires-2 c κs = search needs
+
+slice-aggregate-write-all-2 : tie.Need-slice-aggregate-write-all-2
+slice-aggregate-write-all-2 c = search needs
+
+write-all-requires-3 : tie.Need-write-all-requires-3
+write-all-requires-3 c κs = search needs
+
+returns : tie.Need-returns
+returns c = search needs
+
+pub write-line-spec : {M : Type 1} → statement M
+write-line-spec = tie.close (tie.spec slice-aggregate-write-all write-all-requires write-all-requires-2 slice-aggregate-write-all-2 write-all-requires-3 returns)
