@@ -9,7 +9,8 @@
  * Every call returns 0 and puts its values first into `answer`, as many as `answer_len` has words
  * for (those behind stay as they were), or it returns the number of a refusal (below) and leaves
  * `answer` as it was. No bytes, words or lengths are wrong to pass: whatever they are, the call
- * ends with one of the two. A refusal writes nothing at all, except from ASCIIMATH_SHORT_PRINT on.
+ * ends with one of the two. A refusal writes nothing at all, except 10, 11 and 12, which come after a
+ * reading.
  *
  * ## Buffers
  *
@@ -19,6 +20,12 @@
  *
  * Let n be the tokens other than Space; asciimath_count tells it, and a text of b bytes has at most
  * b tokens. The macros below give the lengths that are enough.
+ *
+ * Pass lengths for the bytes of the text, not those of whole arrays: a reading clears all words of
+ * work and tree that it is lent. One letter takes 0.1 microseconds in buffers for its one byte and 5 in
+ * buffers for 4,096 tokens, several times as much where those words are not in the cache. The table,
+ * closers and output cost nothing more if they are longer. A table for as many tokens as the text has
+ * bytes is quickest: a shorter one has the tokens counted first.
  *
  * ## Threads and stack
  *
@@ -33,19 +40,24 @@
  *     #include <stdio.h>
  *     #include <string.h>
  *
+ *     // room for any text
+ *     static uint32_t table[ASCIIMATH_TABLE_WORDS(ASCIIMATH_MAX)];
+ *     static uint32_t work[ASCIIMATH_WORK_WORDS(ASCIIMATH_MAX)];
+ *     static uint32_t tree[ASCIIMATH_TREE_WORDS(ASCIIMATH_MAX)];
+ *
  *     int main(void) {
  *         const char *text = "[[1,2],[3,4]]";
- *         uint32_t table[ASCIIMATH_TABLE_WORDS(100)], work[ASCIIMATH_WORK_WORDS(100)];
- *         uint32_t tree[ASCIIMATH_TREE_WORDS(100)];
+ *         size_t b = strlen(text) < ASCIIMATH_MAX ? strlen(text) : ASCIIMATH_MAX;
  *         uint64_t answer[4];
+ *         // lent as much as a text of b bytes can need
  *         uint32_t refusal = asciimath_parse((const uint8_t *)text, strlen(text), table,
- *             ASCIIMATH_TABLE_WORDS(100), work, ASCIIMATH_WORK_WORDS(100), tree,
- *             ASCIIMATH_TREE_WORDS(100), answer, 4);
+ *             ASCIIMATH_TABLE_WORDS(b), work, ASCIIMATH_WORK_WORDS(b), tree, ASCIIMATH_TREE_WORDS(b),
+ *             answer, 4);
  *         if (refusal != 0)
- *             return printf("refused=%u\n", refusal), 1;
+ *             return printf("refused=%u\n", (unsigned)refusal), 1;
  *         // 13 tokens, 1 item; its first word is 0, then a simple node, then the matrix
  *         printf("tokens=%u items=%u matrix=%d\n", (unsigned)answer[0], (unsigned)answer[2],
- *             tree[7] == ASCIIMATH_MATRIX);
+ *             tree[7] == ASCIIMATH_NODE_MATRIX);
  *         return 0;
  *     }
  *
@@ -61,6 +73,16 @@
 #ifdef __cplusplus
 extern "C" {
 #endif
+
+/* The version of this header and of the Rust crate, as one number that can be compared, also by #if, and
+ * its parts. MINOR goes up, from 1.0.0 on MAJOR, where a program may have to follow: a name, a number, a
+ * length that is asked for or a call's meaning is another. PATCH goes up where something is only added or
+ * put right. The archive does not hold it: take header and archive from one checkout. */
+#define ASCIIMATH_VERSION_MAJOR 0
+#define ASCIIMATH_VERSION_MINOR 1
+#define ASCIIMATH_VERSION_PATCH 0
+#define ASCIIMATH_VERSION \
+    (10000 * ASCIIMATH_VERSION_MAJOR + 100 * ASCIIMATH_VERSION_MINOR + ASCIIMATH_VERSION_PATCH)
 
 /* A text has at most so many bytes, and a token list so many tokens. */
 #define ASCIIMATH_MAX 4096
@@ -83,21 +105,21 @@ extern "C" {
 
 /* Refusals. The first that meets a call, in the order named at each call, is the answer. */
 enum asciimath_refusal {
-    ASCIIMATH_LONG_TEXT = 1,    /* the text is longer than 4,096 bytes */
-    ASCIIMATH_NOT_ASCII = 2,    /* a byte of the text is 128 or more */
-    ASCIIMATH_TOKEN_COUNT = 3,  /* over 4,096 tokens claimed, or fewer than 3 words for each */
-    ASCIIMATH_TOKEN_KIND = 4,   /* a token's kind is above 23 */
-    ASCIIMATH_TOKEN_SPAN = 5,   /* a token's start + length, not wrapped, passes the text's end */
-    ASCIIMATH_DOUBLE_SPACE = 6, /* a Space token directly after a Space of length 1 or more */
-    ASCIIMATH_SHORT_TABLE = 7,  /* the table has fewer than ASCIIMATH_TABLE_WORDS(tokens) words */
-    ASCIIMATH_SHORT_WORK = 8,   /* work has fewer than ASCIIMATH_WORK_WORDS(n) words, or the buffer
-                                   of closers fewer than ASCIIMATH_CLOSERS_WORDS(n) */
-    ASCIIMATH_SHORT_TREE = 9,   /* tree has fewer than ASCIIMATH_TREE_WORDS(n) words */
-    ASCIIMATH_SHORT_PRINT = 10, /* the print buffer is shorter than the whole print */
-    ASCIIMATH_NO_MATHML = 11,   /* the tree holds id, class, color, a font command, a column line at a
-                                   matrix's edge or a second at one place, or a byte below 32 other
-                                   than 9, 10 and 13 */
-    ASCIIMATH_SHORT_MATHML = 12 /* the output buffer is shorter than the MathML */
+    ASCIIMATH_REFUSED_LONG_TEXT = 1,    /* the text is longer than 4,096 bytes */
+    ASCIIMATH_REFUSED_NOT_ASCII = 2,    /* a byte of the text is 128 or more */
+    ASCIIMATH_REFUSED_TOKEN_COUNT = 3,  /* over 4,096 tokens claimed, or fewer than 3 words for each */
+    ASCIIMATH_REFUSED_TOKEN_KIND = 4,   /* a token's kind is above 23 */
+    ASCIIMATH_REFUSED_TOKEN_SPAN = 5,   /* a token's start + length, not wrapped, passes the text's end */
+    ASCIIMATH_REFUSED_DOUBLE_SPACE = 6, /* a Space token directly after a Space of length 1 or more */
+    ASCIIMATH_REFUSED_SHORT_TABLE = 7,  /* the table has fewer than ASCIIMATH_TABLE_WORDS(tokens) words */
+    ASCIIMATH_REFUSED_SHORT_WORK = 8,   /* work has fewer than ASCIIMATH_WORK_WORDS(n) words, or the
+                                           buffer of closers fewer than ASCIIMATH_CLOSERS_WORDS(n) */
+    ASCIIMATH_REFUSED_SHORT_TREE = 9,   /* tree has fewer than ASCIIMATH_TREE_WORDS(n) words */
+    ASCIIMATH_REFUSED_SHORT_PRINT = 10, /* the print buffer is shorter than the whole print */
+    ASCIIMATH_REFUSED_NO_MATHML = 11,   /* the tree holds id, class, color, a font command, a column line
+                                           at a matrix's edge or a second at one place, or a byte below
+                                           32 other than 9, 10 and 13 */
+    ASCIIMATH_REFUSED_SHORT_MATHML = 12 /* the output buffer is shorter than the MathML */
 };
 
 /* Kinds of tokens. A token table has three words a token: its start and its length in the text, and
@@ -124,14 +146,14 @@ enum asciimath_token {
 
 /* Classes of symbols. */
 enum asciimath_class {
-    ASCIIMATH_GLYPH = 0,
-    ASCIIMATH_NAME = 1,
-    ASCIIMATH_JOINING = 2,
-    ASCIIMATH_JOINING_NAME = 3,
-    ASCIIMATH_LEADING = 4,
-    ASCIIMATH_LEADING_NAME = 5,
-    ASCIIMATH_SPACE_SYMBOL = 6,
-    ASCIIMATH_SEPARATOR = 7
+    ASCIIMATH_CLASS_GLYPH = 0,
+    ASCIIMATH_CLASS_NAME = 1,
+    ASCIIMATH_CLASS_JOINING = 2,
+    ASCIIMATH_CLASS_JOINING_NAME = 3,
+    ASCIIMATH_CLASS_LEADING = 4,
+    ASCIIMATH_CLASS_LEADING_NAME = 5,
+    ASCIIMATH_CLASS_SPACE = 6, /* written as a symbol, like quad */
+    ASCIIMATH_CLASS_SEPARATOR = 7
 };
 
 /* Kinds of nodes, and the nodes below each.
@@ -155,32 +177,32 @@ enum asciimath_class {
  * whose numerator and denominator follow, 0 for any other, which follows. A numerator, a
  * denominator and an item other than a fraction or a space is a simple, func or signed. */
 enum asciimath_node {
-    ASCIIMATH_MISSING = 0,
-    ASCIIMATH_NUMBER = 1,
-    ASCIIMATH_TEXT = 2,
-    ASCIIMATH_IDENT = 3,
-    ASCIIMATH_OPERATOR = 4,
-    ASCIIMATH_SIGN = 5,
-    ASCIIMATH_SPACE = 6, /* an item: blanks between two others */
-    ASCIIMATH_SYMBOL = 7,
-    ASCIIMATH_SIGNED = 8,          /* its operand: simple, func or signed */
-    ASCIIMATH_SIMPLE_SIGNED = 9,   /* its operand */
-    ASCIIMATH_UNARY = 10,          /* its argument */
-    ASCIIMATH_SIMPLE_FUNC = 11,    /* its argument */
-    ASCIIMATH_BINARY = 12,         /* its two arguments */
-    ASCIIMATH_SIMPLE = 13,         /* what it scripts, then sub, then super */
-    ASCIIMATH_FUNC = 14,           /* sub, super, then its argument: simple, func or signed */
-    ASCIIMATH_GROUP = 15,          /* items */
-    ASCIIMATH_MATRIX = 16,         /* cells, row by row; then the column lines */
-    ASCIIMATH_CELL = 17            /* items */
+    ASCIIMATH_NODE_MISSING = 0,
+    ASCIIMATH_NODE_NUMBER = 1,
+    ASCIIMATH_NODE_TEXT = 2,
+    ASCIIMATH_NODE_IDENT = 3,
+    ASCIIMATH_NODE_OPERATOR = 4,
+    ASCIIMATH_NODE_SIGN = 5,
+    ASCIIMATH_NODE_SPACE = 6, /* an item: blanks between two others */
+    ASCIIMATH_NODE_SYMBOL = 7,
+    ASCIIMATH_NODE_SIGNED = 8,        /* its operand: simple, func or signed */
+    ASCIIMATH_NODE_SIMPLE_SIGNED = 9, /* its operand */
+    ASCIIMATH_NODE_UNARY = 10,        /* its argument */
+    ASCIIMATH_NODE_SIMPLE_FUNC = 11,  /* its argument */
+    ASCIIMATH_NODE_BINARY = 12,       /* its two arguments */
+    ASCIIMATH_NODE_SIMPLE = 13,       /* what it scripts, then sub, then super */
+    ASCIIMATH_NODE_FUNC = 14,         /* sub, super, then its argument: simple, func or signed */
+    ASCIIMATH_NODE_GROUP = 15,        /* items */
+    ASCIIMATH_NODE_MATRIX = 16,       /* cells, row by row; then the column lines */
+    ASCIIMATH_NODE_CELL = 17          /* items */
 };
 
 /* Scripts of a simple or func. */
 enum asciimath_script {
-    ASCIIMATH_NO_SCRIPT = 0,
-    ASCIIMATH_SUB = 1,
-    ASCIIMATH_SUPER = 2,
-    ASCIIMATH_SUBSUPER = 3
+    ASCIIMATH_SCRIPT_NONE = 0,
+    ASCIIMATH_SCRIPT_SUB = 1,
+    ASCIIMATH_SCRIPT_SUPER = 2,
+    ASCIIMATH_SCRIPT_SUBSUPER = 3
 };
 
 /* Counts the tokens of a text.

@@ -1,12 +1,13 @@
 #!/usr/bin/env bash
 # Build a program that has the Rust original and the project's archive in one process, as OUT/NAME.
 #
-#   build.sh NAME SRC LIB OUT
+#   build.sh NAME SRC LIB OUT [FLAGS..]
 #
 # NAME is `compare`, which takes the original with a counter of takes, or `bench`, which takes it as it
-# is. SRC is the Rust original, as for oracle/build.sh; LIB is the archive.
+# is. SRC is the Rust original, as for oracle/build.sh; LIB is the archive. FLAGS are more of rustc's, for
+# the program alone.
 set -euo pipefail
-[ $# -eq 4 ] || { echo "usage: build.sh NAME SRC LIB OUT" >&2; exit 2; }
+[ $# -ge 4 ] || { echo "usage: build.sh NAME SRC LIB OUT [FLAGS..]" >&2; exit 2; }
 here=$(cd "$(dirname "$0")" && pwd)
 name=$1
 out=$4
@@ -23,4 +24,4 @@ compile --crate-type rlib --crate-name asciimath -l static=asciimath \
     "$here/../bindings/rust/src/lib.rs" --out-dir "$out"
 compile --crate-name "$name" -L "$out" --extern asciimath="$out/libasciimath.rlib" \
     --extern asciimath_parser="$original/libasciimath_parser.rlib" \
-    "$here/$name/main.rs" -o "$out/$name"
+    "${@:5}" "$here/$name/main.rs" -o "$out/$name"

@@ -15,8 +15,9 @@ sys.dont_write_bytecode = True
 from spellings import TOKENS, antt_row, rows_of_rust
 
 
-def constant(name, kind, numbers):
-    lines = [f"const {name}: [{kind}; {len(numbers)}] = ["]
+def constant(name, kind, length, numbers):
+    lines = [f"pub(crate) const {length}: usize = {len(numbers)};"]
+    lines.append(f"pub(crate) const {name}: [{kind}; {length}] = [")
     for at in range(0, len(numbers), 20):
         lines.append("    " + " ".join(f"{number}," for number in numbers[at : at + 20]))
     return "\n".join(lines + ["];"])
@@ -51,9 +52,9 @@ def main():
         64 * sum(key[0] < byte for key in keys) + alone.get(byte, kind_alone(byte))
         for byte in range(129)
     ]
-    print(constant("BYTES", "u8", list(b"".join(keys))))
-    print(constant("ROWS", "u16", words))
-    print(constant("FIRST", "u16", firsts))
+    print(constant("BYTES", "u8", "ALL_BYTES", list(b"".join(keys))))
+    print(constant("ROWS", "u16", "ROW_WORDS", words))
+    print(constant("FIRST", "u16", "BYTE_WORDS", firsts))
 
 
 main()

@@ -31,26 +31,26 @@ static size_t node(size_t at, int depth) {
     line(depth, NAMES[kind], words + 1);
     at += 6;
     switch (kind) {
-    case ASCIIMATH_SIGNED:
-    case ASCIIMATH_SIMPLE_SIGNED:
-    case ASCIIMATH_UNARY:
-    case ASCIIMATH_SIMPLE_FUNC:
+    case ASCIIMATH_NODE_SIGNED:
+    case ASCIIMATH_NODE_SIMPLE_SIGNED:
+    case ASCIIMATH_NODE_UNARY:
+    case ASCIIMATH_NODE_SIMPLE_FUNC:
         below = 1;
         break;
-    case ASCIIMATH_BINARY:
+    case ASCIIMATH_NODE_BINARY:
         below = 2;
         break;
-    case ASCIIMATH_SIMPLE:
-    case ASCIIMATH_FUNC:
-        below = count == ASCIIMATH_SUBSUPER ? 3 : count == ASCIIMATH_NO_SCRIPT ? 1 : 2;
+    case ASCIIMATH_NODE_SIMPLE:
+    case ASCIIMATH_NODE_FUNC:
+        below = count == ASCIIMATH_SCRIPT_SUBSUPER ? 3 : count == ASCIIMATH_SCRIPT_NONE ? 1 : 2;
         break;
-    case ASCIIMATH_MATRIX:
+    case ASCIIMATH_NODE_MATRIX:
         below = count;
         lines = words[7];
         at += 2;
         break;
-    case ASCIIMATH_GROUP:
-    case ASCIIMATH_CELL:
+    case ASCIIMATH_NODE_GROUP:
+    case ASCIIMATH_NODE_CELL:
         return items(at, count, depth + 1);
     }
     while (below-- > 0)

@@ -4,7 +4,7 @@
 #   callgrind.sh SRC [LIB]
 #
 # SRC and LIB as for run.sh. Each text of a group is read once, after it was read once uncounted. The
-# calls are those of main.rs, but for `any` and the crate's tokens. Long clears and copies go by
+# calls are those of calls.rs, but for `4,096` and the crate's tokens. Long clears and copies go by
 # vector instructions here: of a `rep stos` or `rep movs` valgrind would count each byte.
 set -euo pipefail
 [ $# -eq 1 ] || [ $# -eq 2 ] || { echo "usage: callgrind.sh SRC [LIB]" >&2; exit 2; }
@@ -31,5 +31,5 @@ declare -A original # by what is called, as `parse` by several calls, and the gr
         ours=$(instructions "$call" "$group" ours)
         awk -v call="$call" -v group="$group" -v bytes="$bytes" -v original="${original[$key]}" -v ours="$ours" \
             'BEGIN { printf "%s\t%s\t%d\t%.1f\t%.1f\t%.2f\n", call, group, bytes, original / bytes, ours / bytes, ours / original }'
-    done < <("$out/bench" "$here/texts.txt" names | grep -v -e '^parse, any' -e '^tokens, crate')
+    done < <("$out/bench" "$here/texts.txt" names | grep -v -e ', 4,096' -e '^tokens, crate')
 } | column -t -s "$(printf '\t')"

@@ -24,7 +24,7 @@ static const char *const NAMES[CALLS] = {"count", "tokens", "lookup",  "parse", 
                                          "print", "mathml", "closers", "closers_text"};
 enum { PAGE = 4096 };
 
-static uint64_t made[ASCIIMATH_SHORT_MATHML + 1], seed = 1;
+static uint64_t made[ASCIIMATH_REFUSED_SHORT_MATHML + 1], seed = 1;
 
 static void fail(const char *what) {
     fprintf(stderr, "%s, on %s\n", what, line ? line : "random bytes");
@@ -254,7 +254,7 @@ int main(int argc, char **argv) {
     }
     free(line);
     printf("%s: %zu cases; calls accepted %" PRIu64 ", refused", mode, cases, made[0]);
-    for (int k = 1; k <= ASCIIMATH_SHORT_MATHML; k++) printf(" %d: %" PRIu64, k, made[k]);
+    for (int k = 1; k <= ASCIIMATH_REFUSED_SHORT_MATHML; k++) printf(" %d: %" PRIu64, k, made[k]);
     printf("\n");
     for (int which = 0; measure && which < CALLS; which++)
         printf("stack of %s: %zu bytes (%s)\n", NAMES[which], need[which], needs_line[which]);

@@ -63,14 +63,14 @@ printf '%0501d' 0 | run "501 bytes" 'refused=1'
 printf '\177ELF\002\001\200\000' | run "binary" 'refused=2'
 { head -c 100000000 /dev/zero || true; } | run "100 million bytes" 'refused=1'
 printf '%0.s(' {1..500} | run "500 brackets" 'text=500 tokens=500 takes=2116 items=1'
-run "a folder" "$blank" < "$out"
+run "a folder" "read: can't read the input: Is a directory" < "$out"
 status=0
 timeout 60 "$program" <&- > "$out/got" 2> "$out/err" || status=$?
-said "closed input" $status "$blank"
+said "closed input" $status "read: can't read the input: Bad file descriptor"
 : > "$out/got"
 status=0
 printf 'x' | timeout 60 "$program" > /dev/full 2> "$out/err" || status=$?
-said "no room for output" $status ''
+said "no room for output" $status "read: can't write the answer: No space left on device"
 status=0
 printf 'x' | timeout 60 "$program" >&- 2> "$out/err" || status=$?
-said "closed output" $status ''
+said "closed output" $status "read: can't write the answer: Bad file descriptor"

@@ -3,6 +3,10 @@
 //! Each answers 0 and puts its values first into `answer`, as many as it has words for, or answers
 //! a refusal's number and leaves `answer` as it was. Every call is total: no bytes, words or lengths
 //! are wrong to pass. include/asciimath.h says what each reads and writes.
+//!
+//! Lend slices for the bytes of the text, not whole buffers: a reading clears all words of work and
+//! tree that it is lent. One letter takes 0.1 µs in buffers for its one byte and 5 in buffers for
+//! 4,096 tokens, several times as much where those words are not in the cache.
 
 /// A slice as the library takes it: a pointer, then the number of elements.
 trait Lent {

@@ -5,10 +5,10 @@ ghost use Rattle.lexing.specs.Rules.{blank, runEnd};
 fn is_blank(c: u8) -> bool
     ensures { λ r. ⌜ r ≡ blank c ⌝ }
 {
-    if c == 32 {
+    if c == b' ' {
         return true;
     }
-    9 <= c && c <= 13
+    b'\t' <= c && c <= b'\r'
 }
 
 // Where the blanks from the place on end; past the text's end there are none.

@@ -1,8 +1,9 @@
 -- How many words stand in the tree's buffer while a list is read: those of any partial tree, of all readers that are open, in an
 -- attempt that is given back too. It is here so that "tree 32 × (n + 1)" can be shown to be enough at every step, and not for the
--- finished tree alone. Each reader of Reading.antt is counted step by step. That a count is of its reader, and leaves no
--- step out, is in its type. The numbers are those of docs/LAYOUT.md; a node's own words stand in front of the nodes below it, so
--- they are put before those are read.
+-- finished tree alone. It is a count over the definition: each reader of Reading.antt is counted step by step, and that a count is of
+-- its reader, and leaves no step out, is in its type. No theorem ties it to the code, which could write elsewhere or more; that the code
+-- stays inside the buffer is in the contracts of its own functions (crates/parse/specs/Buffer.antt, Meet.antt), at every write. The
+-- numbers are those of docs/LAYOUT.md; a node's own words stand in front of the nodes below it, so they are put before those are read.
 use Prim.Native.Nat.{ℕ, zero, suc, _+_, max}
 use mathlib.Core.List.{List, [], _∷_}
 use mathlib.Core.Option.{Option, none, some}

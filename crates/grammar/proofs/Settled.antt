@@ -9,11 +9,12 @@ use lib.ListN.{length, replicate, getElem?, length-map}
 use Rattle.tokens.specs.declared.token.Token.{Token}
 use Rattle.tokens.specs.declared.token.Token.the-variants as token
 use Rattle.tokens.specs.Lexeme.{Span, Lexeme}
+use Rattle.tokens.specs.Table.{countOthers}
 use Rattle.tree.specs.Tree.{nowhere, Script, Head, Atom, Prefix, Node, node, Nodes, end, _▸_, leaf, one}
 use Rattle.reading.specs.Stop.{Stop}
 use Rattle.reading.specs.Entries.{Entry, is, entries}
 use Rattle.grammar.specs.Grammar.{Constant, tok, S, const, bracketed, unary, binary, I, bare, sub, super, subsuper}
-use Rattle.grammar.specs.Grammar.{E, more, fraction, alone, treeS, treeI, treeE, others, Short, Settled}
+use Rattle.grammar.specs.Grammar.{E, more, fraction, alone, treeS, treeI, treeE, ofKind, others, Short, Settled}
 use Rattle.grammar.specs.Strip.{isSpaceItem, strip}
 use Rattle.reading.specs.Reading.{State, M, Readers, marksScript, heads, begins, prefixes, isAt, advance, argument}
 use Rattle.reading.specs.Reading.{nextScript, nextScriptFunc, nextIntermediate, atOpenClose, intermediates, tryMatrix}
@@ -412,6 +413,16 @@ module _ {ts : List Lexeme} (es : List Entry) (of : map lexemeOf es ≡ ts) wher
   sep-free : E ts → NoSep (map lexemeOf es)
   sep-free d = rw of (E-sep d)
 
+-- n is the length of the list without its Space tokens.
+pub others-count : (ts : List Lexeme) → length (others ts) ≡ countOthers ts
+unfolding others ofKind countOthers
+others-count [] = refl
+others-count (t ∷ ts) = go (ofKind token.Space t) refl (others-count ts)
+  where
+    go : (b : Bool) → ofKind token.Space t ≡ b → length (others ts) ≡ countOthers ts → length (others (t ∷ ts)) ≡ countOthers (t ∷ ts)
+    go true e rest = rw (e, others, countOthers) rest
+    go false e rest = rw (e, others, countOthers) (ap suc rest)
+
 -- A list that the grammar derives is read as derived. Document 01 asks besides that no OpenBracket directly precedes
 -- another; that is not needed: a bracket is read as a matrix only where there is a Sep.
 pub settled-tree : (text : List ℕ) (ts : List Lexeme) (d : E (others ts)) → Short ts →
@@ -422,7 +433,7 @@ settled-tree text ts d short =
     let of = entries-others nowhere ts in
     let len = length-map es lexemeOf in
     let s : State = record { pos = zero; takes = zero; marks = replicate (3 * length es) false; closers = replicate (length es) (length es) } in
-    answer (parse-E text es true (sep-free es of d) d (stands es of) (omega (arith, ap length of))) s refl
+    answer (parse-E text es true (sep-free es of d) d (stands es of) (omega (arith, ap length of, others-count ts))) s refl
 
 -- What document 01 says of the lists that it settles.
 pub settled : (text : List ℕ) (ts : List Lexeme) (s : Settled ts) →

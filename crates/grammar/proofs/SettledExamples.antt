@@ -12,6 +12,7 @@ use Rattle.lexing.specs.Longest.{begins, longestOf, longestAt}
 use Rattle.lexing.specs.Spellings.{rows}
 use Rattle.lexing.specs.Rules.{run, runEnd, blank, digit, letter, blanksAt, isTextCommand, spellingAt, numberEnd}
 use Rattle.lexing.specs.Rules.{pastPoint, numberAt, quotationAt, byteAt, readAt, tokensFrom, tokensBy, tokens}
+use Rattle.tokens.specs.Table.{countOthers}
 use Rattle.tree.specs.Tree.{Script, Head, Atom, Prefix, Node, node, end, _▸_, leaf, one}
 use Rattle.grammar.specs.Grammar.{Constant, const, bracketed, unary, binary, bare, subsuper, more, fraction, alone}
 use Rattle.grammar.specs.Grammar.{E, treeS, treeE, ofKind, others, apart, Settled}
@@ -27,7 +28,7 @@ abbrev ratio : List Lexeme
 ratio = lexeme 0 1 token.Ident ∷ lexeme 1 1 token.Frac ∷ lexeme 2 1 token.Ident ∷ []
 
 ratio-settled : Settled ratio
-unfolding others ofKind apart
+unfolding others ofKind apart countOthers
 ratio-settled = record {
   derivation =
       fraction (bare (const (at 0 1) Constant.ident refl)) (at 1 1) (bare (const (at 2 1) Constant.ident refl)) refl;
@@ -42,7 +43,7 @@ scripts =
     ∷ lexeme 4 1 token.Number ∷ lexeme 5 1 token.Space ∷ lexeme 6 1 token.Ident ∷ []
 
 scripts-settled : Settled scripts
-unfolding others ofKind apart
+unfolding others ofKind apart countOthers
 scripts-settled = record {
   derivation =
       more
@@ -62,7 +63,7 @@ nested =
     ∷ lexeme 14 1 token.CloseBracket ∷ lexeme 15 1 token.CloseBracket ∷ []
 
 nested-settled : Settled nested
-unfolding others ofKind apart
+unfolding others ofKind apart countOthers
 nested-settled = record {
   derivation =
       alone (bare (unary (at 0 4)
@@ -128,5 +129,5 @@ nested-read = read-as "sqrt(root 3 (x))" nested-settled (lexed .2)
 pub adjacent-read : strip ((readText (bytes "[(a)]")) .tree)
     ≡ unscripted (node (Head.group (at 0 1) (at 4 1)) (unscripted (node (Head.group (at 1 1) (at 3 1))
     (unscripted (ident 2 1) ▸ end)) ▸ end)) ▸ end
-unfolding treeS adjacent-derived others ofKind
+unfolding treeS adjacent-derived others ofKind countOthers
 adjacent-read = rw (lexed .3) (settled-tree (bytes "[(a)]") adjacent adjacent-derived (omega arith))

@@ -5,12 +5,12 @@ use mathlib.Core.Path.{_≡_}
 use mathlib.Core.List.{List, [], _∷_, _++_}
 use mathlib.Core.Bool.{Bool, true, false, not, _&&_}
 use lib.Dec.{eqb}
-use lib.ListN.{length}
 use Rattle.tokens.specs.declared.token.SymbolClass.{SymbolClass}
 use Rattle.tokens.specs.declared.token.Token.{Token}
 use Rattle.tokens.specs.declared.token.Token.the-variants as token
 use Rattle.tokens.specs.Kinds.{numberOf}
 use Rattle.tokens.specs.Lexeme.{Span, Lexeme}
+use Rattle.tokens.specs.Table.{countOthers}
 use Rattle.tree.specs.Tree.{Script, Head, Atom, Prefix, Node, node, Nodes, end, _▸_, leaf, one}
 
 -- "Number, Text, Ident, Operator and Symbol as constants", each with its node.
@@ -88,7 +88,7 @@ apart (t ∷ (u ∷ ts)) = not (ofKind token.OpenBracket t && ofKind token.OpenB
 
 -- "a token list of at most 127 tokens other than Space"
 abbrev pub Short : List Lexeme → Type 0
-Short ts = length (others ts) ≤ 127
+Short ts = countOthers ts ≤ 127
 
 -- The token lists that the grammar settles.
 pub record Settled (ts : List Lexeme) : Type 0 where

@@ -10,10 +10,10 @@ use Rattle.spans.specs.Spans.{byteAt}
 abbrev pub nodeWords : List ℕ → List ℕ → ℕ → ℕ → ℕ → List ℕ
 nodeWords t K i kind extra = kind ∷ startOf t K i ∷ lenOf t K i ∷ extra ∷ 0 ∷ 0 ∷ []
 
--- a leaf's node kind (Number to Operator 1 to 4, Sign 5, any other token a symbol, 7), its class, and whether it ends an operand, by
--- the kind of its token
+-- a leaf's node kind (Number 1, Text 2, Ident 3, Operator 4, Sign 5, any other token a symbol, 7), its class, and whether it ends an
+-- operand, by the kind of its token
 abbrev pub leafKind : ℕ → ℕ
-leafKind k = cond (ltb k 4) 7 (cond (ltb k 8) (k - 3) (cond (ltb k 16) 7 (cond (eqb k 16) 5 7)))
+leafKind k = cond (eqb k 4) 1 (cond (eqb k 5) 2 (cond (eqb k 6) 3 (cond (eqb k 7) 4 (cond (eqb k 16) 5 7))))
 
 abbrev pub leafClass : ℕ → ℕ
 leafClass k = cond (eqb k 3) 7 (cond (ltb k 8) 0 (cond (ltb k 16) (k - 8) 0))

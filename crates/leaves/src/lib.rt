@@ -4,15 +4,21 @@ use buffer::put6;
 use records::record::len_at;
 use records::record::start_at;
 use spans::is_byte;
+use tokens::kinds::IDENT;
 use tokens::kinds::NUMBER;
 use tokens::kinds::OPEN_CLOSE_BRACKET;
 use tokens::kinds::OPERATOR;
 use tokens::kinds::SEP;
 use tokens::kinds::SIGN;
 use tokens::kinds::SYMBOL;
+use tokens::kinds::TEXT;
+use tree::kinds::NODE_IDENT;
+use tree::kinds::NODE_NUMBER;
+use tree::kinds::NODE_OPERATOR;
 use tree::kinds::NODE_SIGN;
 use tree::kinds::NODE_SIMPLE;
 use tree::kinds::NODE_SYMBOL;
+use tree::kinds::NODE_TEXT;
 ghost use mathlib.Core.Path.{_≡_};
 ghost use Rattle.buffer.specs.Buffer.{stored};
 ghost use Rattle.leaves.specs.Leaves.{nodeWords, leafKind, leafClass, leafEnds, leafWords, plainWords, leafBar};
@@ -34,38 +40,41 @@ pub fn put_node(
     put6(tree, e, kind, start, len, extra, 0, 0);
 }
 
+// The classes of symbols that a token of another kind gets: a stray mark or bracket is a glyph.
+const GLYPH: u32 = 0;
+
+const SEPARATOR: u32 = 7;
+
+// The first kind of symbols that does not end an operand: Glyph and Name stand before it.
+const JOINING_SYMBOL: u32 = SYMBOL + 2;
+
 // A leaf's node kind, its class, and whether it ends an operand, by the kind of its token.
 fn leaf_kind(k: u32) -> u32
     ensures { λ r. ⌜ r ≡ leafKind k ⌝ }
 {
-    if k < NUMBER {
-        return NODE_SYMBOL;
+    match k {
+        NUMBER => NODE_NUMBER,
+        TEXT => NODE_TEXT,
+        IDENT => NODE_IDENT,
+        OPERATOR => NODE_OPERATOR,
+        SIGN => NODE_SIGN,
+        _ => NODE_SYMBOL,
     }
-    if k < SYMBOL {
-        return k - 3;
-    }
-    if k < SIGN {
-        return NODE_SYMBOL;
-    }
-    if k == SIGN {
-        return NODE_SIGN;
-    }
-    NODE_SYMBOL
 }
 
 fn leaf_class(k: u32) -> u32
     ensures { λ r. ⌜ r ≡ leafClass k ⌝ }
 {
     if k == SEP {
-        return 7;
+        return SEPARATOR;
     }
     if k < SYMBOL {
-        return 0;
+        return GLYPH;
     }
     if k < SIGN {
         return k - SYMBOL;
     }
-    0
+    GLYPH
 }
 
 // Of the symbols, Glyph and Name do; a stray mark and a bar alone are glyphs.
@@ -84,7 +93,7 @@ pub fn leaf_ends(k: u32) -> bool
     if k < SYMBOL {
         return false;
     }
-    if k < 10 {
+    if k < JOINING_SYMBOL {
         return true;
     }
     if k < OPEN_CLOSE_BRACKET {

@@ -5,17 +5,17 @@ use mathlib.Core.Option.{none, some}
 use Prim.Native.Nat.{ℕ, _≤_, _<_}
 use lib.ListN.{length}
 use borrow.Author.Tests.{lt-ltb, le-ltb}
-use Rattle.tokens.specs.Refusals.{textRefusal}
 use Rattle.lexing.specs.Rules.{byteAt, readAt, tokenRowAt}
+use Rattle.lexer.specs.Listing.{placeRefusal}
 use Rattle.lex.specs.declared.Lexing.the-variants.{End, Refused}
 use Rattle.lex.specs.Lex.{lexing, lexedAt}
 
 module _ (text : List ℕ) (at : ℕ) where
-  pub lex-refused : (k : ℕ) → textRefusal text ≡ some k → Refused k ≡ lexedAt text at
+  pub lex-refused : (k : ℕ) → placeRefusal text at ≡ some k → Refused k ≡ lexedAt text at
   unfolding lexedAt
   lex-refused k e = sym (rw (e, lexedAt))
 
-  module _ (a : textRefusal text ≡ none) where
+  module _ (a : placeRefusal text at ≡ none) where
     pub lex-end : length text ≤ at → End ≡ lexedAt text at
     unfolding lexedAt
     lex-end l = sym (rw (a, lexedAt) (rw (le-ltb at (length text) l)))

@@ -7,7 +7,6 @@ use native.Mathlib.Omega.{arith}
 use lib.ListN.{length}
 use Rattle.tokens.specs.Lexeme.{Lexeme}
 use Rattle.tokens.specs.Table.{tableWords, countOthers}
-use Rattle.tokens.specs.Refusals.{textRefusal}
 use Rattle.tokens.proofs.Cases.{by-option}
 use Rattle.tokens.proofs.Numbers.{token-of-number}
 use Rattle.lexing.specs.Rules.{Read, byteAt, readAt, tokenRowAt}
@@ -16,7 +15,7 @@ use Rattle.lexer.specs.declared.Listing.{Listing}
 use Rattle.lexer.specs.declared.Listing.the-variants as listing
 use Rattle.lexer.specs.declared.found.TokenRow.{TokenRow}
 use Rattle.lexer.specs.Lookup.{tokenRow}
-use Rattle.lexer.specs.Listing.{behind, readsTo, listInto, listedTo, listedReads}
+use Rattle.lexer.specs.Listing.{behind, readsTo, listInto, listedTo, placeRefusal, listedReads}
 use Rattle.lexer.proofs.Into.{into-whole}
 use Rattle.lexer.proofs.Stops.{stopped, step}
 use Rattle.lex.specs.declared.Lexing.{Lexing}
@@ -62,21 +61,21 @@ single text at h =
 -- the answer of `list_reads` over one read: the refusal, or the read's tokens
 module _ (text : List ℕ) (at stop : ℕ) (r : Listing) (words : List ℕ)
     (e : _≡_ {A = Listing × List ℕ} (r, words) (listedReads text at stop zeros)) where
-  refused-by : (k : ℕ) → textRefusal text ≡ some k → r ≡ listing.Refused k
+  refused-by : (k : ℕ) → placeRefusal text at ≡ some k → r ≡ listing.Refused k
   unfolding listedReads
   refused-by k o = ap (λ (q : Listing × List ℕ). q .0) (rw (o, listedReads) at e)
 
   pub answer-refused : (k : ℕ) → r ≡ listing.Refused k → Refused k ≡ lexedAt text at
   unfolding listedReads listedTo
   answer-refused k f =
-      by-option (textRefusal text)
+      by-option (placeRefusal text at)
       (λ o. let g = ap (λ (q : Listing × List ℕ). q .0) (rw (o, listedReads) at e) in let z : _≡_ {A = ℕ} 0 1 = cc in absurd (omega arith))
       (λ j o. let g = refused-by j o in let n : k ≡ j = cc in rw n (lex-refused text at j o))
 
   module _ (all others next : ℕ) (row : TokenRow) (f : r ≡ listing.Tokens all others next row) where
-    pub accepted : textRefusal text ≡ none
+    pub accepted : placeRefusal text at ≡ none
     accepted =
-        by-option (textRefusal text) (λ o. o)
+        by-option (placeRefusal text at) (λ o. o)
         (λ j o. let g = refused-by j o in let z : _≡_ {A = ℕ} 0 1 = cc in absurd (omega arith))
 
     module _ (s : stop ≡ min (at + 1) (length text)) (h : at < length text) where

@@ -3,7 +3,6 @@ use mathlib.Core.Path.{_≡_, sym, ap, _∙_}
 use mathlib.Core.List.{List}
 use Prim.Native.Nat.{ℕ}
 use lib.ListN.{length}
-use Rattle.tokens.specs.Refusals.{textRefusal}
 use Rattle.tokens.proofs.Cases.{by-lt, by-option, apart}
 use Rattle.lexing.specs.Longest.{longestAt, numberIn, IsRow}
 use Rattle.lexing.specs.Rules.{byteAt, readAt, tokenRowAt}
@@ -11,6 +10,7 @@ use Rattle.lexing.proofs.Theorems.{row-of-read, read-by-row}
 use Rattle.lexer.specs.declared.found.TokenRow.{TokenRow}
 use Rattle.lexer.specs.declared.found.TokenRow.the-variants.{Row}
 use Rattle.lexer.specs.Lookup.{tokenRow}
+use Rattle.lexer.specs.Listing.{placeRefusal}
 use Rattle.lex.specs.declared.Spanned.{Spanned}
 use Rattle.lex.specs.declared.Queue.{Queue}
 use Rattle.lex.specs.declared.Lexing.the-variants.{Tokens}
@@ -25,7 +25,7 @@ module _ (text : List ℕ) (at : ℕ) (first : Spanned) (queued : Queue) (next :
 
   parts : Parts
   parts =
-      by-option (textRefusal text)
+      by-option (placeRefusal text at)
       (λ a.
       by-lt at (length text)
       (λ l. let q = e ∙ sym (lex-read text at a l) in record { first-is = cc; row-is = cc })

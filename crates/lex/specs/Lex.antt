@@ -14,7 +14,7 @@ use Rattle.tokens.specs.Kinds.{tokenOf}
 use Rattle.tokens.specs.Lexeme.{Lexeme, lexeme}
 use Rattle.lexing.specs.Rules.{Read, byteAt, readAt, tokenRowAt}
 use Rattle.lexer.specs.Lookup.{tokenRow}
-use Rattle.tokens.specs.Refusals.{textRefusal}
+use Rattle.lexer.specs.Listing.{placeRefusal}
 
 -- a token with its span as the code's struct: from three words of a list, and as a value of the definitions
 abbrev pub spannedAt : List ℕ → ℕ → Spanned
@@ -45,11 +45,11 @@ queueAt words n = record { count = n; first = spannedAt words 3; second = spanne
 abbrev pub lexing : Read → Option ℕ → Lexing
 lexing r row = Tokens (spannedOf (r .first)) (queueOf (r .waiting)) (r .next) (tokenRow row)
 
--- "For text: 1, 2": "A refusal carries its number only". In an accepted text, the tokens that are read at the place, the next place and
--- the row of the first, or End where no byte stands.
+-- "For a step: 1, 2, then 5 if the place or a waiting token passes the text"; no token waits. "A refusal carries its number only". In an
+-- accepted text, the tokens that are read at the place, the next place and the row of the first, or End at the text's end.
 unfoldable pub lexedAt : List ℕ → ℕ → Lexing
 lexedAt text at =
-    elim (textRefusal text) [
+    elim (placeRefusal text at) [
       | some k ↦ Refused k
       | none ↦
           elim (ltb at (length text)) [ true ↦ lexing (readAt byteAt text at) (tokenRowAt text at) | false ↦ End ]

@@ -30,7 +30,7 @@ pub enum Lexing {
         next: usize,
         row: TokenRow,
     },
-    // No byte stands at the place.
+    // The place is the text's end.
     End,
     // The refusal's number.
     Refused(u8),
@@ -76,8 +76,8 @@ fn stop_of(at: usize, size: usize) -> usize
     size
 }
 
-// The token at the place with its row, those that wait behind it, and the next place; End where no byte stands; or the text is refused
-// by 1 or 2.
+// The token at the place with its row, those that wait behind it, and the next place; End at the text's end; or the text is refused by
+// 1 or 2, or a place past it by 5.
 pub fn lex_at(text: &[u8], at: usize) -> Lexing
     ensures { λ r. ⌜ r ≡ lexedAt (now (text .entry)) at ⌝ }
 {

@@ -7,6 +7,7 @@ mod FoundWords
 mod Adding
 pub mod Stops
 mod Passes
+pub mod Places
 mod Answers
 pub mod Into
 pub mod Theorems

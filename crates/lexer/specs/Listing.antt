@@ -57,8 +57,18 @@ listedTo stop text from table =
     let q = readsTo stop text none from in
     (Tokens (length (q .list)) (countOthers (q .list)) (q .next) (tokenRow (q .row)), listInto 0 table (q .list))
 
--- "For text: 1, 2": a refusal changes nothing. Of an accepted text the reads from a place on that begin before `stop` and before the
--- text's end are listed; from that end on there are none.
+-- "For a step: 1, 2, then 5 if the place or a waiting token passes the text": what is refused of a place alone, where no token waits. The
+-- text's end is a place of the text.
+unfoldable pub placeRefusal : List ℕ → ℕ → Option ℕ
+placeRefusal text at =
+    elim (textRefusal text) [
+      | some k ↦ some k
+      | none ↦
+          elim (ltb (length text) at) [ true ↦ some 5 | false ↦ none ]
+    ]
+
+-- "A refusal carries its number only and changes nothing". In an accepted text the reads from a place on that begin before `stop` and
+-- before the text's end are listed; from that end on there are none.
 unfoldable pub listedReads : List ℕ → ℕ → ℕ → List ℕ → Listing × List ℕ
 listedReads text from stop table =
-    elim (textRefusal text) [ some k ↦ (Refused k, table) | none ↦ listedTo (min stop (length text)) text from table ]
+    elim (placeRefusal text from) [ some k ↦ (Refused k, table) | none ↦ listedTo (min stop (length text)) text from table ]

@@ -36,12 +36,15 @@ fn smaller(a: usize, b: usize) -> usize
 }
 
 // Reads from a place on until `stop` or the text's end is reached: counts the tokens, and writes the leading ones into the table as
-// far as it has three words for each; or refuses the text by 1 or 2 and changes nothing.
+// far as it has three words for each; or refuses the text by 1 or 2, or a place `from` past the text by 5, and changes nothing.
 pub fn list_reads(text: &[u8], from: usize, stop: usize, table: &mut [u32]) -> Listing
     ensures { λ r. ⌜ (r, now (table .exit)) ≡ listedReads (now (text .entry)) from stop (now (table .entry)) ⌝ }
 {
     if let Checked::Refused(k) = check_text(text) {
         return Listing::Refused(k);
+    }
+    if text.len() < from {
+        return Listing::Refused(5);
     }
     list_from(text, from, smaller(stop, text.len()), table)
 }

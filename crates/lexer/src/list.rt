@@ -2,8 +2,11 @@
 use crate::Listing;
 use crate::found::row_in;
 use crate::rules::read_token;
+use crate::spellings::ALL_BYTES;
+use crate::spellings::BYTE_WORDS;
 use crate::spellings::BYTES;
 use crate::spellings::FIRST;
+use crate::spellings::ROW_WORDS;
 use crate::spellings::ROWS;
 use crate::table::Listed;
 ghost use mathlib.Core.Path.{_≡_};
@@ -17,9 +20,9 @@ ghost use Rattle.lexer.specs.Listing.{listedTo};
 // Lists the reads from a place on that begin before another, by the lent arrays. This is the one place that reads, so that the compiler
 // keeps the rules in the loop's body.
 fn list_in(
-    bytes: &[u8; 1809],
-    rows: &[u16; 430],
-    first: &[u16; 129],
+    bytes: &[u8; ALL_BYTES],
+    rows: &[u16; ROW_WORDS],
+    first: &[u16; BYTE_WORDS],
     text: &[u8],
     from: usize,
     stop: usize,

@@ -1,6 +1,9 @@
 // The longest spelling that begins a text at a place: get_longest_prefix of the Rust's prefix_map, over the constant table.
+use crate::spellings::ALL_BYTES;
+use crate::spellings::BYTE_WORDS;
 use crate::spellings::BYTES;
 use crate::spellings::FIRST;
+use crate::spellings::ROW_WORDS;
 use crate::spellings::ROWS;
 use crate::spellings::byte_kind;
 use crate::spellings::first_of;
@@ -27,7 +30,7 @@ pub enum Longest {
 }
 
 // The second byte of a row.
-fn second_of(bytes: &[u8; 1809], rows: &[u16; 430], row: usize) -> u8
+fn second_of(bytes: &[u8; ALL_BYTES], rows: &[u16; ROW_WORDS], row: usize) -> u8
     requires { ⌜ (now bytes ≡ flatBytes) × (now rows ≡ rowWords) × (row < 429) × (2 ≤ length (spellingOf row)) ⌝ }
     ensures { λ r. ⌜ r ≡ getD (spellingOf row) 1 0 ⌝ }
 {
@@ -35,7 +38,13 @@ fn second_of(bytes: &[u8; 1809], rows: &[u16; 430], row: usize) -> u8
 }
 
 // Whether a row, whose first two bytes stand at the place, begins the text there.
-fn fits(bytes: &[u8; 1809], rows: &[u16; 430], text: &[u8], at: usize, row: usize) -> bool
+fn fits(
+    bytes: &[u8; ALL_BYTES],
+    rows: &[u16; ROW_WORDS],
+    text: &[u8],
+    at: usize,
+    row: usize,
+) -> bool
     requires { ⌜
         (now bytes ≡ flatBytes) × (now rows ≡ rowWords) × (row < 429) × (2 ≤ length (spellingOf row))
         × (at + 1 < length (now text)) × (getD (spellingOf row) 0 0 ≡ getD (now text) at 0)
@@ -61,9 +70,9 @@ fn fits(bytes: &[u8; 1809], rows: &[u16; 430], text: &[u8], at: usize, row: usiz
 // One past the row of the longest spelling if it has two bytes or more, else 0. The rows are sorted: of those that begin the
 // text the last is the longest, and of those with one first byte the second bytes never fall.
 pub(crate) fn past_longer(
-    bytes: &[u8; 1809],
-    rows: &[u16; 430],
-    first: &[u16; 129],
+    bytes: &[u8; ALL_BYTES],
+    rows: &[u16; ROW_WORDS],
+    first: &[u16; BYTE_WORDS],
     text: &[u8],
     at: usize,
 ) -> usize
@@ -100,9 +109,9 @@ pub(crate) fn past_longer(
 
 // The longest spelling at the place, by the lent arrays.
 fn longest_in(
-    bytes: &[u8; 1809],
-    rows: &[u16; 430],
-    first: &[u16; 129],
+    bytes: &[u8; ALL_BYTES],
+    rows: &[u16; ROW_WORDS],
+    first: &[u16; BYTE_WORDS],
     text: &[u8],
     at: usize,
 ) -> Longest

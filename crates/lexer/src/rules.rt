@@ -2,6 +2,9 @@
 use crate::found::kind_in;
 use crate::found::word_of;
 use crate::prefix_map::past_longer;
+use crate::spellings::ALL_BYTES;
+use crate::spellings::BYTE_WORDS;
+use crate::spellings::ROW_WORDS;
 use crate::spellings::byte_word;
 use crate::spellings::kind_of;
 use crate::spellings::len_of;
@@ -27,10 +30,17 @@ ghost use Rattle.lexer.specs.Constants.{Lent, rowWords, spellingOf};
 ghost use Rattle.lexing.specs.Rules.{blank, digit, letter, other, closer, runEnd, commandAt, isTextCommand, numberEnd, pastPoint, byteAt, readAt, tokenRowAt};
 ghost use Rattle.lexer.specs.Coded.{Placed, AddedRead, fromQuotation, fromNumber, fromRow, withFound, rowIn};
 
+// The rows of `text` and `mbox`, which `is_text_command` is proved with, and the bytes of each.
+const TEXT_ROW: usize = 373;
+
+const MBOX_ROW: usize = 272;
+
+const COMMAND_LEN: usize = 4;
+
 fn is_digit(c: u8) -> bool
     ensures { λ r. ⌜ r ≡ digit c ⌝ }
 {
-    48 <= c && c <= 57
+    b'0' <= c && c <= b'9'
 }
 
 // Where the digits from the place on end; past the text's end there are none.
@@ -68,8 +78,8 @@ fn strip_text(text: &[u8], table: &mut [u32], p: Listed) -> Listed
 {
     let at = p.next;
     let from = at + 1;
-    if text[at] == 34 {
-        let e = find_end(text, from, 34);
+    if text[at] == b'"' {
+        let e = find_end(text, from, b'"');
         if e < text.len() {
             return put_other(table, p, from, e - from, TEXT, e + 1);
         }
@@ -85,7 +95,7 @@ fn number_end(text: &[u8], at: usize) -> usize
     if text.len() <= p {
         return p;
     }
-    if text[p] == 46 {
+    if text[p] == b'.' {
         return digits_end(text, p + 1);
     }
     p
@@ -96,7 +106,7 @@ fn past_point(text: &[u8], at: usize) -> usize
     requires { ⌜ at < length (now text) ⌝ }
     ensures { λ r. ⌜ r ≡ pastPoint (now (text .entry)) at ⌝ }
 {
-    if text[at] == 46 {
+    if text[at] == b'.' {
         return at + 1;
     }
     at
@@ -119,14 +129,14 @@ fn strip_number(text: &[u8], table: &mut [u32], p: Listed) -> Listed
 fn closer_of(c: u8) -> u8
     ensures { λ r. ⌜ r ≡ closer c ⌝ }
 {
-    if c == 40 {
-        return 41;
+    if c == b'(' {
+        return b')';
     }
-    if c == 91 {
-        return 93;
+    if c == b'[' {
+        return b']';
     }
-    if c == 123 {
-        return 125;
+    if c == b'{' {
+        return b'}';
     }
     0
 }
@@ -138,8 +148,8 @@ fn text_command(text: &[u8], table: &mut [u32], p: Listed) -> Listed
         ⌜ AddedRead (commandAt (now (text .entry)) (p .next) 4 Unary) p (now (table .entry)) r (now (table .exit)) ⌝ }
 {
     let at = p.next;
-    let command = put_other(table, p, at, 4, UNARY, at + 4);
-    let b = blanks_end(text, at + 4);
+    let command = put_other(table, p, at, COMMAND_LEN, UNARY, at + COMMAND_LEN);
+    let b = blanks_end(text, at + COMMAND_LEN);
     if text.len() <= b {
         return command;
     }
@@ -162,15 +172,15 @@ fn is_text_command(row: usize) -> bool
     requires { ⌜ row < 429 ⌝ }
     ensures { λ r. ⌜ r ≡ isTextCommand (spellingOf row) ⌝ }
 {
-    if row == 373 {
+    if row == TEXT_ROW {
         return true;
     }
-    row == 272
+    row == MBOX_ROW
 }
 
 // Rule 2 for the row that is found.
 fn strip_spelling(
-    rows: &[u16; 430],
+    rows: &[u16; ROW_WORDS],
     row: usize,
     text: &[u8],
     table: &mut [u32],
@@ -219,9 +229,9 @@ fn strip_digits(text: &[u8], table: &mut [u32], p: Listed) -> Listed
 // Lists what is read at the place, and the word of what is found there. The kind of the byte by itself says which rules can apply but
 // for a longer spelling: Space the first, Number the third, Operator the last three; any other kind is the token's.
 pub(crate) fn read_token(
-    bytes: &[u8; 1809],
-    rows: &[u16; 430],
-    first: &[u16; 129],
+    bytes: &[u8; ALL_BYTES],
+    rows: &[u16; ROW_WORDS],
+    first: &[u16; BYTE_WORDS],
     text: &[u8],
     table: &mut [u32],
     p: Listed,

@@ -5,8 +5,20 @@ ghost use Prim.Native.Nat.{_<_};
 ghost use lib.ListN.{length};
 ghost use Rattle.lexer.specs.Constants.{rowWords, firstWords, startOf, kindOf, spellingOf, rowsBelow, longerFrom, byteKind, wordOfByte};
 
+// A kind is below KINDS. A row's word is KINDS times its start and its kind; a byte's word is ROW times a row, the bit of KINDS and a kind.
+pub(crate) const KINDS: usize = 32;
+
+pub(crate) const ROW: usize = 64;
+
+// The arrays' lengths: the bytes of all 429 spellings, a word for each and one behind the last, and a word for each byte value to 128.
+pub(crate) const ALL_BYTES: usize = 1809;
+
+pub(crate) const ROW_WORDS: usize = 430;
+
+pub(crate) const BYTE_WORDS: usize = 129;
+
 // The bytes of all spellings, one row after the other.
-pub(crate) const BYTES: [u8; 1809] = [
+pub(crate) const BYTES: [u8; ALL_BYTES] = [
     33,
     33,
     45,
@@ -1819,7 +1831,7 @@ pub(crate) const BYTES: [u8; 1809] = [
 ];
 
 // For each row 32 times its start in the bytes and the number of its token; behind the last 32 times the end.
-pub(crate) const ROWS: [u16; 430] = [
+pub(crate) const ROWS: [u16; ROW_WORDS] = [
     8,
     42,
     138,
@@ -2254,7 +2266,7 @@ pub(crate) const ROWS: [u16; 430] = [
 
 // For each byte 64 times the rows that begin with a smaller one, 32 more where the byte alone is a spelling, and the number of
 // the token that the byte is by itself.
-pub(crate) const FIRST: [u16; 129] = [
+pub(crate) const FIRST: [u16; BYTE_WORDS] = [
     7,
     7,
     7,
@@ -2399,15 +2411,15 @@ fn wide_kind(x: u16) -> u32
 }
 
 // Where the row's bytes start.
-pub(crate) fn start_of(rows: &[u16; 430], row: usize) -> usize
+pub(crate) fn start_of(rows: &[u16; ROW_WORDS], row: usize) -> usize
     requires { ⌜ (now rows ≡ rowWords) × (row < 430) ⌝ }
     ensures { λ r. ⌜ r ≡ startOf row ⌝ }
 {
-    wide(rows[row]) / 32
+    wide(rows[row]) / KINDS
 }
 
 // How many bytes the row's spelling has.
-pub(crate) fn len_of(rows: &[u16; 430], row: usize) -> usize
+pub(crate) fn len_of(rows: &[u16; ROW_WORDS], row: usize) -> usize
     requires { ⌜ (now rows ≡ rowWords) × (row < 429) ⌝ }
     ensures { λ r. ⌜ r ≡ length (spellingOf row) ⌝ }
 {
@@ -2415,7 +2427,7 @@ pub(crate) fn len_of(rows: &[u16; 430], row: usize) -> usize
 }
 
 // The number of the row's token.
-pub(crate) fn kind_of(rows: &[u16; 430], row: usize) -> u32
+pub(crate) fn kind_of(rows: &[u16; ROW_WORDS], row: usize) -> u32
     requires { ⌜ (now rows ≡ rowWords) × (row < 429) ⌝ }
     ensures { λ r. ⌜ r ≡ kindOf row ⌝ }
 {
@@ -2423,23 +2435,23 @@ pub(crate) fn kind_of(rows: &[u16; 430], row: usize) -> u32
 }
 
 // How many rows begin with a byte below c.
-pub(crate) fn first_of(first: &[u16; 129], c: usize) -> usize
+pub(crate) fn first_of(first: &[u16; BYTE_WORDS], c: usize) -> usize
     requires { ⌜ (now first ≡ firstWords) × (c < 129) ⌝ }
     ensures { λ r. ⌜ r ≡ rowsBelow c ⌝ }
 {
-    wide(first[c]) / 64
+    wide(first[c]) / ROW
 }
 
 // The first row that may begin with the byte c and have more bytes.
-pub(crate) fn longer_of(first: &[u16; 129], c: usize) -> usize
+pub(crate) fn longer_of(first: &[u16; BYTE_WORDS], c: usize) -> usize
     requires { ⌜ (now first ≡ firstWords) × (c < 129) ⌝ }
     ensures { λ r. ⌜ r ≡ longerFrom c ⌝ }
 {
-    (wide(first[c]) + 32) / 64
+    (wide(first[c]) + KINDS) / ROW
 }
 
 // The number of the token that the byte c is by itself.
-pub(crate) fn byte_kind(first: &[u16; 129], c: usize) -> u32
+pub(crate) fn byte_kind(first: &[u16; BYTE_WORDS], c: usize) -> u32
     requires { ⌜ (now first ≡ firstWords) × (c < 129) ⌝ }
     ensures { λ r. ⌜ r ≡ byteKind c ⌝ }
 {
@@ -2447,7 +2459,7 @@ pub(crate) fn byte_kind(first: &[u16; 129], c: usize) -> u32
 }
 
 // The word of the byte c.
-pub(crate) fn byte_word(first: &[u16; 129], c: usize) -> usize
+pub(crate) fn byte_word(first: &[u16; BYTE_WORDS], c: usize) -> usize
     requires { ⌜ (now first ≡ firstWords) × (c < 129) ⌝ }
     ensures { λ r. ⌜ r ≡ wordOfByte c ⌝ }
 {

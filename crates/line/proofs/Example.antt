@@ -1,4 +1,4 @@
--- The example of document 01, `x^2/3`, and the print of `[(a,|,b),(c,|,d)]`, computed whole.
+-- The print of the tree of `[(a,|,b),(c,|,d)]`, computed whole. (Document 01's own example, from its bytes: crates/print/proofs/Example.antt.)
 use Prim.Native.Nat.{ℕ}
 use Prim.Native.String.{String}
 use mathlib.Core.Path.{_≡_, refl}
@@ -11,35 +11,12 @@ use Rattle.writer.specs.Decimal.{digits, decimal}
 use Rattle.line.specs.Print.{names, nameOf, left, right, scriptName, script, class, more, commas, fields, name, line, lines, first, printed}
 
 -- these lines, each with its newline byte
-abbrev text : List String → List ℕ
+abbrev pub text : List String → List ℕ
 text [] = []
 text (s ∷ l) = bytes s ++ (10 ∷ text l)
 
 abbrev at : ℕ → ℕ → Span
 at start len = record { start = start; len = len }
-
-abbrev tree : Nodes
-tree =
-    node Head.frac
-    (node (Head.simple Script.super)
-    (leaf (Head.atom Atom.ident (at 0 1)) ▸ leaf (Head.atom Atom.number (at 2 1)) ▸ end)
-    ▸ one (Head.simple Script.none) (leaf (Head.atom Atom.number (at 4 1)))
-    ▸ end)
-    ▸ end
-
-pub example :
-    printed 5 5 7 tree ≡
-    text (
-    "text=5 tokens=5 takes=7 items=1" ∷
-    "depth=0 node=frac" ∷
-    "depth=1 node=simple script=super" ∷
-    "depth=2 node=ident at=0 len=1" ∷
-    "depth=2 node=number at=2 len=1" ∷
-    "depth=1 node=simple script=none" ∷
-    "depth=2 node=number at=4 len=1" ∷ []
-    )
-unfolding visits digits decimal names nameOf left right scriptName script class more commas fields name line lines first printed
-example = refl
 
 abbrev cell : ℕ → Node
 cell start = node Head.cell (one (Head.simple Script.none) (leaf (Head.atom Atom.ident (at start 1))) ▸ end)

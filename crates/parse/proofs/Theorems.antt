@@ -12,6 +12,7 @@ use Rattle.tokens.proofs.Cases.{by-option, apart}
 use Rattle.tree.specs.Tree.{count}
 use Rattle.tree.specs.Decode.{decode}
 use Rattle.reading.specs.Reading.{readTokens, blank}
+use Rattle.grammar.specs.Grammar.{Settled, treeE}
 use Rattle.grammar.specs.Strip.{strip}
 use Rattle.bounds.proofs.Theorems.{bounds}
 use Rattle.grammar.proofs.Settled as grammar
@@ -46,8 +47,13 @@ module _ (text : List ℕ) (ts : List Lexeme) (takes items blankness len : ℕ) 
         whole-blank = rw tree-is blank-is;
         few-takes = rw takes-are (b .takes);
         memory = λ few. tree-is ∙ b .memory few;
-        settled = λ s. ap strip tree-is ∙ grammar.settled text ts s;
+        derived = λ d short. ap strip tree-is ∙ grammar.settled-tree text ts d short;
       }
+
+-- Document 01's own case, in which no OpenBracket directly precedes another.
+pub settled-answered : {text : List ℕ} {ts : List Lexeme} {takes items blankness : ℕ} {words : List ℕ}
+    → Answered text ts takes items blankness words → (s : Settled ts) → strip (decode items words) ≡ treeE (s .derivation)
+settled-answered a s = a .derived (s .derivation) (s .short)
 
 -- The call on a token list.
 pub list-answered : (text table : List ℕ) (count : ℕ) (work tree : List ℕ) (takes items blankness : ℕ) (workLeft treeLeft : List ℕ)

@@ -7,7 +7,7 @@ use Rattle.tokens.specs.Lexeme.{Lexeme}
 use Rattle.tokens.specs.Table.{countOthers}
 use Rattle.tree.specs.Decode.{decode}
 use Rattle.reading.specs.Reading.{readTokens, readPlain, blank}
-use Rattle.grammar.specs.Grammar.{Settled, treeE}
+use Rattle.grammar.specs.Grammar.{E, others, Short, treeE}
 use Rattle.grammar.specs.Strip.{strip}
 use Rattle.tokens.specs.Refusals.{bit}
 
@@ -21,5 +21,6 @@ pub record Answered (text : List ℕ) (ts : List Lexeme) (takes items blankness 
   pub few-takes : takes ≤ 32 * ((countOthers ts + 1) * (countOthers ts + 1))
   -- "where n is at most 127, its tree equals the tree read without remembering any failed attempt"
   pub memory : countOthers ts ≤ 127 → decode items words ≡ readPlain text ts .tree
-  -- "There the tree is that derivation, Space items aside."
-  pub settled : (s : Settled ts) → strip (decode items words) ≡ treeE (s .derivation)
+  -- "There the tree is that derivation, Space items aside": of every derivation of the list, whether or not an OpenBracket directly
+  -- precedes another
+  pub derived : (d : E (others ts)) → Short ts → strip (decode items words) ≡ treeE d

@@ -1,14 +1,15 @@
 -- The contracts of the readers of matrix rows.
-use Prim.Native.Nat.{ℕ, _+_, _-_, _*_, _≤_, _<_}
+use Prim.Native.Nat.{ℕ, zero, suc, _+_, _-_, _*_, _≤_, _<_}
 use mathlib.Core.Path.{_≡_}
 use mathlib.Core.List.{List, [], _∷_}
 use mathlib.Core.Option.{Option, none, some}
 use mathlib.Core.Bool.{Bool}
 use lib.ListN.{length, getElem?}
+use Rattle.tokens.specs.declared.token.Token.the-variants as token
 use Rattle.tree.specs.Tree.{Nodes, end, count}
 use Rattle.tree.specs.Words.{encodes}
-use Rattle.reading.specs.Entries.{Entry}
-use Rattle.reading.specs.Reading.{State, M, Row, Rows}
+use Rattle.reading.specs.Entries.{Entry, is}
+use Rattle.reading.specs.Reading.{State, M, return, _>>=_, if_then_else_, here, isAt, any, advance, Row, Rows, rowBrackets, alike}
 use Rattle.parse.specs.declared.cursor.Cursor.{Cursor}
 use Rattle.parse.specs.declared.cursor.Close.{Close}
 use Rattle.parse.specs.declared.cursor.Close.the-variants as close
@@ -21,6 +22,30 @@ use Rattle.columns.specs.Rows as columns
 use Rattle.parse.specs.Meet.{Each}
 use Rattle.records.specs.Record.{Kept}
 use Rattle.reading_words.specs.Meet.{Input, At, Known, cellsAt, rowAt, moreAt, rowsAt, First}
+
+-- "Loop over rows and cells left by label, yielding the reason." Why the rows behind the first one, h, end, by the turns of the
+-- definition's own loop, `moreRows`: no Sep follows; no row could be read behind one; or a row was read that differs from the first.
+unfoldable pub whyMore : ℕ → Input → ℕ → Row → M Why
+whyMore d I zero h = return why.Broken
+whyMore d I (suc f) h =
+    here >>= λ p.
+    if isAt (I .text) (I .es) (is token.Sep) p
+    then (advance (I .text) (I .es) any >>= λ t. rowAt d I >>= λ q. elim q [
+      | none ↦ return why.Broken
+      | some r ↦ if alike (I .text) (I .es) h r then whyMore d I f h else return why.Differs
+    ])
+    else return why.Done
+
+abbrev pub whyMoreAt : ℕ → Row → Input → M Why
+whyMoreAt d h I = whyMore d I (suc (length (I .es))) h
+
+-- The same of all rows, by `nextMatrixRows`: of the first one the brackets alone can be no row's.
+unfoldable pub whyRowsAt : ℕ → Input → M Why
+whyRowsAt d I =
+    rowAt d I >>= λ q. elim q [
+      | none ↦ return why.Broken
+      | some h ↦ if rowBrackets (I .text) (I .es) h then whyMoreAt d h I else return why.Differs
+    ]
 
 -- Rows not read to their end: where the code stands, and what it leaves of the work words.
 pub record Broke (X t : List ℕ) (n : ℕ) (K L : List ℕ) (c : Cursor) (e : ℕ) (x y : List ℕ) (d : Cursor) : Type 0 where
@@ -106,7 +131,9 @@ module _ (X t : List ℕ) (n : ℕ) where
     pub left′ : g .left ≡ l
 
   abbrev pub MoreRows : List ℕ → List ℕ → ℕ → ℕ → Bool → Cursor → ℕ → List ℕ → List ℕ → code.Rows → Type 0
-  MoreRows K L cols l round c e x y g = Same cols l g × MoreRows′ K L cols round c e x y (g .cells) (g .cur) (g .end) (g .why)
+  MoreRows K L cols l round c e x y g =
+      Same cols l g × MoreRows′ K L cols round c e x y (g .cells) (g .cur) (g .end) (g .why)
+      × Each X t n K c (λ I s. (h : Row) → First I cols round h → whyMoreAt (c .depth) h I s .0 ≡ g .why)
 
   -- all rows
   pub record HasMatrix (L : List ℕ) (m : M (Option Rows)) (I : Input) (s : State) (e : ℕ) (x y : List ℕ) (cols l k : ℕ) (d : Cursor) (E : ℕ) : Type 0 where
@@ -125,4 +152,6 @@ module _ (X t : List ℕ) (n : ℕ) where
   MatrixRows′ K L c e x y cols l k d E why.Broken = Broke X t n K L c e x y d × Each X t n K c (λ I s. Fails L (rowsAt (c .depth) I) I s e x y d)
 
   abbrev pub MatrixRows : List ℕ → List ℕ → Cursor → ℕ → List ℕ → List ℕ → code.Rows → Type 0
-  MatrixRows K L c e x y g = MatrixRows′ K L c e x y (g .cols) (g .left) (g .cells) (g .cur) (g .end) (g .why)
+  MatrixRows K L c e x y g =
+      MatrixRows′ K L c e x y (g .cols) (g .left) (g .cells) (g .cur) (g .end) (g .why)
+      × Each X t n K c (λ I s. whyRowsAt (c .depth) I s .0 ≡ g .why)

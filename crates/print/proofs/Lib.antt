@@ -1,3 +1,4 @@
 pub mod Calls
+pub mod Example
 pub mod Theorems
 pub mod HalfWords

@@ -1,4 +1,4 @@
--- What the call's answer says of the program's reply, where the buffers are long enough for any text of 500 bytes.
+-- What the call's answer says of the program's reply, where the buffers are long enough for any text of `most` bytes.
 use Prim.Native.Nat.{ℕ, _+_, _*_, _/_, _%_, _≤_, _<_}
 use mathlib.Core.Path.{_≡_, refl, sym, ap, _∙_}
 use mathlib.Core.Bool.{Bool}
@@ -24,7 +24,7 @@ use Rattle.writer.specs.Decimal.{decimal}
 use Rattle.print.specs.Call.{answerOf, printOf, values, printedText}
 use Rattle.writer.proofs.Decimals.{small, large}
 use Rattle.print.proofs.Calls.{LeftAll, refused-so, short-so, whole-so}
-use Rattle.read.specs.Reply.{refusal, replyTo, Written}
+use Rattle.read.specs.Reply.{refusal, printRoom, most, replyTo, Written}
 
 -- buffers for any text of this length
 any-text : (text : List ℕ) (table work tree : ℕ) → textRefusal text ≡ none → 3 * length text ≤ table → entryWords * (length text + 1) ≤ work
@@ -81,23 +81,23 @@ few-numbers text k e =
     (λ g. let d : some 2 ≡ some k = sym (rw (h, textRefusal) (rw g)) ∙ e in let n : k ≡ 2 = cc in omega arith))
 
 -- "over 500 bytes it prints `refused=1`"
-pub too-long : (text : List ℕ) → 500 < length text → replyTo text ≡ refusal 1
+pub too-long : (text : List ℕ) → most < length text → replyTo text ≡ refusal 1
 unfolding replyTo
-too-long text h = rw (lt-ltb 500 (length text) h, replyTo)
+too-long text h = rw (lt-ltb most (length text) h, replyTo)
 
-module _ (text table work tree out : List ℕ) (few : length text ≤ 500) (ta : length table ≡ 1500) (wo : length work ≡ 1002)
-    (tr : length tree ≡ 16032) (ou : length out ≡ 65536) where
+module _ (text table work tree out : List ℕ) (few : length text ≤ most) (ta : length table ≡ 3 * most) (wo : length work ≡ entryWords * (most + 1))
+    (tr : length tree ≡ 32 * (most + 1)) (ou : length out ≡ printRoom) where
   reply-refused : (k : ℕ) → textRefusal text ≡ some k → replyTo text ≡ refusal k
   unfolding replyTo
-  reply-refused k e = rw (le-ltb 500 (length text) few, replyTo) (rw e)
+  reply-refused k e = rw (le-ltb most (length text) few, replyTo) (rw e)
 
-  reply-short : textRefusal text ≡ none → 65536 < length (printOf text) → replyTo text ≡ refusal 10
+  reply-short : textRefusal text ≡ none → printRoom < length (printOf text) → replyTo text ≡ refusal 10
   unfolding replyTo
-  reply-short e h = rw (le-ltb 500 (length text) few, replyTo) (rw e (rw (lt-ltb 65536 (length (printOf text)) h)))
+  reply-short e h = rw (le-ltb most (length text) few, replyTo) (rw e (rw (lt-ltb printRoom (length (printOf text)) h)))
 
-  reply-whole : textRefusal text ≡ none → length (printOf text) ≤ 65536 → replyTo text ≡ printOf text
+  reply-whole : textRefusal text ≡ none → length (printOf text) ≤ printRoom → replyTo text ≡ printOf text
   unfolding replyTo
-  reply-whole e h = rw (le-ltb 500 (length text) few, replyTo) (rw e (rw (le-ltb 65536 (length (printOf text)) h)))
+  reply-whole e h = rw (le-ltb most (length text) few, replyTo) (rw e (rw (le-ltb printRoom (length (printOf text)) h)))
 
   enough : textRefusal text ≡ none → parseRefusal text (length table) (length work) (length tree) ≡ none
   enough e = any-text text (length table) (length work) (length tree) e (omega arith) (omega arith) (omega arith)

@@ -16,17 +16,25 @@ use Rattle.print.specs.Call.{printOf}
 unfoldable pub refusal : ℕ → List ℕ
 refusal k = bytes "refused=" ++ (decimal k ++ newline)
 
+-- "its print buffer 65,536 bytes long"
+abbrev pub printRoom : ℕ
+printRoom = 65536
+
+-- "over 500 bytes"
+abbrev pub most : ℕ
+most = 500
+
 -- "A program, its print buffer 65,536 bytes long, reads standard input and prints; over 500 bytes it prints `refused=1`", before the
 -- bytes are looked at. Its other buffers are never too short: what is left of a call's refusals is 2, and 10.
 unfoldable pub replyTo : List ℕ → List ℕ
 replyTo text =
-    elim (ltb 500 (length text)) [
+    elim (ltb most (length text)) [
       | true ↦ refusal 1
       | false ↦
           elim (textRefusal text) [
             | some k ↦ refusal k
             | none ↦
-                elim (ltb 65536 (length (printOf text))) [ true ↦ refusal 10 | false ↦ printOf text ]
+                elim (ltb printRoom (length (printOf text))) [ true ↦ refusal 10 | false ↦ printOf text ]
           ]
     ]
 

@@ -1,11 +1,14 @@
 // The program: reads a text from standard input and prints its tree.
-use libc::STDIN_FILENO;
-use libc::STDOUT_FILENO;
 use print::Printed;
+use read_input::Input;
+use read_input::MOST;
+use read_input::ROOM;
+use read_input::read_input;
+use read_output::write_first;
 ghost use mathlib.Core.Path.{_≡_};
 ghost use Prim.Native.Nat.{_≤_, _<_};
 ghost use lib.ListN.{length};
-ghost use Rattle.read.specs.Reply.{Written, refusal, replyTo};
+ghost use Rattle.read.specs.Reply.{Written, refusal, printRoom, replyTo};
 
 // The line of a refusal, first in `out`; its length. No refusal has three digits.
 fn refuse(out: &mut [u8], number: u8) -> usize
@@ -25,17 +28,17 @@ fn refuse(out: &mut [u8], number: u8) -> usize
     11
 }
 
-// What the program writes for a text, first in `out`; how many bytes. The buffers are long enough for any text of 500 bytes.
+// What the program writes for a text, first in `out`; how many bytes. The buffers are long enough for any text of MOST bytes.
 fn reply(text: &[u8], out: &mut [u8]) -> usize
-    requires { ⌜ length (now out) ≡ 65536 ⌝ }
+    requires { ⌜ length (now out) ≡ printRoom ⌝ }
     ensures { λ r. ⌜ Written (replyTo (now (text .entry))) (now (out .exit)) r ⌝ }
 {
-    if 500 < text.len() {
+    if MOST < text.len() {
         return refuse(out, 1);
     }
-    let mut table = [0u32; 1500];
-    let mut work = [0u32; 1002];
-    let mut tree = [0u32; 16032];
+    let mut table = [0u32; 3 * MOST];
+    let mut work = [0u32; 2 * (MOST + 1)];
+    let mut tree = [0u32; 32 * (MOST + 1)];
     match print::print(text, &mut table, &mut work, &mut tree, out) {
         Printed::Whole {
             len,
@@ -46,11 +49,12 @@ fn reply(text: &[u8], out: &mut [u8]) -> usize
     }
 }
 
-// One byte more than 500 tells a text that is too long.
 fn main() {
-    let mut input = [0u8; 501];
+    let mut input = [0u8; ROOM];
+    let Input::Bytes(n) = read_input(&mut input) else {
+        return;
+    };
     let mut out = io::large_buffer();
-    let n = io::read_full(STDIN_FILENO, &mut input);
     let len = reply(&input[..n], &mut out);
-    io::write_all(STDOUT_FILENO, &out[..len]);
+    write_first(&out, len);
 }

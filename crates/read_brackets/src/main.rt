@@ -1,7 +1,10 @@
 // The program of `./read --brackets`: reads a text from standard input and writes it with a line below it, in which each bracket and its
 // partner have the same letter.
 use closers::PairedText;
-use libc::STDIN_FILENO;
+use read_input::Input;
+use read_input::MOST;
+use read_input::ROOM;
+use read_input::read_input;
 use read_output::write_line;
 use read_output::write_refusal;
 use tokens::kinds::SPACE;
@@ -94,9 +97,6 @@ fn show_bytes(text: &[u8], line: &mut [u8])
     }
 }
 
-// A text of more bytes is refused.
-const MOST: usize = 500;
-
 // The buffers are long enough for any text of so many bytes.
 fn show(text: &[u8]) {
     if MOST < text.len() {
@@ -112,15 +112,17 @@ fn show(text: &[u8]) {
             let mut below = [b' '; MOST];
             show_bytes(text, &mut above);
             mark_pairs(&table, tokens, &out, others, &mut below);
-            write_line(&above, text.len());
-            write_line(&below, text.len());
+            if write_line(&above, text.len()) {
+                write_line(&below, text.len());
+            }
         }
     }
 }
 
-// One byte more tells a text that is too long.
 fn main() {
-    let mut input = [0u8; MOST + 1];
-    let n = io::read_full(STDIN_FILENO, &mut input);
+    let mut input = [0u8; ROOM];
+    let Input::Bytes(n) = read_input(&mut input) else {
+        return;
+    };
     show(&input[..n]);
 }

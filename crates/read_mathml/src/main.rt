@@ -1,11 +1,11 @@
 // The program of `./read --mathml`: reads a text from standard input and writes its MathML, and a newline.
-use libc::STDIN_FILENO;
 use mathml::Marked;
+use read_input::Input;
+use read_input::MOST;
+use read_input::ROOM;
+use read_input::read_input;
 use read_output::write_line;
 use read_output::write_refusal;
-
-// A text of more bytes is refused.
-const MOST: usize = 500;
 
 // Table, work and tree are long enough for any text of so many bytes.
 fn show(text: &[u8]) {
@@ -23,13 +23,16 @@ fn show(text: &[u8]) {
             len,
             takes: _,
             blank: _,
-        } => write_line(&out, len),
+        } => {
+            write_line(&out, len);
+        }
     }
 }
 
-// One byte more tells a text that is too long.
 fn main() {
-    let mut input = [0u8; MOST + 1];
-    let n = io::read_full(STDIN_FILENO, &mut input);
+    let mut input = [0u8; ROOM];
+    let Input::Bytes(n) = read_input(&mut input) else {
+        return;
+    };
     show(&input[..n]);
 }

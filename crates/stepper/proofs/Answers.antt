@@ -3,7 +3,7 @@ use mathlib.Core.Path.{_≡_, refl, sym, ap, subst, _∙_}
 use mathlib.Core.Bool.{true, false}
 use mathlib.Core.List.{List, [], _∷_}
 use mathlib.Core.Option.{none, some}
-use Prim.Native.Nat.{ℕ, _-_, _≤_, _<_}
+use Prim.Native.Nat.{ℕ, _≤_, _<_}
 use native.Mathlib.Omega.{arith}
 use lib.ListN.{length, drop}
 use borrow.Author.Tests.{lt-ltb, le-ltb}
@@ -15,6 +15,7 @@ use Rattle.lexing.specs.Rules.{byteAt, readAt}
 use Rattle.tokens.specs.Refusals.{textRefusal}
 use Rattle.lex.specs.Lex.{lexedAt}
 use Rattle.tokens.proofs.Cases.{by-test, by-lt, by-option, clash}
+use Rattle.lexer.proofs.Places.{place-refused, place-accepted}
 use Rattle.lex.proofs.Answers.{lex-refused, lex-read, lex-end}
 use Rattle.stepper.specs.declared.Tokenizer.{Tokenizer}
 use Rattle.stepper.specs.Step.{StepAnswer, token, end, refused, tokenAnswer, lexemeOf, waiting, state, fits, stepRefusal, stepped}
@@ -25,6 +26,14 @@ abbrev stepOf : Tokenizer → Lexing → StepAnswer × Tokenizer
 stepOf s (Tokens t q next row) = (token (t .start) (t .len) (numberOf (t .token)), record { place = next; queued = q })
 stepOf s End = (end, s)
 stepOf s (Refused k) = (refused k, s)
+
+-- what a state that fits has
+module _ (size : ℕ) (s : Tokenizer) (f : fits size s ≡ true) where
+  pub place-inside : s .place ≤ size
+  place-inside = by-lt size (s .place) (λ l. clash (fits size s) f (place-passes size s l)) (λ l. l)
+
+  pub few-wait : s .queued .count ≤ 3
+  few-wait = by-lt 3 (s .queued .count) (λ l. clash (fits size s) f (too-many size s place-inside l)) (λ l. l)
 
 module _ (text : List ℕ) (s : Tokenizer) where
   abbrev Steps : StepAnswer → Tokenizer → Type 0
@@ -93,18 +102,11 @@ module _ (text : List ℕ) (s : Tokenizer) where
         ap (stepOf s) e
         ∙ by-option (textRefusal text)
         (λ a.
+        let p = place-accepted text (s .place) a (place-inside (length text) s f) in
         by-lt (s .place) (length text)
-        (λ l. ap (stepOf s) (sym (lex-read text (s .place) a l)) ∙ step-read (passed a f) none-waiting l)
-        (λ l. ap (stepOf s) (sym (lex-end text (s .place) a l)) ∙ step-end (passed a f) none-waiting l))
-        (λ k a. ap (stepOf s) (sym (lex-refused text (s .place) k a)) ∙ step-refused k (refused-text k a))
-
--- what a state that fits has
-module _ (size : ℕ) (s : Tokenizer) (f : fits size s ≡ true) where
-  pub place-inside : s .place ≤ size
-  place-inside = by-lt size (s .place) (λ l. clash (fits size s) f (place-passes size s l)) (λ l. l)
-
-  pub few-wait : s .queued .count ≤ 3
-  few-wait = by-lt 3 (s .queued .count) (λ l. clash (fits size s) f (too-many size s place-inside l)) (λ l. l)
+        (λ l. ap (stepOf s) (sym (lex-read text (s .place) p l)) ∙ step-read (passed a f) none-waiting l)
+        (λ l. ap (stepOf s) (sym (lex-end text (s .place) p l)) ∙ step-end (passed a f) none-waiting l))
+        (λ k a. ap (stepOf s) (sym (lex-refused text (s .place) k (place-refused text (s .place) k a))) ∙ step-refused k (refused-text k a))
 
 pub by-list : {A : Type 0} (ts : List Lexeme) → (ts ≡ [] → A) → ((u : Lexeme) (us : List Lexeme) → ts ≡ u ∷ us → A) → A
 by-list [] f g = f refl

@@ -1,9 +1,9 @@
 // The answer to one text.
-use lex::Lexing;
-use lex::lex_at;
-use lexer::found::TokenRow;
-use lexer::prefix_map::Longest;
-use lexer::prefix_map::get_longest_prefix;
+use crate::reads::print_rows;
+use crate::reads::read_ends;
+use crate::reads::read_refused;
+use crate::steps::step_refused;
+use crate::steps::steps_agree;
 use libc::STDOUT_FILENO;
 use tokenizer::Tokenized;
 
@@ -16,72 +16,13 @@ fn print_word(i: usize, word: u32) {
     io::print_decimal(STDOUT_FILENO, word as u64);
 }
 
-// The first n words, three to a token.
-fn print_tokens(words: &[u32], n: usize) {
+// The words of a token list, three to a token.
+fn print_tokens(list: &[u32]) {
     let mut i = 0;
-    while i < words.len() && i < n {
-        print_word(i, words[i]);
+    while i < list.len() {
+        print_word(i, list[i]);
         i += 1;
     }
-}
-
-// Whether the lookup answers the row at a place.
-fn is_looked_up(text: &[u8], at: usize, row: TokenRow) -> bool {
-    match get_longest_prefix(text, at) {
-        Longest::Spelling {
-            len: _,
-            token: _,
-            row: found,
-        } => match row {
-            TokenRow::Row(k) => k == found,
-            TokenRow::NoRow => false,
-        },
-        Longest::Nothing => match row {
-            TokenRow::Row(_) => false,
-            TokenRow::NoRow => true,
-        },
-    }
-}
-
-// A place and the row of the token that is read there; `lookup` first, if the lookup answers another.
-fn print_row(text: &[u8], at: usize, row: TokenRow) {
-    if !is_looked_up(text, at, row) {
-        io::write_all(STDOUT_FILENO, b" lookup");
-    }
-    if let TokenRow::Row(k) = row {
-        io::write_all(STDOUT_FILENO, b" ");
-        io::print_decimal(STDOUT_FILENO, at as u64);
-        io::write_all(STDOUT_FILENO, b":");
-        io::print_decimal(STDOUT_FILENO, k as u64);
-    }
-}
-
-// One read: prints its row, if it has one, and answers the next place.
-fn read_row(text: &[u8], at: usize) -> usize {
-    match lex_at(text, at) {
-        Lexing::Tokens {
-            first: _,
-            queued: _,
-            next,
-            row,
-        } => {
-            print_row(text, at, row);
-            next
-        }
-        Lexing::End => at,
-        Lexing::Refused(_) => at,
-    }
-}
-
-// The rows of the text's reads. Each moves on, so as many as bytes are enough.
-fn print_rows(text: &[u8]) {
-    let mut at = 0;
-    let mut turns = text.len();
-    while turns > 0 && at < text.len() {
-        at = read_row(text, at);
-        turns -= 1;
-    }
-    io::write_all(STDOUT_FILENO, b"\n");
 }
 
 // How many tokens the text has with this table, or 10000 and the number of the refusal.
@@ -111,23 +52,59 @@ fn is_exact(text: &[u8], table: &mut [u32], words: usize) -> bool {
     tokens_in_first(text, table, words - 1) == 10007
 }
 
-fn print_refusal(number: usize) {
+// Whether a read at the place, and a step from it, are refused by the number.
+fn is_refused(text: &[u8], place: usize, number: usize) -> bool {
+    read_refused(text, place, number) && step_refused(text, place, number)
+}
+
+// The same one past the text's end, where 1 and 2 come before 5.
+fn is_refused_past(text: &[u8], number: usize) -> bool {
+    if 4097 < text.len() {
+        return false;
+    }
+    is_refused(text, text.len() + 1, number)
+}
+
+// The refusal; `step` first, if a read or a step is not refused so.
+fn print_refusal(text: &[u8], number: usize) {
+    if !is_refused(text, 0, number) || !is_refused_past(text, number) {
+        io::write_all(STDOUT_FILENO, b"step ");
+    }
     io::write_all(STDOUT_FILENO, b"refused=");
     io::print_decimal(STDOUT_FILENO, number as u64);
     io::write_all(STDOUT_FILENO, b"\n");
+}
+
+// The tokens, and the rows of the reads; `step` first, if the steps do not answer the list, and `end`, if the text's end is not told from
+// the places past it.
+fn print_list(text: &[u8], list: &[u32]) {
+    if !steps_agree(text, list) {
+        io::write_all(STDOUT_FILENO, b"step ");
+    }
+    if !read_ends(text) || !is_refused_past(text, 5) {
+        io::write_all(STDOUT_FILENO, b"end ");
+    }
+    print_tokens(list);
+    print_rows(text, list);
+}
+
+// The same for the list that the first words of the table are.
+fn print_first(text: &[u8], table: &[u32], words: usize) {
+    if words <= table.len() {
+        print_list(text, &table[..words]);
+    }
 }
 
 pub(crate) fn print_answer(text: &[u8]) {
     let mut table = [0u32; 12288];
     let n = tokens_in(text, &mut table);
     if 10000 <= n {
-        print_refusal(n - 10000);
+        print_refusal(text, n - 10000);
         return;
     }
     let words = 3 * n;
     if !is_exact(text, &mut table, words) {
         io::write_all(STDOUT_FILENO, b"table ");
     }
-    print_tokens(&table, words);
-    print_rows(text);
+    print_first(text, &table, words);
 }

@@ -1,9 +1,13 @@
 // Replays texts: reads them from standard input, each a line of hex digits, and prints each text's tokens as start,len,kind and then
-// the rows of its reads as place:row, a line a text, or its refusal. The file `stdout` beside src/ has the Rust's tokens of the texts of
-// the file `stdin`, and their rows in the Rust's table. Its first lines are document 01's 'Strings to try', in its order, and all 429
-// spellings are among the others.
+// the rows of its reads as place:row, a line a text, or its refusal. The tokens are those that `tokenize` lists; the steps of
+// `Tokenizer`, the reads of `lex_at` and the lookup are held against them, and where one differs a word is printed in the line. The file
+// `stdout` beside src/ has the Rust's tokens of the texts of the file `stdin`, and their rows in the Rust's table. Its first lines are
+// document 01's 'Strings to try', in its order, and all 429 spellings are among the others.
 mod answer;
 mod input;
+mod reads;
+mod same;
+mod steps;
 
 use answer::print_answer;
 use input::END;

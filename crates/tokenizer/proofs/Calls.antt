@@ -21,6 +21,7 @@ use Rattle.lexer.specs.declared.found.TokenRow.{TokenRow}
 use Rattle.lexer.specs.Lookup.{tokenRow}
 use Rattle.lexer.specs.Listing.{listInto, listedTo, listedReads}
 use Rattle.lexer.proofs.Into.{into-whole}
+use Rattle.lexer.proofs.Places.{place-refused, place-accepted}
 use Rattle.tokenizer.specs.declared.TokenizedUnder.{TokenizedUnder}
 use Rattle.tokenizer.specs.Call.{tokenized, tokenizedUnder, counted}
 use Rattle.tokenizer.specs.Waiting.{allListed, Waiting}
@@ -34,13 +35,13 @@ pasted list table words n e = let k : 0 + n ≡ n = omega arith in rw (e, k)
 module _ (text table : List ℕ) where
   all-refused : (k : ℕ) → textRefusal text ≡ some k → _≡_ {A = Listing × List ℕ} (listedReads text 0 (length text) table) (Refused k, table)
   unfolding listedReads
-  all-refused k e = rw (e, listedReads)
+  all-refused k e = rw (place-refused text 0 k e, listedReads)
 
   all-tokens : textRefusal text ≡ none
       → _≡_ {A = Listing × List ℕ} (listedReads text 0 (length text) table) (Tokens (length (tokens text)) (countOthers (tokens text)) (allReads text .next) (tokenRow (allReads text .row)), listInto 0 table (tokens text))
   unfolding listedReads listedTo
   all-tokens o =
-      let e : _≡_ {A = Listing × List ℕ} (listedReads text 0 (length text) table) (ofList (allReads text .list)) = rw (o, listedReads) in
+      let e : _≡_ {A = Listing × List ℕ} (listedReads text 0 (length text) table) (ofList (allReads text .list)) = rw (place-accepted text 0 o (omega arith), listedReads) in
       e ∙ ap ofList (whole text)
     where
       ofList : List Lexeme → Listing × List ℕ

@@ -1,115 +1,38 @@
-use mathlib.Core.Path.{sym, ap, _∙_}
+use mathlib.Core.Path.{sym, ap}
 use mathlib.Core.List.{List}
 use Prim.Native.Nat.{ℕ}
-use borrow.Author.Needs.{needs}
 use Rattle.tokens.specs.Refusals.{Answer}
-use Rattle.print.specs.Call.{answerOf}
-use Rattle.asciimath.proofs.Passing.{refused-code, refused-values, accepted-code, accepted-values, three}
+use Rattle.asciimath_answers.proofs.Passing.{given-as}
+use borrow.Author.Needs.{needs}
 use Rattle.asciimath.proofs.asciimath_print.Statement.{statement}
 use Rattle.asciimath.proofs.asciimath_print.Tie as tie
 
--- src/lib.rt:156:11
 print-requires : tie.Need-print-requires
 print-requires c κs = search needs
 
--- src/lib.rt:157:26
-enum-known-k : tie.Need-enum-known-k
-enum-known-k c = search needs
+put-printed-requires : tie.Need-put-printed-requires
+put-printed-requires c κs = search needs
 
--- src/lib.rt:157:32
-refusal-requires : tie.Need-refusal-requires
-refusal-requires c κs = search needs
-
--- src/lib.rt:158:26
-enum-known-len : tie.Need-enum-known-len
-enum-known-len c = search needs
-
--- src/lib.rt:159:13
-put-requires : tie.Need-put-requires
-put-requires c κs = search needs
-
--- src/lib.rt:160:13
-put-requires-2 : tie.Need-put-requires-2
-put-requires-2 c κs = search needs
-
--- src/lib.rt:161:28
-cast-put : tie.Need-cast-put
-cast-put c = search needs
-
--- src/lib.rt:161:13
-put-requires-3 : tie.Need-put-requires-3
-put-requires-3 c κs = search needs
-
--- src/lib.rt:137:1
 same-length : tie.Need-same-length
 same-length c = search needs
 
--- src/lib.rt:137:1
 same-length-2 : tie.Need-same-length-2
 same-length-2 c = search needs
 
--- src/lib.rt:137:1
 same-length-3 : tie.Need-same-length-3
 same-length-3 c = search needs
 
--- src/lib.rt:137:1
 same-length-4 : tie.Need-same-length-4
 same-length-4 c = search needs
 
--- src/lib.rt:137:1
-returns : tie.Need-returns
-returns c =
-    let S = c .before .before .before .before .before .before .before .before .before .before .before .before .before .before .before .before .before .before .before .before .before .before .before in
-    let h = sym (ap answerOf (c .before .before .k .given .1)) ∙ ap (λ (p : Answer × List ℕ × List ℕ × List ℕ × List ℕ). p .0) (c .before .before .before .before .before .before .before .before .before .before .before .before .print .ensures) in
-    (c .refusal .ensures ∙ refused-code _ h, ap (λ (p : Answer × List ℕ × List ℕ × List ℕ × List ℕ). p .1) (c .before .before .before .before .before .before .before .before .before .before .before .before .print .ensures), ap (λ (p : Answer × List ℕ × List ℕ × List ℕ × List ℕ). p .2) (c .before .before .before .before .before .before .before .before .before .before .before .before .print .ensures), ap (λ (p : Answer × List ℕ × List ℕ × List ℕ × List ℕ). p .3) (c .before .before .before .before .before .before .before .before .before .before .before .before .print .ensures), ap (λ (p : Answer × List ℕ × List ℕ × List ℕ × List ℕ). p .4) (c .before .before .before .before .before .before .before .before .before .before .before .before .print .ensures), refused-values _ (S .args .answer .now) h)
-
--- src/lib.rt:137:1
 same-length-5 : tie.Need-same-length-5
 same-length-5 c = search needs
 
--- src/lib.rt:137:1
-same-length-6 : tie.Need-same-length-6
-same-length-6 c = search needs
-
--- src/lib.rt:137:1
-same-length-7 : tie.Need-same-length-7
-same-length-7 c = search needs
-
--- src/lib.rt:137:1
-same-length-8 : tie.Need-same-length-8
-same-length-8 c = search needs
-
--- src/lib.rt:137:1
-same-length-9 : tie.Need-same-length-9
-same-length-9 c = search needs
-
--- src/lib.rt:137:1
-returns-2 : tie.Need-returns-2
-returns-2 c =
-    let S = c .before .before .before .before .before .before .before .before .before .before .before .before .before .before .before .before .before .before .before .before .before .before .before .before .before .before .before .before .before .before .before .before .before .before in
-    let h = sym (ap answerOf (c .before .before .before .before .before .before .before .before .before .before .before .before .before .len .given .1)) ∙ ap (λ (p : Answer × List ℕ × List ℕ × List ℕ × List ℕ). p .0) (c .before .before .before .before .before .before .before .before .before .before .before .before .before .before .before .before .before .before .before .before .before .before .before .print .ensures) in
-    (accepted-code _ h, ap (λ (p : Answer × List ℕ × List ℕ × List ℕ × List ℕ). p .1) (c .before .before .before .before .before .before .before .before .before .before .before .before .before .before .before .before .before .before .before .before .before .before .before .print .ensures), ap (λ (p : Answer × List ℕ × List ℕ × List ℕ × List ℕ). p .2) (c .before .before .before .before .before .before .before .before .before .before .before .before .before .before .before .before .before .before .before .before .before .before .before .print .ensures), ap (λ (p : Answer × List ℕ × List ℕ × List ℕ × List ℕ). p .3) (c .before .before .before .before .before .before .before .before .before .before .before .before .before .before .before .before .before .before .before .before .before .before .before .print .ensures), ap (λ (p : Answer × List ℕ × List ℕ × List ℕ × List ℕ). p .4) (c .before .before .before .before .before .before .before .before .before .before .before .before .before .before .before .before .before .before .before .before .before .before .before .print .ensures), accepted-values _ (S .args .answer .now) h (rw (c .before .before .put3 .ensures, c .before .before .before .before .before .before .put2 .ensures, c .before .before .before .before .before .before .before .before .before .before .put .ensures) (three (S .args .answer .now) _ _ _)))
+returns : tie.Need-returns
+returns c =
+    let e = c .before .before .before .before .before .before .before .before .before .before .before .before .print .ensures in
+    let g = given-as (ap (λ (p : Answer × List ℕ × List ℕ × List ℕ × List ℕ). p .0) (sym e)) (c .before .before .put-printed .ensures) in
+    (g .code, ap (λ (p : Answer × List ℕ × List ℕ × List ℕ × List ℕ). p .1) e, ap (λ (p : Answer × List ℕ × List ℕ × List ℕ × List ℕ). p .2) e, ap (λ (p : Answer × List ℕ × List ℕ × List ℕ × List ℕ). p .3) e, ap (λ (p : Answer × List ℕ × List ℕ × List ℕ × List ℕ). p .4) e, g .values)
 
 pub asciimath-print-spec : {M : Type 1} → statement M
-asciimath-print-spec =
-    tie.close
-    (tie.spec
-    print-requires
-    enum-known-k
-    refusal-requires
-    enum-known-len
-    put-requires
-    put-requires-2
-    cast-put
-    put-requires-3
-    same-length
-    same-length-2
-    same-length-3
-    same-length-4
-    returns
-    same-length-5
-    same-length-6
-    same-length-7
-    same-length-8
-    same-length-9
-    returns-2)
+asciimath-print-spec = tie.close (tie.spec print-requires put-printed-requires same-length same-length-2 same-length-3 same-length-4 same-length-5 returns)

@@ -1,26 +1,27 @@
--- `leaf_kind`: by ranges of the kind.
-use borrow.Author.Tests.{lt-ltb, le-ltb, eq-eqb, ne-eqb}
-use borrow.Author.Needs.{needs}
+-- `leaf_kind`: by the kinds that have a node kind of their own.
+use borrow.Author.Tests.{eq-eqb, ne-eqb}
 use Rattle.leaves.proofs.leaf_kind.Statement.{statement}
 use Rattle.leaves.proofs.leaf_kind.Tie as tie
 
-sub-result : tie.Need-sub-result
-sub-result c = search needs
-
 returns : tie.Need-returns
-returns c = simp (lt-ltb _ _ (c .if1 .taken))
+returns c = simp (c .match .keys1)
 
 returns-2 : tie.Need-returns-2
-returns-2 c = simp (le-ltb _ _ (c .before .if1 .left), lt-ltb _ _ (c .if2 .taken))
+returns-2 c = simp (c .match .keys2)
 
 returns-3 : tie.Need-returns-3
-returns-3 c = simp (le-ltb _ _ (c .before .before .if1 .left), le-ltb _ _ (c .before .if2 .left), lt-ltb _ _ (c .if3 .taken))
+returns-3 c = simp (c .match .keys3)
 
 returns-4 : tie.Need-returns-4
-returns-4 c = simp (le-ltb _ _ (c .before .before .before .if1 .left), le-ltb _ _ (c .before .before .if2 .left), le-ltb _ _ (c .before .if3 .left), eq-eqb _ _ (c .if4 .taken))
+returns-4 c = simp (c .match .keys4)
 
 returns-5 : tie.Need-returns-5
-returns-5 c = simp (le-ltb _ _ (c .before .before .before .if1 .left), le-ltb _ _ (c .before .before .if2 .left), le-ltb _ _ (c .before .if3 .left), ne-eqb _ _ (c .if4 .left))
+returns-5 c = simp (c .match .keys5)
+
+returns-6 : tie.Need-returns-6
+returns-6 c =
+    let r = c .match .rest in
+    simp (ne-eqb _ _ (r .0 .0 .0 .0 .1), ne-eqb _ _ (r .0 .0 .0 .1), ne-eqb _ _ (r .0 .0 .1), ne-eqb _ _ (r .0 .1), ne-eqb _ _ (r .1))
 
 pub leaf-kind-spec : {M : Type 1} → statement M
-leaf-kind-spec = tie.close (tie.spec returns sub-result returns-2 returns-3 returns-4 returns-5)
+leaf-kind-spec = tie.close (tie.spec returns returns-2 returns-3 returns-4 returns-5 returns-6)

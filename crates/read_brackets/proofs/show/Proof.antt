@@ -67,6 +67,9 @@ returns-2 c = search needs
 returns-3 : tie.Need-returns-3
 returns-3 c = search needs
 
+returns-4 : tie.Need-returns-4
+returns-4 c = search needs
+
 pub show-spec : {M : Type 1} → statement M
 show-spec =
     tie.close
@@ -90,4 +93,5 @@ show-spec =
     slice-aggregate-write-line-2
     write-line-requires-2
     returns-2
-    returns-3)
+    returns-3
+    returns-4)

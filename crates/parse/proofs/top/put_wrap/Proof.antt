@@ -4,43 +4,33 @@ use borrow.Author.Needs.{needs}
 use Rattle.parse.proofs.top.put_wrap.Statement.{statement}
 use Rattle.parse.proofs.top.put_wrap.Tie as tie
 
--- src/top.rt:118:5
 put1-requires : tie.Need-put1-requires
 put1-requires c κs = search needs
 
--- src/top.rt:119:16
 add-put6 : tie.Need-add-put6
 add-put6 c = search needs
 
--- src/top.rt:119:5
 put6-requires : tie.Need-put6-requires
 put6-requires c κs = search needs
 
--- src/top.rt:120:16
 add-put6-2 : tie.Need-add-put6-2
 add-put6-2 c = search needs
 
--- src/top.rt:120:34
 sep-of-requires : tie.Need-sep-of-requires
 sep-of-requires c κs = search needs
 
--- src/top.rt:120:53
 start-at-requires : tie.Need-start-at-requires
 start-at-requires c κs = search needs
 
--- src/top.rt:120:77
 len-at-requires : tie.Need-len-at-requires
 len-at-requires c κs = search needs
 
--- src/top.rt:120:5
 put6-requires-2 : tie.Need-put6-requires-2
 put6-requires-2 c κs = search needs
 
--- src/top.rt:113:1
 same-length : tie.Need-same-length
 same-length c = search needs
 
--- src/top.rt:113:1
 returns : tie.Need-returns
 returns c = rw (c .before .before .put62 .ensures, c .before .before .before .before .before .before .before .before .before .put6 .ensures, c .before .before .before .before .before .before .before .before .before .before .before .before .before .put1 .ensures, c .before .before .before .before .before .sep-of .ensures, c .before .before .before .before .start-at .ensures, c .before .before .before .len-at .ensures, add-one, seven)
 

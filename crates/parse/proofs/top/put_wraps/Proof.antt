@@ -11,39 +11,30 @@ Inv-loop tok work n tree₀ wraps last i₀ at₀ k₀ tree i at k = Putting tok
 abbrev μ-loop : tie.MeasureT-loop
 μ-loop tok work n tree₀ wraps last i₀ at₀ k₀ tree i at k = wraps - k
 
--- src/top.rt:132:5
 loop-holds : tie.Need-loop-holds Inv-loop μ-loop
 loop-holds c = putting-none (c .before .before .before .args .tok .now) (c .before .before .before .args .work .now) (c .before .before .before .args .n) (c .before .before .before .args .wraps) (c .before .before .before .args .last) (c .before .before .before .args .tree .now)
 
--- src/top.rt:133:9
 put-wrap-requires : tie.Need-put-wrap-requires Inv-loop μ-loop
 put-wrap-requires c κs = let q = next-wrap (c .before .before .loop .inv) (c .before .loop-test .taken) (c .before .before .before .before .before .before .pre .0) in (c .before .before .before .before .before .before .pre .0 .placed (c .before .before .loop .i) (q .small), omega (arith, c .before .before .before .before .before .before .pre .1, c .before .before .loop .inv .place, c .before .before .loop .inv .long, c .before .loop-test .taken))
 
--- src/top.rt:134:9
 after-close-requires : tie.Need-after-close-requires Inv-loop μ-loop
 after-close-requires c κs = search needs
 
--- src/top.rt:135:9
 add-at : tie.Need-add-at Inv-loop μ-loop
 add-at c = omega (arith, c .before .before .before .before .before .before .before .before .before .before .pre .1, c .before .before .before .before .before .before .loop .inv .place, c .before .before .before .before .before .loop-test .taken, c .before .before .before .before .before .before .before .before .before .before .good .1 .1 .1 .0 .0)
 
--- src/top.rt:136:9
 add-k : tie.Need-add-k Inv-loop μ-loop
 add-k c = omega (arith, c .before .before .before .before .before .before .before .before .before .before .pre .1, c .before .before .before .before .before .loop-test .taken, c .before .before .before .before .before .before .before .before .before .before .good .1 .1 .1 .0 .0)
 
--- src/top.rt:132:5
 loop-less : tie.Need-loop-less Inv-loop μ-loop
 loop-less c = omega (arith, c .before .before .before .before .before .loop-test .taken)
 
--- src/top.rt:132:5
 loop-again : tie.Need-loop-again Inv-loop μ-loop
 loop-again c = putting-more (c .before .before .before .before .before .before .loop .inv) (c .before .before .before .before .before .loop-test .taken) (c .before .before .before .put-wrap .ensures) (c .after-close .ensures)
 
--- src/top.rt:124:1
 same-length : tie.Need-same-length Inv-loop μ-loop
 same-length c = c .before .loop .inv .long
 
--- src/top.rt:124:1
 returns : tie.Need-returns Inv-loop μ-loop
 returns c = λ p. putting-all (c .before .loop .inv) (c .loop-test .left) p
 

@@ -3,27 +3,21 @@ use borrow.Author.Needs.{needs}
 use Rattle.parse.proofs.top.wrap_items.Statement.{statement}
 use Rattle.parse.proofs.top.wrap_items.Tie as tie
 
--- src/top.rt:148:9
 returns : tie.Need-returns
 returns c = λ p. wrapped-none (c .before .before .before .before .args .tree .now) (c .before .before .before .before .args .end) (c .if1 .taken) p
 
--- src/top.rt:150:22
 mul-shift : tie.Need-mul-shift
 mul-shift c = search needs
 
--- src/top.rt:150:5
 shift-requires : tie.Need-shift-requires
 shift-requires c κs = search needs
 
--- src/top.rt:151:5
 put-wraps-requires : tie.Need-put-wraps-requires
 put-wraps-requires c κs = search needs
 
--- src/top.rt:141:1
 same-length : tie.Need-same-length
 same-length c = search needs
 
--- src/top.rt:141:1
 returns-2 : tie.Need-returns-2
 returns-2 c = λ p. wrapped-all (c .before .before .before .before .before .before .before .before .before .before .before .before .args .tree .now) (c .before .before .before .before .before .before .before .before .before .before .before .before .args .end) (moved-on (c .before .before .before .before .before .before .before .before .before .before .before .before .args .tree .now) (c .before .before .before .before .before .before .before .before .before .before .before .before .args .end) _ (c .before .before .before .before .before .before .shift .ensures) (c .before .before .before .before .before .before .before .before .before .before .before .before .pre .1 .1)) (c .before .before .before .before .before .before .shift .kept .0) (c .before .before .before .before .before .before .before .before .before .before .before .before .pre .1 .1) p (c .before .before .put-wraps .ensures p)
 

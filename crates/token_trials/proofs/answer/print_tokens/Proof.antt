@@ -6,10 +6,10 @@ use Rattle.token_trials.proofs.answer.print_tokens.Statement.{statement
 use Rattle.token_trials.proofs.answer.print_tokens.Tie as tie
 
 abbrev Inv-loop : tie.InvT-loop
-Inv-loop words n i₀ i = i ≤ length words
+Inv-loop list i₀ i = i ≤ length list
 
 abbrev μ-loop : tie.MeasureT-loop
-μ-loop words n i₀ i = length words - i
+μ-loop list i₀ i = length list - i
 
 loop-holds : tie.Need-loop-holds Inv-loop μ-loop
 loop-holds c = search needs
@@ -35,9 +35,6 @@ loop-again c = search needs
 returns : tie.Need-returns Inv-loop μ-loop
 returns c = search needs
 
-returns-2 : tie.Need-returns-2 Inv-loop μ-loop
-returns-2 c = search needs
-
 pub print-tokens-spec : {M : Type 1} → statement M
 print-tokens-spec =
     tie.close
@@ -51,5 +48,4 @@ print-tokens-spec =
     add-i
     loop-less
     loop-again
-    returns
-    returns-2)
+    returns)

@@ -66,14 +66,14 @@ add-split-column-lines t c = let S = c .before .before .before .before .before .
 
 pub split-column-lines-requires : (t : ℕ) → try-matrix-lts.Need-split-column-lines-requires (uses t) (try-matrix-at t) try-matrix.Post
 split-column-lines-requires t c κs = let S = c .before .before .before .before .before .before .before .before .before .before .before .before .before .before .before .before .before .before .before .before .before in
-    let p = rw (c .before .before .enum-told .given .1) at (c .before .before .before .before .before .before .before .before .before .next-rows .ensures) in split-ready (p .4 _ _ (some-at (S .pre .1 .0 .known) (S .args .c .pos) (S .args .c .takes))) (p .1) (p .2) (omega (arith, p .0 .on, p .0 .within, S .pre .1 .0 .safe .few)) (omega (arith, S .pre .1 .0 .room, p .0 .room, p .0 .long))
+    let p = rw (c .before .before .enum-told .given .1) at (c .before .before .before .before .before .before .before .before .before .next-rows .ensures .0) in split-ready (p .4 _ _ (some-at (S .pre .1 .0 .known) (S .args .c .pos) (S .args .c .takes))) (p .1) (p .2) (omega (arith, p .0 .on, p .0 .within, S .pre .1 .0 .safe .few)) (omega (arith, S .pre .1 .0 .room, p .0 .room, p .0 .long))
 
 pub makes-matrix-requires : (t : ℕ) → try-matrix-lts.Need-makes-matrix-requires (uses t) (try-matrix-at t) try-matrix.Post
 makes-matrix-requires t c κs = search needs
 
 pub put-matrix-requires : (t : ℕ) → try-matrix-lts.Need-put-matrix-requires (uses t) (try-matrix-at t) try-matrix.Post
 put-matrix-requires t c κs = let S = c .before .before .before .before .before .before .before .before .before .before .before .before .before .before .before .before .before .before .before .before .before .before .before .before .before .before .before .before in
-    let p = rw (c .before .before .before .before .before .before .before .before .before .enum-told .given .1) at (c .before .before .before .before .before .before .before .before .before .before .before .before .before .before .before .before .next-rows .ensures) in let q = c .before .before .before .before .before .before .split-column-lines .ensures in (omega (arith, S .pre .1 .0 .room, p .0 .long, c .before .before .before .before .before .before .split-column-lines .kept .1 .0), (omega (arith, q .mostCells, p .0 .on, p .0 .within, S .pre .1 .0 .safe .few), (omega (arith, q .mostCols, p .2, p .0 .on, p .0 .within, S .pre .1 .0 .safe .few), omega (arith, q .mostLines, p .2, p .0 .on, p .0 .within, S .pre .1 .0 .safe .few))))
+    let p = rw (c .before .before .before .before .before .before .before .before .before .enum-told .given .1) at (c .before .before .before .before .before .before .before .before .before .before .before .before .before .before .before .before .next-rows .ensures .0) in let q = c .before .before .before .before .before .before .split-column-lines .ensures in (omega (arith, S .pre .1 .0 .room, p .0 .long, c .before .before .before .before .before .before .split-column-lines .kept .1 .0), (omega (arith, q .mostCells, p .0 .on, p .0 .within, S .pre .1 .0 .safe .few), (omega (arith, q .mostCols, p .2, p .0 .on, p .0 .within, S .pre .1 .0 .safe .few), omega (arith, q .mostLines, p .2, p .0 .on, p .0 .within, S .pre .1 .0 .safe .few))))
 
 pub next-requires : (t : ℕ) → try-matrix-lts.Need-next-requires (uses t) (try-matrix-at t) try-matrix.Post
 next-requires t c κs = let S = c .before .before .before .before .before .before .before .before .before .before .before .before .before .before .before .before .before .before .before .before .before .before .before .before .before .before .before .before .before .before .before in
@@ -87,7 +87,7 @@ same-length-4 t c = omega (arith, c .before .before .before .before .before .bef
 
 pub returns-3 : (t : ℕ) → try-matrix-lts.Need-returns-3 (uses t) (try-matrix-at t) try-matrix.Post
 returns-3 t c = let S = c .before .before .before .before .before .before .before .before .before .before .before .before .before .before .before .before .before .before .before .before .before .before .before .before .before .before .before .before .before .before .before .before in
-    let p = rw (c .before .before .before .before .before .before .before .before .before .before .before .before .before .enum-told .given .1) at (c .before .before .before .before .before .before .before .before .before .before .before .before .before .before .before .before .before .before .before .before .next-rows .ensures) in rw (c .next .ensures) (try-made (S .args .i) (S .args .c) (S .args .e) (S .args .tree .now) (S .pre .1 .1) (S .pre .1 .0 .here) (sym (c .before .before .before .before .before .before .before .before .before .before .before .before .before .before .before .before .before .before .before .before .before .before .before .before .before .before .could-be-matrix .ensures) ∙ not-false _ (c .before .before .before .before .before .before .before .before .before .before .before .before .before .before .before .before .before .before .before .before .before .before .before .before .before .if1 .left)) (sym (c .before .before .before .before .before .before .before .before .before .before .before .before .before .before .before .before .before .before .before .before .before .before .before .before .failed-at .ensures) ∙ c .before .before .before .before .before .before .before .before .before .before .before .before .before .before .before .before .before .before .before .before .before .before .before .if2 .left) _ _ (S .pre .1 .0 .room) _ (c .before .before .before .before .before .before .before .before .before .before .split-column-lines .result) (p .0) (p .2) (p .3) (p .4) (c .before .before .before .before .before .before .before .before .before .before .split-column-lines .ensures) (c .before .before .before .before .before .before .before .before .before .before .split-column-lines .kept .1 .0) (sym (c .before .before .before .before .before .before .makes-matrix .ensures) ∙ c .before .before .before .before .before .if3 .taken) (c .before .before .before .put-matrix .ensures))
+    let p = rw (c .before .before .before .before .before .before .before .before .before .before .before .before .before .enum-told .given .1) at (c .before .before .before .before .before .before .before .before .before .before .before .before .before .before .before .before .before .before .before .before .next-rows .ensures .0) in rw (c .next .ensures) (try-made (S .args .i) (S .args .c) (S .args .e) (S .args .tree .now) (S .pre .1 .1) (S .pre .1 .0 .here) (sym (c .before .before .before .before .before .before .before .before .before .before .before .before .before .before .before .before .before .before .before .before .before .before .before .before .before .before .could-be-matrix .ensures) ∙ not-false _ (c .before .before .before .before .before .before .before .before .before .before .before .before .before .before .before .before .before .before .before .before .before .before .before .before .before .if1 .left)) (sym (c .before .before .before .before .before .before .before .before .before .before .before .before .before .before .before .before .before .before .before .before .before .before .before .before .failed-at .ensures) ∙ c .before .before .before .before .before .before .before .before .before .before .before .before .before .before .before .before .before .before .before .before .before .before .before .if2 .left) _ _ (S .pre .1 .0 .room) _ (c .before .before .before .before .before .before .before .before .before .before .split-column-lines .result) (p .0) (p .2) (p .3) (p .4) (c .before .before .before .before .before .before .before .before .before .before .split-column-lines .ensures) (c .before .before .before .before .before .before .before .before .before .before .split-column-lines .kept .1 .0) (sym (c .before .before .before .before .before .before .makes-matrix .ensures) ∙ c .before .before .before .before .before .if3 .taken) (c .before .before .before .put-matrix .ensures))
 
 pub mark-failed-requires : (t : ℕ) → try-matrix-lts.Need-mark-failed-requires (uses t) (try-matrix-at t) try-matrix.Post
 mark-failed-requires t c κs = search needs
@@ -104,6 +104,6 @@ same-length-6 t c = ⊎-elim (λ w. omega (arith, c .before .before .before .bef
 pub returns-4 : (t : ℕ) → try-matrix-lts.Need-returns-4 (uses t) (try-matrix-at t) try-matrix.Post
 returns-4 t c = let S = c .before .before .before .before .before .before .before .before .before .before .before .before .before .before .before .before .before .before .before .before .before .before .before in
     rw (c .rewind .ensures) (⊎-elim
-    (λ w. let p = rw (w .1 .given .1) at (c .before .before .before .before .before .before .before .before .before .before .before .next-rows .ensures) in let sj = safe-kept (p .0 .kept) (S .pre .1 .0 .safe) in rw (w .10) (try-unmade (S .args .i) (S .args .c) (S .args .e) (S .args .tree .now) (S .pre .1 .1) (S .pre .1 .0 .here) (sym (c .before .before .before .before .before .before .before .before .before .before .before .before .before .before .before .before .before .could-be-matrix .ensures) ∙ not-false _ (c .before .before .before .before .before .before .before .before .before .before .before .before .before .before .before .before .if1 .left)) (sym (c .before .before .before .before .before .before .before .before .before .before .before .before .before .before .before .failed-at .ensures) ∙ c .before .before .before .before .before .before .before .before .before .before .before .before .before .before .if2 .left) _ _ (S .pre .1 .0 .room) _ (w .4 .result) (p .0) (p .2) (p .3) (p .4) (w .4 .ensures) (w .4 .kept .1 .0) (sym (w .8 .ensures) ∙ w .9 .left) ((sj .placed (S .args .i) (S .pre .1 .1)) .fit) (c .before .before .before .mark-failed .ensures)))
-    (λ w. let p = rows-failed (S .args .text .now) (S .args .tok .now) (S .args .n) (S .args .work .now) (c .before .before .before .before .before .before .before .before .before .before .before .next-rows .last .1 .1 .1 .0) (S .args .c) (S .args .e + 8) (S .args .tree .now) (c .before .before .before .before .before .before .before .before .before .before .before .next-rows .last .1 .1 .1 .1 .0) (c .before .before .before .before .before .before .before .before .before .before .before .next-rows .result .cols) (c .before .before .before .before .before .before .before .before .before .before .before .next-rows .result .left) (c .before .before .before .before .before .before .before .before .before .before .before .next-rows .result .cells) (c .before .before .before .before .before .before .before .before .before .before .before .next-rows .result .cur) (c .before .before .before .before .before .before .before .before .before .before .before .next-rows .result .end) (c .before .before .before .before .before .before .before .before .before .before .before .next-rows .result .why) (w .0 .keys2) (c .before .before .before .before .before .before .before .before .before .before .before .next-rows .ensures) in let sj = safe-kept (p .0 .kept) (S .pre .1 .0 .safe) in rw (w .1) (try-broken (S .args .i) (S .args .c) (S .args .e) (S .args .tree .now) (S .pre .1 .1) (S .pre .1 .0 .here) (sym (c .before .before .before .before .before .before .before .before .before .before .before .before .before .before .before .before .before .could-be-matrix .ensures) ∙ not-false _ (c .before .before .before .before .before .before .before .before .before .before .before .before .before .before .before .before .if1 .left)) (sym (c .before .before .before .before .before .before .before .before .before .before .before .before .before .before .before .failed-at .ensures) ∙ c .before .before .before .before .before .before .before .before .before .before .before .before .before .before .if2 .left) _ _ (S .pre .1 .0 .room) (p .0) (p .1) ((sj .placed (S .args .i) (S .pre .1 .1)) .fit) (c .before .before .before .mark-failed .ensures)))
+    (λ w. let p = rw (w .1 .given .1) at (c .before .before .before .before .before .before .before .before .before .before .before .next-rows .ensures .0) in let sj = safe-kept (p .0 .kept) (S .pre .1 .0 .safe) in rw (w .10) (try-unmade (S .args .i) (S .args .c) (S .args .e) (S .args .tree .now) (S .pre .1 .1) (S .pre .1 .0 .here) (sym (c .before .before .before .before .before .before .before .before .before .before .before .before .before .before .before .before .before .could-be-matrix .ensures) ∙ not-false _ (c .before .before .before .before .before .before .before .before .before .before .before .before .before .before .before .before .if1 .left)) (sym (c .before .before .before .before .before .before .before .before .before .before .before .before .before .before .before .failed-at .ensures) ∙ c .before .before .before .before .before .before .before .before .before .before .before .before .before .before .if2 .left) _ _ (S .pre .1 .0 .room) _ (w .4 .result) (p .0) (p .2) (p .3) (p .4) (w .4 .ensures) (w .4 .kept .1 .0) (sym (w .8 .ensures) ∙ w .9 .left) ((sj .placed (S .args .i) (S .pre .1 .1)) .fit) (c .before .before .before .mark-failed .ensures)))
+    (λ w. let p = rows-failed (S .args .text .now) (S .args .tok .now) (S .args .n) (S .args .work .now) (c .before .before .before .before .before .before .before .before .before .before .before .next-rows .last .1 .1 .1 .0) (S .args .c) (S .args .e + 8) (S .args .tree .now) (c .before .before .before .before .before .before .before .before .before .before .before .next-rows .last .1 .1 .1 .1 .0) (c .before .before .before .before .before .before .before .before .before .before .before .next-rows .result .cols) (c .before .before .before .before .before .before .before .before .before .before .before .next-rows .result .left) (c .before .before .before .before .before .before .before .before .before .before .before .next-rows .result .cells) (c .before .before .before .before .before .before .before .before .before .before .before .next-rows .result .cur) (c .before .before .before .before .before .before .before .before .before .before .before .next-rows .result .end) (c .before .before .before .before .before .before .before .before .before .before .before .next-rows .result .why) (w .0 .keys2) (c .before .before .before .before .before .before .before .before .before .before .before .next-rows .ensures .0) in let sj = safe-kept (p .0 .kept) (S .pre .1 .0 .safe) in rw (w .1) (try-broken (S .args .i) (S .args .c) (S .args .e) (S .args .tree .now) (S .pre .1 .1) (S .pre .1 .0 .here) (sym (c .before .before .before .before .before .before .before .before .before .before .before .before .before .before .before .before .before .could-be-matrix .ensures) ∙ not-false _ (c .before .before .before .before .before .before .before .before .before .before .before .before .before .before .before .before .if1 .left)) (sym (c .before .before .before .before .before .before .before .before .before .before .before .before .before .before .before .failed-at .ensures) ∙ c .before .before .before .before .before .before .before .before .before .before .before .before .before .before .if2 .left) _ _ (S .pre .1 .0 .room) (p .0) (p .1) ((sj .placed (S .args .i) (S .pre .1 .1)) .fit) (c .before .before .before .mark-failed .ensures)))
     (c .before .before .before .before .before .match .came))
