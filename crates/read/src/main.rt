@@ -2,7 +2,6 @@
 use print::Printed;
 use read_input::Input;
 use read_input::MOST;
-use read_input::ROOM;
 use read_input::read_input;
 use read_output::write_first;
 ghost use mathlib.Core.Path.{_≡_};
@@ -49,8 +48,9 @@ fn reply(text: &[u8], out: &mut [u8]) -> usize
     }
 }
 
+// One byte more than the most tells a text that is too long.
 fn main() {
-    let mut input = [0u8; ROOM];
+    let mut input = [0u8; MOST + 1];
     let Input::Bytes(n) = read_input(&mut input) else {
         return;
     };

@@ -11,9 +11,6 @@ ghost use Rattle.read_input.specs.Reads.{nextOf, Fitting, Standing};
 // A text of more bytes is refused.
 pub const MOST: usize = 500;
 
-// One byte more tells a text that is too long.
-pub const ROOM: usize = MOST + 1;
-
 // How many bytes of the input stand first in the buffer, or that it could not be read.
 pub enum Input {
     Bytes(usize),

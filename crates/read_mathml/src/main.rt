@@ -2,7 +2,6 @@
 use mathml::Marked;
 use read_input::Input;
 use read_input::MOST;
-use read_input::ROOM;
 use read_input::read_input;
 use read_output::write_line;
 use read_output::write_refusal;
@@ -29,8 +28,9 @@ fn show(text: &[u8]) {
     }
 }
 
+// One byte more than the most tells a text that is too long.
 fn main() {
-    let mut input = [0u8; ROOM];
+    let mut input = [0u8; MOST + 1];
     let Input::Bytes(n) = read_input(&mut input) else {
         return;
     };
