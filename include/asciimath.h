@@ -30,7 +30,7 @@
  * ## Threads and stack
  *
  * The library has no state: any number of threads may call it, each with its own buffers. Depth of
- * recursion is limited whatever the text, and 256 KiB of stack are enough: 239,704 bytes at most were
+ * recursion is limited whatever the text, and 256 KiB of stack are enough: 239,720 bytes at most were
  * measured, by any call, and 241,904 counted for a reading from the frames of the object code
  * (tools/robust). Neither is proved.
  *
