@@ -24,7 +24,8 @@ use Rattle.records.specs.Record.{Kept}
 use Rattle.reading_words.specs.Meet.{Input, At, Known, cellsAt, rowAt, moreAt, rowsAt, First}
 
 -- "Loop over rows and cells left by label, yielding the reason." Why the rows behind the first one, h, end, by the turns of the
--- definition's own loop, `moreRows`: no Sep follows; no row could be read behind one; or a row was read that differs from the first.
+-- definition's own loop, `moreRows`, and as many: no Sep follows; no row could be read behind one; or a row was read that differs from the
+-- first. (There are turns enough for every list, so the first line is never met.)
 unfoldable pub whyMore : ℕ → Input → ℕ → Row → M Why
 whyMore d I zero h = return why.Broken
 whyMore d I (suc f) h =
