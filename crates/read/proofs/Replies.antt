@@ -1,15 +1,14 @@
 -- What the call's answer says of the program's reply, where the buffers are long enough for any text of `most` bytes.
-use Prim.Native.Nat.{ℕ, _+_, _*_, _/_, _%_, _≤_, _<_}
+use Prim.Native.Nat.{ℕ, _+_, _*_, _/_, _≤_, _<_}
 use mathlib.Core.Path.{_≡_, refl, sym, ap, _∙_}
 use mathlib.Core.Bool.{Bool}
-use mathlib.Core.List.{List, [], _∷_, _++_}
+use mathlib.Core.List.{List, _++_}
 use mathlib.Core.Option.{none, some}
 use native.Mathlib.Omega.{arith}
 use lib.Dec.{ltb}
-use lib.ListN.{length, take, drop, set, length-append, length-drop, length-set}
-use lib.Seq.{take-at, take-suc-set}
+use lib.ListN.{length, drop, length-append}
+use lib.Seq.{take-at, sets-eq}
 use borrow.Author.Tests.{lt-ltb, le-ltb}
-use Rattle.tokens.specs.Bytes.{bytes}
 use Rattle.tokens.specs.Refusals.{accepted, refused, ascii, textRefusal, entryWords}
 use Rattle.tokens.specs.Table.{countOthers}
 use Rattle.room.proofs.Lengths.{room-enough}
@@ -20,11 +19,12 @@ use Rattle.parse.specs.Call.{parseRefusal}
 use Rattle.parse.proofs.Calls.{text-refused, table-long, others-within}
 use Rattle.print.specs.declared.Printed.{Printed}
 use Rattle.print.specs.declared.Printed.the-variants.{Whole, Refused}
-use Rattle.writer.specs.Decimal.{decimal}
+use Rattle.writer.specs.Put.{Put}
 use Rattle.print.specs.Call.{answerOf, printOf, values, printedText}
 use Rattle.writer.proofs.Decimals.{small, large}
 use Rattle.print.proofs.Calls.{LeftAll, refused-so, short-so, whole-so}
-use Rattle.read.specs.Reply.{refusal, printRoom, most, replyTo, Written}
+use Rattle.read_output.specs.Line.{refusal}
+use Rattle.read.specs.Reply.{printRoom, most, replyTo, Written}
 
 -- buffers for any text of this length
 any-text : (text : List ℕ) (table work tree : ℕ) → textRefusal text ≡ none → 3 * length text ≤ table → entryWords * (length text + 1) ≤ work
@@ -34,40 +34,25 @@ any-text text table work tree ok a b c =
     let m = others-within (tokens text) in
     table-long entryWords text table work tree ok (omega arith) ∙ room-enough entryWords (countOthers (tokens text)) work tree (omega arith) (omega arith)
 
--- The line of a refusal, byte by byte behind `refused=`.
-module _ (x out : List ℕ) (e : x ≡ bytes "refused=" ++ drop 8 out) (room : 11 ≤ length out) where
-  size : length x ≡ length out
-  size = ap length e ∙ simp (length-append, length-drop) (omega arith)
+-- The line of a refusal by one or two digits has room.
+line-short : (k : ℕ) → k < 100 → length (refusal k) ≤ 11
+unfolding refusal
+line-short k h =
+    by-lt k 10
+    (λ l. rw (small k l) (omega arith))
+    (λ l. rw (large k l) (rw (small (k / 10) (omega arith)) (omega arith)))
 
-  front : take 8 x ≡ bytes "refused="
-  front = rw e (take-at (bytes "refused=") (drop 8 out) 8 refl)
-
-  pub one-digit : (k : ℕ) → k < 10 → Written (refusal k) (set (set x 8 (48 + k)) 9 10) 10
-  unfolding refusal
-  one-digit k h = record {
-    count = rw (small k h);
-    fits = simp length-set (omega (arith, size));
-    first = rw (small k h)
-        (take-suc-set (set x 8 (48 + k)) 9 10 (simp length-set (omega (arith, size))) ∙
-        ap (λ (l : List ℕ). l ++ (10 ∷ [])) (take-suc-set x 8 (48 + k) (omega (arith, size)) ∙ ap (λ (l : List ℕ). l ++ ((48 + k) ∷ [])) front));
-  }
-
-  pub two-digits : (k : ℕ) → 10 ≤ k → k < 100
-      → Written (refusal k) (set (set (set x 8 (48 + k / 10)) 9 (48 + k % 10)) 10 10) 11
-  unfolding refusal
-  two-digits k l h =
-      let a = 48 + k / 10 in
-      let b = 48 + k % 10 in
-      let d : decimal k ≡ a ∷ b ∷ [] = large k l ∙ rw (small (k / 10) (omega arith)) in
-      record {
-        count = rw d;
-        fits = simp length-set (omega (arith, size));
-        first = rw d
-            (take-suc-set (set (set x 8 a) 9 b) 10 10 (simp length-set (omega (arith, size))) ∙
-            ap (λ (l : List ℕ). l ++ (10 ∷ []))
-            (take-suc-set (set x 8 a) 9 b (simp length-set (omega (arith, size))) ∙
-            ap (λ (l : List ℕ). l ++ (b ∷ [])) (take-suc-set x 8 a (omega (arith, size)) ∙ ap (λ (l : List ℕ). l ++ (a ∷ [])) front)));
-      }
+pub refused-line : (x y : List ℕ) (r k : ℕ) → length x ≡ printRoom → k < 100 → Put x 0 y r (refusal k) → Written (refusal k) y r
+refused-line x y r k room h p =
+    let l = line-short k h in
+    let z : 0 + length (refusal k) ≡ length (refusal k) = omega arith in
+    let e : y ≡ refusal k ++ drop (length (refusal k)) x = p .bytes ∙ sets-eq (refusal k) x 0 (omega arith) ∙ ap (λ (m : ℕ). refusal k ++ drop m x) z in
+    let n : r ≡ length (refusal k) = omega (arith, p .count) in
+    record {
+      count = n;
+      fits = omega (arith, p .same);
+      first = rw (e, n) (take-at (refusal k) (drop (length (refusal k)) x) (length (refusal k)) refl);
+    }
 
 -- a text's own refusals are 1 and 2
 few-numbers : (text : List ℕ) (k : ℕ) → textRefusal text ≡ some k → k ≤ 2

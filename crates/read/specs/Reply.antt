@@ -2,19 +2,13 @@
 use Prim.Native.Nat.{ℕ, _≤_}
 use mathlib.Core.Path.{_≡_}
 use mathlib.Core.Bool.{true, false}
-use mathlib.Core.List.{List, _++_}
+use mathlib.Core.List.{List}
 use mathlib.Core.Option.{none, some}
 use lib.Dec.{ltb}
 use lib.ListN.{length, take}
-use Rattle.tokens.specs.Bytes.{bytes}
 use Rattle.tokens.specs.Refusals.{textRefusal}
-use Rattle.writer.specs.Decimal.{decimal}
-use Rattle.line.specs.Print.{newline}
 use Rattle.print.specs.Call.{printOf}
-
--- "any other refusal as `refused=` with its number"; "Every line ends in a newline byte."
-unfoldable pub refusal : ℕ → List ℕ
-refusal k = bytes "refused=" ++ (decimal k ++ newline)
+use Rattle.read_output.specs.Line.{refusal}
 
 -- "its print buffer 65,536 bytes long"
 abbrev pub printRoom : ℕ

@@ -4,9 +4,10 @@ use closers::PairedText;
 use read_input::Input;
 use read_input::MOST;
 use read_input::read_input;
-use read_output::write_line;
-use read_output::write_refusal;
+use read_output::put_refusal;
+use read_output::write_answer;
 use tokens::kinds::SPACE;
+use writer::put_bytes;
 ghost use Prim.Native.Nat.{_*_, _≤_, _<_};
 ghost use lib.ListN.{length};
 ghost use Rattle.read_brackets.specs.Place.{PlaceOf};
@@ -96,24 +97,27 @@ fn show_bytes(text: &[u8], line: &mut [u8])
     }
 }
 
-// The buffers are long enough for any text of so many bytes.
-fn show(text: &[u8]) {
+fn put_line(out: &mut [u8], at: usize, line: &[u8]) -> usize {
+    let end = put_bytes(out, at, line);
+    put_bytes(out, end, b"\n")
+}
+
+// What the program writes for a text, first in `out`; how many bytes. The buffers are long enough for any text of so many bytes.
+fn reply(text: &[u8], out: &mut [u8]) -> usize {
     if MOST < text.len() {
-        write_refusal(1);
-        return;
+        return put_refusal(out, 1);
     }
     let mut table = [0u32; 3 * MOST];
-    let mut out = [0u32; MOST];
-    match closers::closers_text(text, &mut table, &mut out) {
-        PairedText::Refused(number) => write_refusal(number),
+    let mut closers = [0u32; MOST];
+    match closers::closers_text(text, &mut table, &mut closers) {
+        PairedText::Refused(number) => put_refusal(out, number),
         PairedText::Found { tokens, others } => {
             let mut above = [b' '; MOST];
             let mut below = [b' '; MOST];
             show_bytes(text, &mut above);
-            mark_pairs(&table, tokens, &out, others, &mut below);
-            if write_line(&above, text.len()) {
-                write_line(&below, text.len());
-            }
+            mark_pairs(&table, tokens, &closers, others, &mut below);
+            let end = put_line(out, 0, &above[..text.len()]);
+            put_line(out, end, &below[..text.len()])
         }
     }
 }
@@ -124,5 +128,7 @@ fn main() {
     let Input::Bytes(n) = read_input(&mut input) else {
         return;
     };
-    show(&input[..n]);
+    let mut out = [0u8; 2 * (MOST + 1)];
+    let len = reply(&input[..n], &mut out);
+    write_answer(&out, len);
 }

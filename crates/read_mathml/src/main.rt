@@ -3,28 +3,25 @@ use mathml::Marked;
 use read_input::Input;
 use read_input::MOST;
 use read_input::read_input;
-use read_output::write_line;
-use read_output::write_refusal;
+use read_output::put_refusal;
+use read_output::write_answer;
+use writer::put_bytes;
 
-// Table, work and tree are long enough for any text of so many bytes.
-fn show(text: &[u8]) {
+// What the program writes for a text, first in `out`; how many bytes. Table, work and tree are long enough for any text of so many bytes.
+fn reply(text: &[u8], out: &mut [u8]) -> usize {
     if MOST < text.len() {
-        write_refusal(1);
-        return;
+        return put_refusal(out, 1);
     }
     let mut table = [0u32; 3 * MOST];
     let mut work = [0u32; 2 * (MOST + 1)];
     let mut tree = [0u32; 32 * (MOST + 1)];
-    let mut out = io::large_buffer();
-    match mathml::mathml(text, &mut table, &mut work, &mut tree, &mut out) {
-        Marked::Refused(number) => write_refusal(number),
+    match mathml::mathml(text, &mut table, &mut work, &mut tree, out) {
+        Marked::Refused(number) => put_refusal(out, number),
         Marked::Whole {
             len,
             takes: _,
             blank: _,
-        } => {
-            write_line(&out, len);
-        }
+        } => put_bytes(out, len, b"\n"),
     }
 }
 
@@ -34,5 +31,7 @@ fn main() {
     let Input::Bytes(n) = read_input(&mut input) else {
         return;
     };
-    show(&input[..n]);
+    let mut out = io::large_buffer();
+    let len = reply(&input[..n], &mut out);
+    write_answer(&out, len);
 }

@@ -1,9 +1,21 @@
-// What the programs of `./read` write to standard output. A contract can say nothing of it; the programs are run, and what they write is
-// compared. Where it can't be written a line on standard error says why.
+// What the programs of `./read` write: the line of a refusal, and an answer to standard output.
 use libc::STDOUT_FILENO;
+use writer::put_bytes;
+use writer::put_number;
+ghost use Rattle.writer.specs.Put.{Put};
+ghost use Rattle.read_output.specs.Line.{refusal};
 
-// The first `len` bytes, as many of them as there are; whether all were written.
-pub fn write_first(bytes: &[u8], len: usize) -> bool {
+// The line of a refusal, first in `out`; its length.
+pub fn put_refusal(out: &mut [u8], number: u8) -> usize
+    ensures { λ r. ⌜ Put (now (out .entry)) 0 (now (out .exit)) r (refusal number) ⌝ }
+{
+    let end = put_number(out, 0, b"refused=", number as u64);
+    put_bytes(out, end, b"\n")
+}
+
+// Writes the first `len` bytes, as many of them as there are, to standard output. Where that fails a line on standard error says why. It
+// answers nothing and changes nothing that it is lent; what reaches a descriptor no contract can name, and it is tried.
+pub fn write_answer(bytes: &[u8], len: usize) {
     let whole = if len < bytes.len() {
         io::write_all(STDOUT_FILENO, &bytes[..len])
     } else {
@@ -11,20 +23,5 @@ pub fn write_first(bytes: &[u8], len: usize) -> bool {
     };
     if !whole {
         os::fail(b"read: can't write the answer");
-    }
-    whole
-}
-
-// The same, with a newline behind them.
-pub fn write_line(line: &[u8], len: usize) -> bool {
-    write_first(line, len) && write_first(b"\n", 1)
-}
-
-// A refusal, by its number.
-pub fn write_refusal(number: u8) {
-    let mut digits = [0u8; 20];
-    let len = io::decimal(number as u64, &mut digits);
-    if write_first(b"refused=", 8) {
-        write_line(&digits[..len], len);
     }
 }

@@ -36,11 +36,11 @@ slice-aggregate-reply-2 c = search needs
 reply-requires : tie.Need-reply-requires
 reply-requires c κs = search needs
 
-slice-aggregate-write-first : tie.Need-slice-aggregate-write-first
-slice-aggregate-write-first c = search needs
+slice-aggregate-write-answer : tie.Need-slice-aggregate-write-answer
+slice-aggregate-write-answer c = search needs
 
-write-first-requires : tie.Need-write-first-requires
-write-first-requires c κs = search needs
+write-answer-requires : tie.Need-write-answer-requires
+write-answer-requires c κs = search needs
 
 returns-2 : tie.Need-returns-2
 returns-2 c = search needs
@@ -59,6 +59,6 @@ main-spec =
     slice-aggregate-reply
     slice-aggregate-reply-2
     reply-requires
-    slice-aggregate-write-first
-    write-first-requires
+    slice-aggregate-write-answer
+    write-answer-requires
     returns-2)

@@ -1,6 +1,6 @@
 -- The bytes that are read stand in the buffer.
-use borrow.Author.Needs.{needs}
 use Rattle.read_input.proofs.Answers.{counted}
+use borrow.Author.Needs.{needs}
 use Rattle.read_brackets.proofs.main.Statement.{statement}
 use Rattle.read_brackets.proofs.main.Tie as tie
 
@@ -20,29 +20,25 @@ returns : tie.Need-returns
 returns c = search needs
 
 array-share-prefix-input : tie.Need-array-share-prefix-input
-array-share-prefix-input c =
-    let r = c .before .before .before .before .read-input in counted _ _ _ (r .ensures) (c .before .n .given .1) .0
+array-share-prefix-input c = counted _ _ _ (c .before .before .before .before .read-input .ensures) (c .before .n .given .1) .0
 
-slice-aggregate-show : tie.Need-slice-aggregate-show
-slice-aggregate-show c =
-    let r = c .before .before .before .before .before .read-input in counted _ _ _ (r .ensures) (c .before .before .n .given .1) .1
+slice-aggregate-reply : tie.Need-slice-aggregate-reply
+slice-aggregate-reply c = counted _ _ _ (c .before .before .before .before .before .read-input .ensures) (c .before .before .n .given .1) .1
 
-show-requires : tie.Need-show-requires
-show-requires c κs = search needs
+slice-aggregate-reply-2 : tie.Need-slice-aggregate-reply-2
+slice-aggregate-reply-2 c = search needs
+
+reply-requires : tie.Need-reply-requires
+reply-requires c κs = search needs
+
+slice-aggregate-write-answer : tie.Need-slice-aggregate-write-answer
+slice-aggregate-write-answer c = search needs
+
+write-answer-requires : tie.Need-write-answer-requires
+write-answer-requires c κs = search needs
 
 returns-2 : tie.Need-returns-2
 returns-2 c = search needs
 
 pub main-spec : {M : Type 1} → statement M
-main-spec =
-    tie.close
-    (tie.spec
-    slice-aggregate-read-input
-    read-input-requires
-    enum-known-n
-    enum-told
-    returns
-    array-share-prefix-input
-    slice-aggregate-show
-    show-requires
-    returns-2)
+main-spec = tie.close (tie.spec slice-aggregate-read-input read-input-requires enum-known-n enum-told returns array-share-prefix-input slice-aggregate-reply slice-aggregate-reply-2 reply-requires slice-aggregate-write-answer write-answer-requires returns-2)

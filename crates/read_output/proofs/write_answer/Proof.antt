@@ -1,10 +1,10 @@
--- `write_first` is safe.
+-- `write_answer` is safe.
 use mathlib.Core.Path.{sym}
 use native.Mathlib.Omega.{arith}
 use lib.Seq.{length-take-le}
 use borrow.Author.Needs.{needs}
-use Rattle.read_output.proofs.write_first.Statement.{statement}
-use Rattle.read_output.proofs.write_first.Tie as tie
+use Rattle.read_output.proofs.write_answer.Statement.{statement}
+use Rattle.read_output.proofs.write_answer.Tie as tie
 
 slice-aggregate-write-all : tie.Need-slice-aggregate-write-all
 slice-aggregate-write-all c = sym (length-take-le _ _ (omega (arith, c .before .if1 .taken)))
@@ -27,8 +27,8 @@ returns c = search needs
 returns-2 : tie.Need-returns-2
 returns-2 c = search needs
 
-pub write-first-spec : {M : Type 1} → statement M
-write-first-spec =
+pub write-answer-spec : {M : Type 1} → statement M
+write-answer-spec =
     tie.close
     (tie.spec
     slice-aggregate-write-all
