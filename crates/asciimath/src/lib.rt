@@ -2,13 +2,13 @@
 // answer, as many as it has words for, or returns the number of a refusal and leaves the answer as it was (crates/asciimath_answers).
 ghost use Rattle.std.specs.Prelude.{◌≡◌};
 ghost use Rattle.tokenizer.specs.Call.{tokenized, counted};
-ghost use Rattle.parse.specs.Call.{parsedText, parsedTokens};
-ghost use Rattle.mathml.specs.Call.{markedText};
-ghost use Rattle.print.specs.Call.{printedText};
-ghost use Rattle.closers.specs.Call.{closedTokens, closedText};
-ghost use Rattle.lexing.specs.Longest.{longestAt};
-ghost use Rattle.lexer.specs.Lookup.{longestAnswer};
-ghost use Rattle.asciimath_answers.specs.Exported.{code_of, valuesIn, lookedUp};
+ghost use Rattle.parse.specs.Call.{parsed_text, parsed_tokens};
+ghost use Rattle.mathml.specs.Call.{marked_text};
+ghost use Rattle.print.specs.Call.{printed_text};
+ghost use Rattle.closers.specs.Call.{closed_tokens, closed_text};
+ghost use Rattle.lexing.specs.Longest.{longest_at};
+ghost use Rattle.lexer.specs.Lookup.{longest_answer};
+ghost use Rattle.asciimath_answers.specs.Exported.{code_of, values_in, looked_up};
 
 use asciimath_answers::{
     put_counted, put_longest, put_marked, put_paired, put_paired_text, put_parsed,
@@ -26,7 +26,7 @@ use tokenizer::{count_tokens, tokenize};
 pub extern "C" fn asciimath_tokens(text: &[u8], table: &mut [u32], answer: &mut [u64]) -> u32
     ensures { (result ≡ code_of (tokenized text.now table.old).0)
         × (table.new ≡ (tokenized text.now table.old).1)
-        × (answer.new ≡ valuesIn (tokenized text.now table.old).0 answer.old) }
+        × (answer.new ≡ values_in (tokenized text.now table.old).0 answer.old) }
 {
     let got = tokenize(text, table);
     put_tokenized(answer, got)
@@ -36,7 +36,7 @@ pub extern "C" fn asciimath_tokens(text: &[u8], table: &mut [u32], answer: &mut 
 #[unsafe(no_mangle)]
 pub extern "C" fn asciimath_count(text: &[u8], answer: &mut [u64]) -> u32
     ensures { (result ≡ code_of (counted text.now))
-        × (answer.new ≡ valuesIn (counted text.now) answer.old) }
+        × (answer.new ≡ values_in (counted text.now) answer.old) }
 {
     let got = count_tokens(text);
     put_counted(answer, got)
@@ -45,8 +45,8 @@ pub extern "C" fn asciimath_count(text: &[u8], answer: &mut [u64]) -> u32
 // The longest spelling that begins a text at a place. Values: its length, its kind and its row; or a length of 0 alone, if none does.
 #[unsafe(no_mangle)]
 pub extern "C" fn asciimath_lookup(text: &[u8], at: usize, answer: &mut [u64]) -> u32
-    ensures { (result ≡ code_of (lookedUp (longestAnswer (longestAt text.now at))))
-        × (answer.new ≡ valuesIn (lookedUp (longestAnswer (longestAt text.now at))) answer.old) }
+    ensures { (result ≡ code_of (looked_up (longest_answer (longest_at text.now at))))
+        × (answer.new ≡ values_in (looked_up (longest_answer (longest_at text.now at))) answer.old) }
 {
     let got = get_longest_prefix(text, at);
     put_longest(answer, got)
@@ -61,12 +61,12 @@ pub extern "C" fn asciimath_parse(
     tree: &mut [u32],
     answer: &mut [u64],
 ) -> u32
-    ensures { (result ≡ code_of (parsedText text.now table.old work.old tree.old).0)
-        × (table.new ≡ (parsedText text.now table.old work.old tree.old).1)
-        × (work.new ≡ (parsedText text.now table.old work.old tree.old).2)
-        × (tree.new ≡ (parsedText text.now table.old work.old tree.old).3)
+    ensures { (result ≡ code_of (parsed_text text.now table.old work.old tree.old).0)
+        × (table.new ≡ (parsed_text text.now table.old work.old tree.old).1)
+        × (work.new ≡ (parsed_text text.now table.old work.old tree.old).2)
+        × (tree.new ≡ (parsed_text text.now table.old work.old tree.old).3)
         × (answer.new
-        ≡ valuesIn (parsedText text.now table.old work.old tree.old).0 answer.old) }
+        ≡ values_in (parsed_text text.now table.old work.old tree.old).0 answer.old) }
 {
     let got = parse(text, table, work, tree);
     put_parsed(answer, got)
@@ -82,11 +82,11 @@ pub extern "C" fn asciimath_parse_tokens(
     tree: &mut [u32],
     answer: &mut [u64],
 ) -> u32
-    ensures { (result ≡ code_of (parsedTokens text.now table.now count work.old tree.old).0)
-        × (work.new ≡ (parsedTokens text.now table.now count work.old tree.old).1)
-        × (tree.new ≡ (parsedTokens text.now table.now count work.old tree.old).2)
+    ensures { (result ≡ code_of (parsed_tokens text.now table.now count work.old tree.old).0)
+        × (work.new ≡ (parsed_tokens text.now table.now count work.old tree.old).1)
+        × (tree.new ≡ (parsed_tokens text.now table.now count work.old tree.old).2)
         × (answer.new
-        ≡ valuesIn (parsedTokens text.now table.now count work.old tree.old).0 answer.old) }
+        ≡ values_in (parsed_tokens text.now table.now count work.old tree.old).0 answer.old) }
 {
     let got = parse_tokens(text, table, count, work, tree);
     put_parsed_tokens(answer, got)
@@ -102,12 +102,12 @@ pub extern "C" fn asciimath_print(
     out: &mut [u8],
     answer: &mut [u64],
 ) -> u32
-    ensures { (result ≡ code_of (printedText text.now table.old work.old tree.old out.old).0)
-        × (table.new ≡ (printedText text.now table.old work.old tree.old out.old).1)
-        × (work.new ≡ (printedText text.now table.old work.old tree.old out.old).2)
-        × (tree.new ≡ (printedText text.now table.old work.old tree.old out.old).3)
-        × (out.new ≡ (printedText text.now table.old work.old tree.old out.old).4)
-        × (answer.new ≡ valuesIn (printedText text.now table.old work.old tree.old out.old).0 answer.old) }
+    ensures { (result ≡ code_of (printed_text text.now table.old work.old tree.old out.old).0)
+        × (table.new ≡ (printed_text text.now table.old work.old tree.old out.old).1)
+        × (work.new ≡ (printed_text text.now table.old work.old tree.old out.old).2)
+        × (tree.new ≡ (printed_text text.now table.old work.old tree.old out.old).3)
+        × (out.new ≡ (printed_text text.now table.old work.old tree.old out.old).4)
+        × (answer.new ≡ values_in (printed_text text.now table.old work.old tree.old out.old).0 answer.old) }
 {
     let got = print(text, table, work, tree, out);
     put_printed(answer, got)
@@ -123,12 +123,12 @@ pub extern "C" fn asciimath_mathml(
     out: &mut [u8],
     answer: &mut [u64],
 ) -> u32
-    ensures { (result ≡ code_of (markedText text.now table.old work.old tree.old out.old).0)
-        × (table.new ≡ (markedText text.now table.old work.old tree.old out.old).1)
-        × (work.new ≡ (markedText text.now table.old work.old tree.old out.old).2)
-        × (tree.new ≡ (markedText text.now table.old work.old tree.old out.old).3)
-        × (out.new ≡ (markedText text.now table.old work.old tree.old out.old).4)
-        × (answer.new ≡ valuesIn (markedText text.now table.old work.old tree.old out.old).0 answer.old) }
+    ensures { (result ≡ code_of (marked_text text.now table.old work.old tree.old out.old).0)
+        × (table.new ≡ (marked_text text.now table.old work.old tree.old out.old).1)
+        × (work.new ≡ (marked_text text.now table.old work.old tree.old out.old).2)
+        × (tree.new ≡ (marked_text text.now table.old work.old tree.old out.old).3)
+        × (out.new ≡ (marked_text text.now table.old work.old tree.old out.old).4)
+        × (answer.new ≡ values_in (marked_text text.now table.old work.old tree.old out.old).0 answer.old) }
 {
     let got = mathml(text, table, work, tree, out);
     put_marked(answer, got)
@@ -143,9 +143,9 @@ pub extern "C" fn asciimath_closers(
     out: &mut [u32],
     answer: &mut [u64],
 ) -> u32
-    ensures { (result ≡ code_of (closedTokens text.now table.now count out.old).0)
-        × (out.new ≡ (closedTokens text.now table.now count out.old).1)
-        × (answer.new ≡ valuesIn (closedTokens text.now table.now count out.old).0 answer.old) }
+    ensures { (result ≡ code_of (closed_tokens text.now table.now count out.old).0)
+        × (out.new ≡ (closed_tokens text.now table.now count out.old).1)
+        × (answer.new ≡ values_in (closed_tokens text.now table.now count out.old).0 answer.old) }
 {
     let got = closers(text, table, count, out);
     put_paired(answer, got)
@@ -159,10 +159,10 @@ pub extern "C" fn asciimath_closers_text(
     out: &mut [u32],
     answer: &mut [u64],
 ) -> u32
-    ensures { (result ≡ code_of (closedText text.now table.old out.old).0)
-        × (table.new ≡ (closedText text.now table.old out.old).1)
-        × (out.new ≡ (closedText text.now table.old out.old).2)
-        × (answer.new ≡ valuesIn (closedText text.now table.old out.old).0 answer.old) }
+    ensures { (result ≡ code_of (closed_text text.now table.old out.old).0)
+        × (table.new ≡ (closed_text text.now table.old out.old).1)
+        × (out.new ≡ (closed_text text.now table.old out.old).2)
+        × (answer.new ≡ values_in (closed_text text.now table.old out.old).0 answer.old) }
 {
     let got = closers_text(text, table, out);
     put_paired_text(answer, got)

@@ -4,13 +4,13 @@ use mathlib.Core.List.{List, [], ◌∷◌, ◌++◌}
 use Prim.Native.Nat.{ℕ}
 use lib.ListN.{length, take, drop, set}
 use Rattle.tokens.specs.Refusals.{Answer, accepted, refused}
-use Rattle.asciimath_answers.specs.Exported.{code_of, valuesIn, Given}
+use Rattle.asciimath_answers.specs.Exported.{code_of, values_in, Given}
 
 pub given-as : {a b : Answer} {r : ℕ} {l m : List ℕ} → b ≡ a → Given a r l m → Given b r l m
 given-as h g = rw h g
 
 pub given-refused : (k : ℕ) (l : List ℕ) → Given (refused k) k l l
-unfolding code_of valuesIn
+unfolding code_of values_in
 given-refused k l = record { code = refl; values = refl }
 
 rest : (l : List ℕ) → l ≡ take (length l) [] ++ l
@@ -35,7 +35,7 @@ four (x ∷ l) a b c d = ap (λ (m : List ℕ). a ∷ m) (three l b c d)
 
 module _ {l m : List ℕ} where
   given : (v : List ℕ) → m ≡ take (length l) v ++ drop (length v) l → Given (accepted v) 0 l m
-  unfolding code_of valuesIn
+  unfolding code_of values_in
   given v e = record { code = refl; values = e }
 
   pub given-one : (a : ℕ) → m ≡ set l 0 a → Given (accepted (a ∷ [])) 0 l m

@@ -12,16 +12,16 @@ code_of (refused k) = k
 
 -- An accepted call's values stand first in the lent answer, as many as it has words for; the words behind them, and all of a refused
 -- call's, are unchanged.
-unfoldable pub valuesIn : Answer → List ℕ → List ℕ
-valuesIn (accepted values) answer = take (length answer) values ++ drop (length values) answer
-valuesIn (refused k) answer = answer
+unfoldable pub values_in : Answer → List ℕ → List ℕ
+values_in (accepted values) answer = take (length answer) values ++ drop (length values) answer
+values_in (refused k) answer = answer
 
 -- the number that is returned, and the lent answer before and after
 pub record Given (a : Answer) (returned : ℕ) (before after : List ℕ) : Type 0 where
   pub code : returned ≡ code_of a
-  pub values : after ≡ valuesIn a before
+  pub values : after ≡ values_in a before
 
 -- The answer of the lookup: the spelling's length, the number of its kind and its row; where none fits, a length of 0 and no row.
-abbrev pub lookedUp : Longest → Answer
-lookedUp Nothing = accepted (0 ∷ [])
-lookedUp (Spelling len token row) = accepted (len ∷ number_of token ∷ row ∷ [])
+abbrev pub looked_up : Longest → Answer
+looked_up Nothing = accepted (0 ∷ [])
+looked_up (Spelling len token row) = accepted (len ∷ number_of token ∷ row ∷ [])

@@ -7,7 +7,7 @@ ghost use Rattle.parse.specs.Call as parse;
 ghost use Rattle.print.specs.Call as print;
 ghost use Rattle.mathml.specs.Call as mathml;
 ghost use Rattle.closers.specs.Call as closers;
-ghost use Rattle.asciimath_answers.specs.Exported.{Given, lookedUp};
+ghost use Rattle.asciimath_answers.specs.Exported.{Given, looked_up};
 
 use closers::{Paired, PairedText};
 use lexer::prefix_map::Longest;
@@ -86,7 +86,7 @@ pub fn put_counted(answer: &mut [u64], got: Counted) -> u32
 
 // Values: the length of the spelling, its kind and its row; or a length of 0 alone, if there is none.
 pub fn put_longest(answer: &mut [u64], got: Longest) -> u32
-    ensures { Given (lookedUp got) result answer.old answer.new }
+    ensures { Given (looked_up got) result answer.old answer.new }
 {
     match got {
         Longest::Nothing => put_one(answer, 0),

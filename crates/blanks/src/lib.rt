@@ -1,6 +1,6 @@
 // Where the blanks of a text end.
 ghost use Rattle.std.specs.Prelude.{◌≡◌};
-ghost use Rattle.lexing.specs.Rules.{blank, runEnd};
+ghost use Rattle.lexing.specs.Rules.{blank, run_end};
 
 fn is_blank(c: u8) -> bool
     ensures { result ≡ blank c }
@@ -13,7 +13,7 @@ fn is_blank(c: u8) -> bool
 
 // Where the blanks from the place on end; past the text's end there are none.
 pub fn blanks_end(text: &[u8], at: usize) -> usize
-    ensures { result ≡ runEnd blank text.now at }
+    ensures { result ≡ run_end blank text.now at }
 {
     let mut i = at;
     while i < text.len() {

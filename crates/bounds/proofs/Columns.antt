@@ -9,45 +9,45 @@ use lib.Dec.{eqb}
 use Rattle.tokens.specs.Lexeme.{Span}
 use Rattle.tree.specs.Tree.{Head, Node, node, Nodes, end, ◌▸◌, count}
 use Rattle.reading.specs.Entries.{Entry}
-use Rattle.reading.specs.Reading.{Rows, splitColumnLines, joinRows, keepCells, keptCols, columnLines, lineCells, bothLines, lineCols}
+use Rattle.reading.specs.Reading.{Rows, split_column_lines, join_rows, keep_cells, kept_cols, column_lines, line_cells, both_lines, line_cols}
 
 -- a matrix still without its brackets, and how many cells it has
-abbrev pub matrixOf : ℕ → List ℕ → Nodes → (Span → Span → Node) × ℕ
-matrixOf cols lines cells = ((λ a b. node (Head.matrix a b cols lines) cells), count cells)
+abbrev pub matrix_of : ℕ → List ℕ → Nodes → (Span → Span → Node) × ℕ
+matrix_of cols lines cells = ((λ a b. node (Head.matrix a b cols lines) cells), count cells)
 
 abbrev pub rows_of : Rows → List Nodes
 rows_of r = r.head.cells ∷ r.others
 
-pub both-length : (a b : List Bool) → length (bothLines a b) ≡ min (length a) (length b)
-unfolding bothLines
+pub both-length : (a b : List Bool) → length (both_lines a b) ≡ min (length a) (length b)
+unfolding both_lines
 both-length [] b = omega arith
 both-length (x ∷ a) [] = omega arith
 both-length (x ∷ a) (y ∷ b) = omega (arith, both-length a b)
 
 module _ (text : List ℕ) (es : List Entry) where
-  pub cells-length : (l : Nodes) → length (lineCells text es l) ≡ count l
-  unfolding lineCells
+  pub cells-length : (l : Nodes) → length (line_cells text es l) ≡ count l
+  unfolding line_cells
   cells-length end = refl
   cells-length (x ▸ l) = ap suc (cells-length l)
 
-  pub cols-length : (r : Nodes) (rs : List Nodes) → length (lineCols text es r rs) ≤ count r
-  unfolding lineCols
-  cols-length r [] = omega (arith, cells-length r)
-  cols-length r (q ∷ qs) = omega (arith, cells-length r, both-length (lineCells text es r) (lineCols text es q qs))
+  pub cols_length : (r : Nodes) (rs : List Nodes) → length (line_cols text es r rs) ≤ count r
+  unfolding line_cols
+  cols_length r [] = omega (arith, cells-length r)
+  cols_length r (q ∷ qs) = omega (arith, cells-length r, both-length (line_cells text es r) (line_cols text es q qs))
 
   abbrev pub mask_of : Rows → List Bool
-  mask_of r = lineCols text es r.head.cells r.others
+  mask_of r = line_cols text es r.head.cells r.others
 
   pub split-either : (P : (Span → Span → Node) × ℕ → Type 0) (r : Rows) →
-      P (matrixOf (count r.head.cells) [] (joinRows (λ l. l) (rows_of r))) →
-      P (matrixOf (keptCols (mask_of r)) (columnLines zero (mask_of r)) (joinRows (keepCells (mask_of r)) (rows_of r))) →
-      P (splitColumnLines text es r)
-  unfolding splitColumnLines
-  split-either P r whole lined = go (eqb (keptCols (mask_of r)) zero || eqb (keptCols (mask_of r)) (count r.head.cells))
+      P (matrix_of (count r.head.cells) [] (join_rows (λ l. l) (rows_of r))) →
+      P (matrix_of (kept_cols (mask_of r)) (column_lines zero (mask_of r)) (join_rows (keep_cells (mask_of r)) (rows_of r))) →
+      P (split_column_lines text es r)
+  unfolding split_column_lines
+  split-either P r whole lined = go (eqb (kept_cols (mask_of r)) zero || eqb (kept_cols (mask_of r)) (count r.head.cells))
     where
       go : (x : Bool) → P (elim x as (λ y. (Span → Span → Node) × ℕ) [
-        | true ↦ matrixOf (count r.head.cells) [] (joinRows (λ l. l) (rows_of r))
-        | false ↦ matrixOf (keptCols (mask_of r)) (columnLines zero (mask_of r)) (joinRows (keepCells (mask_of r)) (rows_of r))
+        | true ↦ matrix_of (count r.head.cells) [] (join_rows (λ l. l) (rows_of r))
+        | false ↦ matrix_of (kept_cols (mask_of r)) (column_lines zero (mask_of r)) (join_rows (keep_cells (mask_of r)) (rows_of r))
       ])
       go true = whole
       go false = lined

@@ -11,9 +11,9 @@ use Rattle.tokens.specs.declared.token.Token.TheVariants as token
 use Rattle.tree.specs.Tree.{nowhere, Head, Node, node, Nodes, end, ◌▸◌, ◌⧺◌}
 use Rattle.reading.specs.Stop.{Stop}
 use Rattle.reading.specs.Entries.{Entry, is}
-use Rattle.reading.specs.Reading.{State, M, return, ◌>>=◌, here, if◌then◌else◌, Readers, Row, any, advance, atOpenClose, is_at, alike, nextIntermediate, intermediates, nextExpression, rowCells, nextMatrixRow, moreRows, prefixes, spaced, level, parse, last_of, unscripted}
+use Rattle.reading.specs.Reading.{State, M, return, ◌>>=◌, here, if◌then◌else◌, Readers, Row, any, advance, at_open_close, is_at, alike, next_intermediate, intermediates, next_expression, row_cells, next_matrix_row, more_rows, prefixes, spaced, level, parse, last_of, unscripted}
 use Rattle.bounds.specs.Peak.{CountedReaders, level-counted}
-use Rattle.bounds.proofs.Room.{Room, opt, level-room, advance-fits, nextIntermediate-fits, intermediates-fits, nextMatrixRow-fits}
+use Rattle.bounds.proofs.Room.{Room, opt, level-room, advance-fits, next_intermediate-fits, intermediates-fits, next_matrix_row-fits}
 
 same-bind : {A B : Type 0} (m n : M A) (f : A → M B) (s : State) → m s ≡ n s → (m >>= f) s ≡ (n >>= f) s
 unfolding ◌>>=◌
@@ -43,10 +43,10 @@ module _ (text : List ℕ) (es : List Entry) (remember : Bool) (R : Readers) (co
     unfolding intermediates ◌>>=◌ here if◌then◌else◌
     intermediates-turn zero before s enough = absurd (omega (arith, enough.0, enough.1))
     intermediates-turn (suc f) before s enough =
-        go (atOpenClose text es until s.pos) (λ b t. intermediates-turn f b t)
+        go (at_open_close text es until s.pos) (λ b t. intermediates-turn f b t)
       where
         item : M (Option Node)
-        item = nextIntermediate text es remember R stop (prefixes before)
+        item = next_intermediate text es remember R stop (prefixes before)
 
         loop : ℕ → Option Node → M Nodes
         loop g b = intermediates text es remember R g until stop b
@@ -63,7 +63,7 @@ module _ (text : List ℕ) (es : List Entry) (remember : Bool) (R : Readers) (co
 
         moved : (x : Node) → (item s).0 ≡ some x → Enough f (item s).1
         moved x e =
-            let fits = nextIntermediate-fits text es remember R counted room stop (prefixes before) in
+            let fits = next_intermediate-fits text es remember R counted room stop (prefixes before) in
             (fits.stays s enough.0, omega (arith, fits.run s, ap (opt 7 14) e, enough.1))
 
         next : Again → (a : Option Node) → (item s).0 ≡ a → after (suc f) a (item s).1 ≡ after f a (item s).1
@@ -75,19 +75,19 @@ module _ (text : List ℕ) (es : List Entry) (remember : Bool) (R : Readers) (co
         go false again = next again (item s).0 refl
 
   -- next_matrix_row: a turn takes a cell and the token behind it
-  rowCells-turn : (f : ℕ) (s : State) → Enough f s → rowCells text es remember R (suc f) s ≡ rowCells text es remember R f s
-  unfolding rowCells ◌>>=◌ if◌then◌else◌
-  rowCells-turn zero s enough = absurd (omega (arith, enough.0, enough.1))
-  rowCells-turn (suc f) s enough = next (λ t. rowCells-turn f t) taken.0 refl
+  row_cells-turn : (f : ℕ) (s : State) → Enough f s → row_cells text es remember R (suc f) s ≡ row_cells text es remember R f s
+  unfolding row_cells ◌>>=◌ if◌then◌else◌
+  row_cells-turn zero s enough = absurd (omega (arith, enough.0, enough.1))
+  row_cells-turn (suc f) s enough = next (λ t. row_cells-turn f t) taken.0 refl
     where
       read : Nodes × State
-      read = nextExpression text es remember R Stop.sep s
+      read = next_expression text es remember R Stop.sep s
 
       taken : Option Entry × State
       taken = advance text es any read.1
 
       loop : ℕ → M (Option (Nodes × Entry))
-      loop g = rowCells text es remember R g
+      loop g = row_cells text es remember R g
 
       joined : Option (Nodes × Entry) → M (Option (Nodes × Entry))
       joined q = elim q [ none ↦ return none | some m ↦ return (some (node Head.cell read.0 ▸ m.0, m.1)) ]
@@ -106,7 +106,7 @@ module _ (text : List ℕ) (es : List Entry) (remember : Bool) (R : Readers) (co
             omega (arith, cell.run s, step.run read.1, ap (opt 0 32) k, enough.1),
           )
 
-      next : ((t : State) → Enough f t → rowCells text es remember R (suc f) t ≡ rowCells text es remember R f t) →
+      next : ((t : State) → Enough f t → row_cells text es remember R (suc f) t ≡ row_cells text es remember R f t) →
           (t : Option Entry) → taken.0 ≡ t → after (suc f) t taken.1 ≡ after f t taken.1
       next again none k = refl
       next again (some e) k =
@@ -123,16 +123,16 @@ module _ (text : List ℕ) (es : List Entry) (remember : Bool) (R : Readers) (co
         go none e = absurd (false≢true (rw (e, is_at) at k))
         go (some y) e = rw (e, advance)
 
-    moreRows-turn : (f : ℕ) (s : State) → Enough f s → moreRows text es remember R (suc f) h s ≡ moreRows text es remember R f h s
-    unfolding moreRows ◌>>=◌ if◌then◌else◌ here
-    moreRows-turn zero s enough = absurd (omega (arith, enough.0, enough.1))
-    moreRows-turn (suc f) s enough = go (is_at text es (is token.Sep) s.pos) refl (λ t. moreRows-turn f t)
+    more_rows-turn : (f : ℕ) (s : State) → Enough f s → more_rows text es remember R (suc f) h s ≡ more_rows text es remember R f h s
+    unfolding more_rows ◌>>=◌ if◌then◌else◌ here
+    more_rows-turn zero s enough = absurd (omega (arith, enough.0, enough.1))
+    more_rows-turn (suc f) s enough = go (is_at text es (is token.Sep) s.pos) refl (λ t. more_rows-turn f t)
       where
         row : Option Row × State
-        row = nextMatrixRow text es remember R (advance text es any s).1
+        row = next_matrix_row text es remember R (advance text es any s).1
 
         loop : ℕ → M (Option (List Nodes))
-        loop g = moreRows text es remember R g h
+        loop g = more_rows text es remember R g h
 
         joined : Row → Option (List Nodes) → M (Option (List Nodes))
         joined r l = elim l [ none ↦ return none | some m ↦ return (some (r.cells ∷ m)) ]
@@ -141,12 +141,12 @@ module _ (text : List ℕ) (es : List Entry) (remember : Bool) (R : Readers) (co
         after g q = elim q [ none ↦ return none | some r ↦ if alike text es h r then (loop g >>= joined r) else return none ]
 
         Again : Type 0
-        Again = (t : State) → Enough f t → moreRows text es remember R (suc f) h t ≡ moreRows text es remember R f h t
+        Again = (t : State) → Enough f t → more_rows text es remember R (suc f) h t ≡ more_rows text es remember R f h t
 
         moved : is_at text es (is token.Sep) s.pos ≡ true → Enough f row.1
         moved k =
             let step = advance-fits text es remember any in
-            let fits = nextMatrixRow-fits text es remember R counted room in (
+            let fits = next_matrix_row-fits text es remember R counted room in (
               fits.stays (advance text es any s).1 (step.stays s enough.0),
               omega (arith, sep-taken s k, fits.run (advance text es any s).1, enough.1),
             )
@@ -158,8 +158,8 @@ module _ (text : List ℕ) (es : List Entry) (remember : Bool) (R : Readers) (co
             (same-bind (loop (suc f)) (loop f) (joined r) row.1 (again row.1 near))
 
         go : (b : Bool) → is_at text es (is token.Sep) s.pos ≡ b → Again →
-            (if b then (advance text es any >>= λ t. nextMatrixRow text es remember R >>= after (suc f)) else return (some [])) s
-            ≡ (if b then (advance text es any >>= λ t. nextMatrixRow text es remember R >>= after f) else return (some [])) s
+            (if b then (advance text es any >>= λ t. next_matrix_row text es remember R >>= after (suc f)) else return (some [])) s
+            ≡ (if b then (advance text es any >>= λ t. next_matrix_row text es remember R >>= after f) else return (some [])) s
         go true k again = next (moved k) again row.0
         go false k again = refl
 
@@ -171,15 +171,15 @@ module _ (text : List ℕ) (es : List Entry) (remember : Bool) (R : Readers) (co
       turns (λ (g : ℕ). intermediates text es remember R g until stop before s) f k
       λ g le. intermediates-turn until stop g before s (low, omega arith)
 
-  pub rowCells-enough : (f k : ℕ) (s : State) → s.pos ≤ length es → suc (length es) ≤ f + s.pos →
-      rowCells text es remember R (k + f) s ≡ rowCells text es remember R f s
-  rowCells-enough f k s low enough =
-      turns (λ (g : ℕ). rowCells text es remember R g s) f k λ g le. rowCells-turn g s (low, omega arith)
+  pub row_cells-enough : (f k : ℕ) (s : State) → s.pos ≤ length es → suc (length es) ≤ f + s.pos →
+      row_cells text es remember R (k + f) s ≡ row_cells text es remember R f s
+  row_cells-enough f k s low enough =
+      turns (λ (g : ℕ). row_cells text es remember R g s) f k λ g le. row_cells-turn g s (low, omega arith)
 
-  pub moreRows-enough : (h : Row) (f k : ℕ) (s : State) → s.pos ≤ length es → suc (length es) ≤ f + s.pos →
-      moreRows text es remember R (k + f) h s ≡ moreRows text es remember R f h s
-  moreRows-enough h f k s low enough =
-      turns (λ (g : ℕ). moreRows text es remember R g h s) f k λ g le. moreRows-turn h g s (low, omega arith)
+  pub more_rows-enough : (h : Row) (f k : ℕ) (s : State) → s.pos ≤ length es → suc (length es) ≤ f + s.pos →
+      more_rows text es remember R (k + f) h s ≡ more_rows text es remember R f h s
+  more_rows-enough h f k s low enough =
+      turns (λ (g : ℕ). more_rows text es remember R g h s) f k λ g le. more_rows-turn h g s (low, omega arith)
 
 -- parse: a turn takes an unmatched closer
 module _ (text : List ℕ) (es : List Entry) (remember : Bool) where

@@ -14,12 +14,12 @@ use Rattle.tokens.specs.Lexeme.{Lexeme}
 use Rattle.tree.specs.Tree.{nowhere, Head, Prefix, Node, node, Nodes, end, ◌▸◌, ◌⧺◌, one}
 use Rattle.reading.specs.Stop.{Stop}
 use Rattle.reading.specs.Entries.{Entry, is, entries}
-use Rattle.reading.specs.Reading.{State, M, return, ◌>>=◌, here, current, closed, Mark, openMark, matrixMark, slot, Try, made, lost, nought, Readers, is_at, isBar, advance, failed, giveUp, attempt, argument, nextScript, nextScriptFunc, nextIntermediate, intermediates, atOpenClose, Row, nextMatrixRow, rowCells, moreRows, nextMatrixRows, matrixBody, tryMatrix, nextOpenGroup, barBody, nextOpenCloseGroup, nextBracket, begun, nextSimple, step, level, parse, start, parseEntries, orGlyph, couldBeMatrix, prefixes, spaced, orMissingPart, any, marksScript, heads, begins, if◌then◌else◌, readingBy, unscripted}
+use Rattle.reading.specs.Reading.{State, M, return, ◌>>=◌, here, current, closed, Mark, open_mark, matrix_mark, slot, Try, made, lost, nought, Readers, is_at, is_bar, advance, failed, give_up, attempt, argument, next_script, next_script_func, next_intermediate, intermediates, at_open_close, Row, next_matrix_row, row_cells, more_rows, next_matrix_rows, matrix_body, try_matrix, next_open_group, bar_body, next_open_close_group, next_bracket, begun, next_simple, step, level, parse, start, parse_entries, or_glyph, could_be_matrix, prefixes, spaced, or_missing_part, any, marks_script, heads, begins, if◌then◌else◌, reading_by, unscripted}
 
 -- For at most 127 entries the reading with its memory and the one without give the same tree. Nothing is assumed.
 
-no-some : {A X : Type 0} (x : X) → none ≡ some x → A
-no-some x e = let z : ◌≡◌ {A = ℕ} 0 1 = cc in absurd (omega arith)
+no_some : {A X : Type 0} (x : X) → none ≡ some x → A
+no_some x e = let z : ◌≡◌ {A = ℕ} 0 1 = cc in absurd (omega arith)
 
 unset : (n j : ℕ) → get_or (replicate n false) j false ≡ false
 unset zero j = refl
@@ -34,8 +34,8 @@ outside (x ∷ es) (suc i) h = outside es i (omega arith)
 module _ (text : List ℕ) (es : List Entry) where
   -- What an attempt with this mark is, with no memory.
   abbrev body_of : Mark → Entry → ℕ → ℕ → M Try
-  body_of (openMark stop) o i r = barBody text es false (level text es false r) o i stop
-  body_of matrixMark o i r = matrixBody text es false (level text es false r) o i
+  body_of (open_mark stop) o i r = bar_body text es false (level text es false r) o i stop
+  body_of matrix_mark o i r = matrix_body text es false (level text es false r) o i
 
   -- A mark is sound if the attempt fails without memory too, at every level deep enough.
   abbrev Sound : List Bool → Type 0
@@ -95,18 +95,18 @@ module _ (text : List ℕ) (es : List Entry) where
 
   -- The readers of one level deeper, from b on.
   record Like (b : ℕ) (R : Readers) : Type 0 where
-    nextSimple-agree : (stop : Stop) (sg : Bool) → Agree 1 b (R.simple stop sg) (λ r. (level text es false r).simple stop sg)
-    nextScriptFunc-agree : (stop : Stop) (sg : Bool) → Agree 1 b (R.scriptFunc stop sg) (λ r. (level text es false r).scriptFunc stop sg)
+    next_simple-agree : (stop : Stop) (sg : Bool) → Agree 1 b (R.simple stop sg) (λ r. (level text es false r).simple stop sg)
+    next_script_func-agree : (stop : Stop) (sg : Bool) → Agree 1 b (R.script_func stop sg) (λ r. (level text es false r).script_func stop sg)
 
   module _ (b : ℕ) (R : Readers) (like : Like b R) where
     argument-agree : Agree 1 b (argument text es true R) (λ r. argument text es false (level text es false r))
     unfolding argument
     argument-agree = bind (like.nextSimple-agree Stop.none true) λ a. ret _
 
-    nextScript-agree : Agree 1 b (nextScript text es true R) (λ r. nextScript text es false (level text es false r))
-    unfolding nextScript
-    nextScript-agree =
-        bind (advance-agree marksScript) λ t. elim t [
+    next_script-agree : Agree 1 b (next_script text es true R) (λ r. next_script text es false (level text es false r))
+    unfolding next_script
+    next_script-agree =
+        bind (advance-agree marks_script) λ t. elim t [
           | none ↦ ret _
           | some e ↦ both_ways _ (bind argument-agree λ a. ret _)
               (bind argument-agree λ a. bind (advance-agree (is token.Super)) λ u. elim u [
@@ -115,9 +115,9 @@ module _ (text : List ℕ) (es : List Entry) where
               ])
         ]
 
-    nextIntermediate-agree : (stop : Stop) (sg : Bool) → Agree 1 b (nextIntermediate text es true R stop sg) (λ r. nextIntermediate text es false (level text es false r) stop sg)
-    unfolding nextIntermediate
-    nextIntermediate-agree stop sg =
+    next_intermediate-agree : (stop : Stop) (sg : Bool) → Agree 1 b (next_intermediate text es true R stop sg) (λ r. next_intermediate text es false (level text es false r) stop sg)
+    unfolding next_intermediate
+    next_intermediate-agree stop sg =
         bind (like.nextScriptFunc-agree stop sg) λ a. elim a [
           | none ↦ ret _
           | some x ↦ bind (advance-agree (is token.Frac)) λ t. elim t [
@@ -127,77 +127,77 @@ module _ (text : List ℕ) (es : List Entry) where
         ]
 
     intermediates-agree : (f : ℕ) (until : Option Entry) (stop : Stop) (before : Option Node) → Agree 1 b (intermediates text es true R f until stop before) (λ r. intermediates text es false (level text es false r) f until stop before)
-    unfolding intermediates atOpenClose is_at isBar spaced
+    unfolding intermediates at_open_close is_at is_bar spaced
     intermediates-agree zero until stop before = ret _
     intermediates-agree (suc f) until stop before =
         bind here-agree λ p.
         both_ways _ (ret _)
-        (bind (nextIntermediate-agree stop (prefixes before)) λ a. elim a [
+        (bind (next_intermediate-agree stop (prefixes before)) λ a. elim a [
           | none ↦ ret _
           | some x ↦ bind (intermediates-agree f until stop (some x)) λ l. ret _
         ])
 
-    rowCells-agree : (f : ℕ) → Agree 1 b (rowCells text es true R f) (λ r. rowCells text es false (level text es false r) f)
-    unfolding rowCells
-    rowCells-agree zero = ret _
-    rowCells-agree (suc f) =
+    row_cells-agree : (f : ℕ) → Agree 1 b (row_cells text es true R f) (λ r. row_cells text es false (level text es false r) f)
+    unfolding row_cells
+    row_cells-agree zero = ret _
+    row_cells-agree (suc f) =
         bind (intermediates-agree _ none Stop.sep none) λ l.
         bind (advance-agree any) λ t. elim t [
           | none ↦ ret _
           | some e ↦ both_ways _
-              (bind (rowCells-agree f) λ q. elim q [ none ↦ ret _ | some m ↦ ret _ ])
+              (bind (row_cells-agree f) λ q. elim q [ none ↦ ret _ | some m ↦ ret _ ])
               (both_ways _ (ret _) (ret _))
         ]
 
-    nextMatrixRow-agree : Agree 1 b (nextMatrixRow text es true R) (λ r. nextMatrixRow text es false (level text es false r))
-    unfolding nextMatrixRow
-    nextMatrixRow-agree =
+    next_matrix_row-agree : Agree 1 b (next_matrix_row text es true R) (λ r. next_matrix_row text es false (level text es false r))
+    unfolding next_matrix_row
+    next_matrix_row-agree =
         bind here-agree λ i. bind (advance-agree any) λ t. elim t [
           | none ↦ ret _
-          | some o ↦ both_ways _ (bind (rowCells-agree _) λ q. elim q [ none ↦ ret _ | some m ↦ noted i _ ]) (ret _)
+          | some o ↦ both_ways _ (bind (row_cells-agree _) λ q. elim q [ none ↦ ret _ | some m ↦ noted i _ ]) (ret _)
         ]
 
-    moreRows-agree : (f : ℕ) (h : Row) → Agree 1 b (moreRows text es true R f h) (λ r. moreRows text es false (level text es false r) f h)
-    unfolding moreRows
-    moreRows-agree zero h = ret _
-    moreRows-agree (suc f) h =
+    more_rows-agree : (f : ℕ) (h : Row) → Agree 1 b (more_rows text es true R f h) (λ r. more_rows text es false (level text es false r) f h)
+    unfolding more_rows
+    more_rows-agree zero h = ret _
+    more_rows-agree (suc f) h =
         bind here-agree λ p.
         both_ways _
-        (bind (advance-agree any) λ t. bind nextMatrixRow-agree λ q. elim q [
+        (bind (advance-agree any) λ t. bind next_matrix_row-agree λ q. elim q [
           | none ↦ ret _
-          | some r ↦ both_ways _ (bind (moreRows-agree f h) λ l. elim l [ none ↦ ret _ | some m ↦ ret _ ]) (ret _)
+          | some r ↦ both_ways _ (bind (more_rows-agree f h) λ l. elim l [ none ↦ ret _ | some m ↦ ret _ ]) (ret _)
         ])
         (ret _)
 
-    nextMatrixRows-agree : Agree 1 b (nextMatrixRows text es true R) (λ r. nextMatrixRows text es false (level text es false r))
-    unfolding nextMatrixRows
-    nextMatrixRows-agree =
-        bind nextMatrixRow-agree λ q. elim q [
+    next_matrix_rows-agree : Agree 1 b (next_matrix_rows text es true R) (λ r. next_matrix_rows text es false (level text es false r))
+    unfolding next_matrix_rows
+    next_matrix_rows-agree =
+        bind next_matrix_row-agree λ q. elim q [
           | none ↦ ret _
-          | some h ↦ both_ways _ (bind (moreRows-agree _ h) λ l. elim l [ none ↦ ret _ | some m ↦ ret _ ]) (ret _)
+          | some h ↦ both_ways _ (bind (more_rows-agree _ h) λ l. elim l [ none ↦ ret _ | some m ↦ ret _ ]) (ret _)
         ]
 
-    matrixBody-agree : (o : Entry) (i : ℕ) → Agree 1 b (matrixBody text es true R o i) (λ r. matrixBody text es false (level text es false r) o i)
-    unfolding matrixBody
-    matrixBody-agree o i =
-        bind nextMatrixRows-agree λ q. elim q [
+    matrix_body-agree : (o : Entry) (i : ℕ) → Agree 1 b (matrix_body text es true R o i) (λ r. matrix_body text es false (level text es false r) o i)
+    unfolding matrix_body
+    matrix_body-agree o i =
+        bind next_matrix_rows-agree λ q. elim q [
           | none ↦ ret _
           | some r ↦ bind here-agree λ p.
               both_ways _ (bind (advance-agree any) λ t. elim t [ none ↦ ret _ | some c ↦ noted i _ ]) (ret _)
         ]
 
-    barBody-agree : (o : Entry) (i : ℕ) (stop : Stop) → Agree 1 b (barBody text es true R o i stop) (λ r. barBody text es false (level text es false r) o i stop)
-    unfolding barBody
-    barBody-agree o i stop =
-        bind (nextIntermediate-agree stop true) λ a. elim a [
+    bar_body-agree : (o : Entry) (i : ℕ) (stop : Stop) → Agree 1 b (bar_body text es true R o i stop) (λ r. bar_body text es false (level text es false r) o i stop)
+    unfolding bar_body
+    bar_body-agree o i stop =
+        bind (next_intermediate-agree stop true) λ a. elim a [
           | none ↦ ret _
           | some x ↦ bind (intermediates-agree _ (some o) stop (some x)) λ l. bind here-agree λ p.
               both_ways _ (bind (advance-agree any) λ t. elim t [ none ↦ ret _ | some c ↦ noted i _ ]) (ret _)
         ]
 
-    nextOpenGroup-agree : (o : Entry) (i : ℕ) → Agree 1 b (nextOpenGroup text es true R o i) (λ r. nextOpenGroup text es false (level text es false r) o i)
-    unfolding nextOpenGroup
-    nextOpenGroup-agree o i =
+    next_open_group-agree : (o : Entry) (i : ℕ) → Agree 1 b (next_open_group text es true R o i) (λ r. next_open_group text es false (level text es false r) o i)
+    unfolding next_open_group
+    next_open_group-agree o i =
         bind (intermediates-agree _ none Stop.none none) λ l.
         bind (advance-agree (is token.CloseBracket)) λ t. elim t [ none ↦ ret _ | some c ↦ noted i _ ]
 
@@ -222,8 +222,8 @@ module _ (text : List ℕ) (es : List Entry) where
   unfolding closed
   never-made i x = record { never = λ s e. let z : ◌≡◌ {A = ℕ} 0 1 = cc in omega arith }
 
-  matrix-never : (R : Readers) (o : Entry) (i : ℕ) → Never (matrixBody text es true R o i)
-  unfolding matrixBody
+  matrix-never : (R : Readers) (o : Entry) (i : ℕ) → Never (matrix_body text es true R o i)
+  unfolding matrix_body
   matrix-never R o i =
       never-bind _ λ q. elim q [
         | none ↦ never-lost
@@ -233,15 +233,15 @@ module _ (text : List ℕ) (es : List Entry) where
   -- A new mark is sound.
   slot-one : (m n : Mark) (i j : ℕ) → slot m i ≡ slot n j → (m ≡ n) × (i ≡ j)
   unfolding slot
-  slot-one (openMark Stop.none) (openMark Stop.none) i j e = (refl, omega arith)
-  slot-one (openMark Stop.none) (openMark Stop.sep) i j e = absurd (omega arith)
-  slot-one (openMark Stop.none) matrixMark i j e = absurd (omega arith)
-  slot-one (openMark Stop.sep) (openMark Stop.none) i j e = absurd (omega arith)
-  slot-one (openMark Stop.sep) (openMark Stop.sep) i j e = (refl, omega arith)
-  slot-one (openMark Stop.sep) matrixMark i j e = absurd (omega arith)
-  slot-one matrixMark (openMark Stop.none) i j e = absurd (omega arith)
-  slot-one matrixMark (openMark Stop.sep) i j e = absurd (omega arith)
-  slot-one matrixMark matrixMark i j e = (refl, omega arith)
+  slot-one (open_mark Stop.none) (open_mark Stop.none) i j e = (refl, omega arith)
+  slot-one (open_mark Stop.none) (open_mark Stop.sep) i j e = absurd (omega arith)
+  slot-one (open_mark Stop.none) matrix_mark i j e = absurd (omega arith)
+  slot-one (open_mark Stop.sep) (open_mark Stop.none) i j e = absurd (omega arith)
+  slot-one (open_mark Stop.sep) (open_mark Stop.sep) i j e = (refl, omega arith)
+  slot-one (open_mark Stop.sep) matrix_mark i j e = absurd (omega arith)
+  slot-one matrix_mark (open_mark Stop.none) i j e = absurd (omega arith)
+  slot-one matrix_mark (open_mark Stop.sep) i j e = absurd (omega arith)
+  slot-one matrix_mark matrix_mark i j e = (refl, omega arith)
 
   sound-set : (l : List Bool) (n : Mark) (j : ℕ) (u : Entry) → get_elem? es j ≡ some u → Sound l →
       ((r : ℕ) → 2 * length es + 1 ≤ r + 2 * suc j → (t : State) → t.pos ≡ suc j → (body_of n u j r t).0 ≡ lost) → Sound (set l (slot n j) true)
@@ -263,12 +263,12 @@ module _ (text : List ℕ) (es : List Entry) where
   at_once h = record { run = λ r en s t a c sound. h.run r en s t (a ∙ sym c) (omega arith) sound }
 
   abbrev settle : Bool → Mark → ℕ → State → Try → M (Option Node)
-  settle rem m i p t = elim t [ made x ↦ return (some x) | lost ↦ giveUp text es rem m i p | nought ↦ return none ]
+  settle rem m i p t = elim t [ made x ↦ return (some x) | lost ↦ give_up text es rem m i p | nought ↦ return none ]
 
   module _ (m : Mark) (i : ℕ) (o : Entry) (has : get_elem? es i ≡ some o) (body : M Try) (agree : Agree 1 (suc i) body (body_of m o i))
       (r : ℕ) (en : 2 * length es + 1 ≤ r + 2 * suc i) (s t : State) (a : s.pos ≡ suc i) (c : t.pos ≡ suc i) (sound : Sound s.marks) where
     settled : (x y : Try) → (body s).0 ≡ x → x ≡ y → Same (suc i) (settle true m i s x (body s).1) (settle false m i t y (body_of m o i r t).1)
-    unfolding return giveUp
+    unfolding return give_up
     settled x y e f = rw (← f) (go x e)
       where
         q : Same (suc i) (body s) (body_of m o i r t)
@@ -285,7 +285,7 @@ module _ (text : List ℕ) (es : List Entry) where
         }
 
     known : (x : Bool) → get_or s.marks (slot m i) false ≡ x → Same (suc i) ((if x then return none else (body >>= settle true m i s)) s) ((body_of m o i r >>= settle false m i t) t)
-    unfolding if◌then◌else◌ ◌>>=◌ return giveUp
+    unfolding if◌then◌else◌ ◌>>=◌ return give_up
     known true e = rw (sound m i e o has r en t c) (record { value = refl; place = a ∙ sym c; base = omega arith; sound = sound })
     known false e = settled (body s).0 (body_of m o i r t).0 refl (agree.run r en s t (a ∙ sym c) (omega arith) sound).value
 
@@ -308,60 +308,60 @@ module _ (text : List ℕ) (es : List Entry) where
   either-at false h k = k
 
   module _ (R : Readers) (i : ℕ) (like : Like (suc i) R) (o : Entry) (has : get_elem? es i ≡ some o) where
-    tryMatrix-at : AgreeAt i (tryMatrix text es true R o i) (λ r. tryMatrix text es false (level text es false r) o i)
-    unfolding tryMatrix
-    tryMatrix-at = either-at _ (attempt-at matrixMark i o has _ (matrixBody-agree (suc i) R like o i)) (at_once (ret _))
+    try_matrix-at : AgreeAt i (try_matrix text es true R o i) (λ r. try_matrix text es false (level text es false r) o i)
+    unfolding try_matrix
+    try_matrix-at = either-at _ (attempt-at matrix_mark i o has _ (matrix_body-agree (suc i) R like o i)) (at_once (ret _))
 
     -- A matrix that is not made leaves the reading where it was.
-    back_at : (s : State) → s.pos ≡ suc i → (x : Bool) → ((if x then attempt text es true matrixMark i (matrixBody text es true R o i) else return none) s).0 ≡ none →
-        ((if x then attempt text es true matrixMark i (matrixBody text es true R o i) else return none) s).1.pos ≡ suc i
-    unfolding if◌then◌else◌ return attempt failed ◌>>=◌ giveUp current
+    back_at : (s : State) → s.pos ≡ suc i → (x : Bool) → ((if x then attempt text es true matrix_mark i (matrix_body text es true R o i) else return none) s).0 ≡ none →
+        ((if x then attempt text es true matrix_mark i (matrix_body text es true R o i) else return none) s).1.pos ≡ suc i
+    unfolding if◌then◌else◌ return attempt failed ◌>>=◌ give_up current
     back_at s a false e = a
-    back_at s a true e = go (get_or s.marks (slot matrixMark i) false) e
+    back_at s a true e = go (get_or s.marks (slot matrix_mark i) false) e
       where
         body : M Try
-        body = matrixBody text es true R o i
+        body = matrix_body text es true R o i
 
-        end-at : (t : Try) → (body s).0 ≡ t → ((settle true matrixMark i s t (body s).1).0 ≡ none) → (settle true matrixMark i s t (body s).1).1.pos ≡ suc i
+        end-at : (t : Try) → (body s).0 ≡ t → ((settle true matrix_mark i s t (body s).1).0 ≡ none) → (settle true matrix_mark i s t (body s).1).1.pos ≡ suc i
         end-at (made x) f e = let z : ◌≡◌ {A = ℕ} 0 1 = cc in omega arith
         end-at lost f e = a
         end-at nought f e = absurd ((matrix-never R o i).never s f)
 
-        go : (x : Bool) → ((if x then return none else (body >>= settle true matrixMark i s)) s).0 ≡ none → ((if x then return none else (body >>= settle true matrixMark i s)) s).1.pos ≡ suc i
+        go : (x : Bool) → ((if x then return none else (body >>= settle true matrix_mark i s)) s).0 ≡ none → ((if x then return none else (body >>= settle true matrix_mark i s)) s).1.pos ≡ suc i
         go true e = a
         go false e = end-at (body s).0 refl e
 
-    tryMatrix-back : (s : State) → s.pos ≡ suc i → (tryMatrix text es true R o i s).0 ≡ none → (tryMatrix text es true R o i s).1.pos ≡ suc i
-    unfolding tryMatrix
-    tryMatrix-back s a e = back_at s a (couldBeMatrix text es o i) e
+    try_matrix-back : (s : State) → s.pos ≡ suc i → (try_matrix text es true R o i s).0 ≡ none → (try_matrix text es true R o i s).1.pos ≡ suc i
+    unfolding try_matrix
+    try_matrix-back s a e = back_at s a (could_be_matrix text es o i) e
 
-    nextBracket-at : AgreeAt i (nextBracket text es true R o i) (λ r. nextBracket text es false (level text es false r) o i)
-    unfolding nextBracket
-    nextBracket-at = then_at tryMatrix-at λ m. elim m [ some x ↦ ret _ | none ↦ nextOpenGroup-agree (suc i) R like o i ]
+    next_bracket-at : AgreeAt i (next_bracket text es true R o i) (λ r. next_bracket text es false (level text es false r) o i)
+    unfolding next_bracket
+    next_bracket-at = then_at try_matrix-at λ m. elim m [ some x ↦ ret _ | none ↦ next_open_group-agree (suc i) R like o i ]
 
-    bar-at : (stop : Stop) → AgreeAt i (attempt text es true (openMark stop) i (barBody text es true R o i stop) >>= λ g. return (orGlyph o g))
-        (λ r. attempt text es false (openMark stop) i (barBody text es false (level text es false r) o i stop) >>= λ g. return (orGlyph o g))
-    bar-at stop = then_at (attempt-at (openMark stop) i o has _ (barBody-agree (suc i) R like o i stop)) λ g. ret _
+    bar-at : (stop : Stop) → AgreeAt i (attempt text es true (open_mark stop) i (bar_body text es true R o i stop) >>= λ g. return (or_glyph o g))
+        (λ r. attempt text es false (open_mark stop) i (bar_body text es false (level text es false r) o i stop) >>= λ g. return (or_glyph o g))
+    bar-at stop = then_at (attempt-at (open_mark stop) i o has _ (bar_body-agree (suc i) R like o i stop)) λ g. ret _
 
-    abbrev afterMatrix : Bool → Readers → Stop → Option Node → M Node
-    afterMatrix rem Q stop m = elim m [ some x ↦ return x | none ↦ (attempt text es rem (openMark stop) i (barBody text es rem Q o i stop) >>= λ g. return (orGlyph o g)) ]
+    abbrev after_matrix : Bool → Readers → Stop → Option Node → M Node
+    after_matrix rem Q stop m = elim m [ some x ↦ return x | none ↦ (attempt text es rem (open_mark stop) i (bar_body text es rem Q o i stop) >>= λ g. return (or_glyph o g)) ]
 
-    nextOpenCloseGroup-at : (stop : Stop) → AgreeAt i (nextOpenCloseGroup text es true R o i stop) (λ r. nextOpenCloseGroup text es false (level text es false r) o i stop)
-    unfolding nextOpenCloseGroup ◌>>=◌
-    nextOpenCloseGroup-at stop = record {
+    next_open_close_group-at : (stop : Stop) → AgreeAt i (next_open_close_group text es true R o i stop) (λ r. next_open_close_group text es false (level text es false r) o i stop)
+    unfolding next_open_close_group ◌>>=◌
+    next_open_close_group-at stop = record {
       run = λ r en s t a c sound.
-          let q = tryMatrix-at.run r en s t a c sound in
-          go r en s t a q (tryMatrix text es true R o i s).0 (tryMatrix text es false (level text es false r) o i t).0 refl q.value;
+          let q = try_matrix-at.run r en s t a c sound in
+          go r en s t a q (try_matrix text es true R o i s).0 (try_matrix text es false (level text es false r) o i t).0 refl q.value;
     }
       where
-        go : (r : ℕ) → 2 * length es + 1 ≤ r + 2 * suc i → (s t : State) → s.pos ≡ suc i → Same (suc i) (tryMatrix text es true R o i s) (tryMatrix text es false (level text es false r) o i t) →
-            (x y : Option Node) → (tryMatrix text es true R o i s).0 ≡ x → x ≡ y →
-            Same (suc i) (afterMatrix true R stop x (tryMatrix text es true R o i s).1) (afterMatrix false (level text es false r) stop y (tryMatrix text es false (level text es false r) o i t).1)
+        go : (r : ℕ) → 2 * length es + 1 ≤ r + 2 * suc i → (s t : State) → s.pos ≡ suc i → Same (suc i) (try_matrix text es true R o i s) (try_matrix text es false (level text es false r) o i t) →
+            (x y : Option Node) → (try_matrix text es true R o i s).0 ≡ x → x ≡ y →
+            Same (suc i) (after_matrix true R stop x (try_matrix text es true R o i s).1) (after_matrix false (level text es false r) stop y (try_matrix text es false (level text es false r) o i t).1)
         go r en s t a q x y e f = rw (← f) (go' x e)
           where
-            go' : (x : Option Node) → (tryMatrix text es true R o i s).0 ≡ x → Same (suc i) (afterMatrix true R stop x (tryMatrix text es true R o i s).1) (afterMatrix false (level text es false r) stop x (tryMatrix text es false (level text es false r) o i t).1)
+            go' : (x : Option Node) → (try_matrix text es true R o i s).0 ≡ x → Same (suc i) (after_matrix true R stop x (try_matrix text es true R o i s).1) (after_matrix false (level text es false r) stop x (try_matrix text es false (level text es false r) o i t).1)
             go' (some v) e = unfold return in (record { value = refl; place = q.place; base = q.base; sound = q.sound })
-            go' none e = let k = tryMatrix-back s a e in (bar-at stop).run r en _ _ k (sym q.place ∙ k) q.sound
+            go' none e = let k = try_matrix-back s a e in (bar-at stop).run r en _ _ k (sym q.place ∙ k) q.sound
 
   module _ (R : Readers) (i : ℕ) (like : Like (suc i) R) where
     begun-at : (k : Token) (e : Entry) → get_elem? es i ≡ some e → (stop : Stop) (sg : Bool) → AgreeAt i (begun text es true R k e i stop sg) (λ r. begun text es false (level text es false r) k e i stop sg)
@@ -376,8 +376,8 @@ module _ (text : List ℕ) (es : List Entry) where
     begun-at token.Unary e has stop sg = at_once (bind (argument-agree (suc i) R like) λ a. ret _)
     begun-at token.Function e has stop sg = at_once (bind (argument-agree (suc i) R like) λ a. ret _)
     begun-at token.Binary e has stop sg = at_once (bind (argument-agree (suc i) R like) λ a. bind (argument-agree (suc i) R like) λ y. ret _)
-    begun-at token.OpenBracket e has stop sg = then_at (nextBracket-at R i like e has) λ a. ret _
-    begun-at token.OpenCloseBracket e has stop sg = then_at (nextOpenCloseGroup-at R i like e has stop) λ a. ret _
+    begun-at token.OpenBracket e has stop sg = then_at (next_bracket-at R i like e has) λ a. ret _
+    begun-at token.OpenCloseBracket e has stop sg = then_at (next_open_close_group-at R i like e has stop) λ a. ret _
     begun-at token.Sep e has stop sg = at_once (ret _)
     begun-at token.Frac e has stop sg = at_once (ret _)
     begun-at token.Super e has stop sg = at_once (ret _)
@@ -391,10 +391,10 @@ module _ (text : List ℕ) (es : List Entry) where
     where
       go' : (z : Entry) → (x : Bool) → ok z ≡ x → get_elem? es s.pos ≡ some z → (advance text es ok s).0 ≡ some y → ((advance text es ok s).1.pos ≡ suc s.pos) × (get_elem? es s.pos ≡ some y)
       go' z true k e = rw (e, advance, k) λ h. (refl, h)
-      go' z false k e = rw (e, advance, k) λ h. no-some y h
+      go' z false k e = rw (e, advance, k) λ h. no_some y h
 
       go : (x : Option Entry) → get_elem? es s.pos ≡ x → (advance text es ok s).0 ≡ some y → ((advance text es ok s).1.pos ≡ suc s.pos) × (get_elem? es s.pos ≡ some y)
-      go none e = rw (e, advance) λ h. no-some y h
+      go none e = rw (e, advance) λ h. no_some y h
       go (some z) e = go' z (ok z) refl e
 
   -- A reader that answers a node has moved on.
@@ -421,16 +421,16 @@ module _ (text : List ℕ) (es : List Entry) where
             let w = (begun-at R s.pos like y.token y h.1 stop sg).run r (omega arith) _ _ h.0 (sym q.place ∙ h.0) q.sound in
             record { same = record { value = w.value; place = w.place; base = omega (arith, w.base); sound = w.sound }; moved = λ v k. w.base }
 
-    nextSimple-step : Moved s.pos (nextSimple text es true R stop sg s) (nextSimple text es false (level text es false r) stop sg t)
-    unfolding nextSimple ◌>>=◌ here
-    nextSimple-step = went (advance text es (begins stop) s).0 (advance text es (begins stop) t).0 refl (advance-same {b = 0} (begins stop) s t eq (omega arith) sound).value t.pos eq
+    next_simple-step : Moved s.pos (next_simple text es true R stop sg s) (next_simple text es false (level text es false r) stop sg t)
+    unfolding next_simple ◌>>=◌ here
+    next_simple-step = went (advance text es (begins stop) s).0 (advance text es (begins stop) t).0 refl (advance-same {b = 0} (begins stop) s t eq (omega arith) sound).value t.pos eq
 
   advance-none : (ok : Entry → Bool) (s : State) → (advance text es ok s).0 ≡ none → (advance text es ok s).1.pos ≡ s.pos
   unfolding advance
   advance-none ok s = go (get_elem? es s.pos) refl
     where
       go' : (z : Entry) → (x : Bool) → ok z ≡ x → get_elem? es s.pos ≡ some z → (advance text es ok s).0 ≡ none → (advance text es ok s).1.pos ≡ s.pos
-      go' z true k e = rw (e, advance, k) λ h. no-some z (sym h)
+      go' z true k e = rw (e, advance, k) λ h. no_some z (sym h)
       go' z false k e = rw (e, advance, k) λ h. refl
 
       go : (x : Option Entry) → get_elem? es s.pos ≡ x → (advance text es ok s).0 ≡ none → (advance text es ok s).1.pos ≡ s.pos
@@ -443,21 +443,21 @@ module _ (text : List ℕ) (es : List Entry) where
   module _ (R : Readers) (s t : State) (eq : s.pos ≡ t.pos) (sound : Sound s.marks) (like : Like (suc s.pos) R) (r : ℕ) (en : 2 * length es + 1 ≤ suc r + 2 * s.pos) (stop : Stop) (sg : Bool)
       (near : (s₁ t₁ : State) → s₁.pos ≡ s.pos → s₁.pos ≡ t₁.pos → Sound s₁.marks → Moved s₁.pos (R.simple stop sg s₁) ((level text es false r).simple stop sg t₁)) where
     abbrev scripted : Bool → Readers → Option Node → M (Option Node)
-    scripted rem Q a = elim a [ none ↦ return none | some x ↦ (nextScript text es rem Q >>= λ q. return (some (node (Head.simple q.0) (x ▸ q.1)))) ]
+    scripted rem Q a = elim a [ none ↦ return none | some x ↦ (next_script text es rem Q >>= λ q. return (some (node (Head.simple q.0) (x ▸ q.1)))) ]
 
     abbrev headed : Bool → Readers → Entry → M (Option Node)
     headed rem Q e = if is token.Function e
-        then (nextScript text es rem Q >>= λ q. Q.scriptFunc Stop.none true >>= λ a. return (some (node (Head.func e.span q.0) (q.1 ⧺ (orMissingPart a ▸ end)))))
-        else (Q.scriptFunc stop true >>= λ a. return (some (one (Head.prefix Prefix.signed e.span) (orMissingPart a))))
+        then (next_script text es rem Q >>= λ q. Q.script_func Stop.none true >>= λ a. return (some (node (Head.func e.span q.0) (q.1 ⧺ (or_missing_part a ▸ end)))))
+        else (Q.script_func stop true >>= λ a. return (some (one (Head.prefix Prefix.signed e.span) (or_missing_part a))))
 
     abbrev goes : Bool → Readers → Option Entry → M (Option Node)
     goes rem Q x = elim x [ none ↦ (Q.simple stop sg >>= scripted rem Q) | some e ↦ headed rem Q e ]
 
     scripted-agree : (x : Node) → Agree 1 (suc s.pos) (scripted true R (some x)) (λ r. scripted false (level text es false r) (some x))
-    scripted-agree x = bind (nextScript-agree (suc s.pos) R like) λ q. ret _
+    scripted-agree x = bind (next_script-agree (suc s.pos) R like) λ q. ret _
 
     headed-agree : (e : Entry) → Agree 1 (suc s.pos) (headed true R e) (λ r. headed false (level text es false r) e)
-    headed-agree e = both_ways _ (bind (nextScript-agree (suc s.pos) R like) λ q. bind (like.nextScriptFunc-agree Stop.none true) λ a. ret _) (bind (like.nextScriptFunc-agree stop true) λ a. ret _)
+    headed-agree e = both_ways _ (bind (next_script-agree (suc s.pos) R like) λ q. bind (like.nextScriptFunc-agree Stop.none true) λ a. ret _) (bind (like.nextScriptFunc-agree stop true) λ a. ret _)
 
     -- No function and no prefixing sign: a simple one, and its script.
     plainly : (s₁ t₁ : State) → s₁.pos ≡ s.pos → s₁.pos ≡ t₁.pos → Sound s₁.marks → Same s.pos ((R.simple stop sg >>= scripted true R) s₁) (((level text es false r).simple stop sg >>= scripted false (level text es false r)) t₁)
@@ -484,40 +484,40 @@ module _ (text : List ℕ) (es : List Entry) where
         go none e = plainly _ _ (advance-none (heads sg) s e) q.place q.sound
         go (some y) e = lower (omega arith) ((headed-agree y).run r (omega arith) _ _ q.place (omega (arith, (advance-some (heads sg) s y e).0)) q.sound)
 
-    nextScriptFunc-step : Same s.pos (nextScriptFunc text es true R stop sg s) (nextScriptFunc text es false (level text es false r) stop sg t)
-    unfolding nextScriptFunc ◌>>=◌
-    nextScriptFunc-step = gone (advance text es (heads sg) s).0 (advance text es (heads sg) t).0 refl (advance-same {b = 0} (heads sg) s t eq (omega arith) sound).value
+    next_script_func-step : Same s.pos (next_script_func text es true R stop sg s) (next_script_func text es false (level text es false r) stop sg t)
+    unfolding next_script_func ◌>>=◌
+    next_script_func-step = gone (advance text es (heads sg) s).0 (advance text es (heads sg) t).0 refl (advance-same {b = 0} (heads sg) s t eq (omega arith) sound).value
 
   -- Behind the last entry there is nothing, at any level.
   advance-end : (ok : Entry → Bool) (s : State) → length es ≤ s.pos → advance text es ok s ≡ (none, s)
   unfolding advance
   advance-end ok s h = rw (outside es s.pos h, advance)
 
-  nextSimple-end : (rem : Bool) (k : ℕ) (stop : Stop) (sg : Bool) (s : State) → length es ≤ s.pos → (level text es rem k).simple stop sg s ≡ (none, s)
-  unfolding level step nextSimple ◌>>=◌ here return
-  nextSimple-end rem zero stop sg s h = refl
-  nextSimple-end rem (suc k) stop sg s h = ap (λ x. goingOn x.0 x.1) (advance-end (begins stop) s h)
+  next_simple-end : (rem : Bool) (k : ℕ) (stop : Stop) (sg : Bool) (s : State) → length es ≤ s.pos → (level text es rem k).simple stop sg s ≡ (none, s)
+  unfolding level step next_simple ◌>>=◌ here return
+  next_simple-end rem zero stop sg s h = refl
+  next_simple-end rem (suc k) stop sg s h = ap (λ x. going_on x.0 x.1) (advance-end (begins stop) s h)
     where
-      goingOn : Option Entry → M (Option Node)
-      goingOn x = elim x [ none ↦ return none | some e ↦ begun text es rem (level text es rem k) e.token e s.pos stop sg ]
+      going_on : Option Entry → M (Option Node)
+      going_on x = elim x [ none ↦ return none | some e ↦ begun text es rem (level text es rem k) e.token e s.pos stop sg ]
 
-  nextScriptFunc-end : (rem : Bool) (k : ℕ) (stop : Stop) (sg : Bool) (s : State) → length es ≤ s.pos → (level text es rem k).scriptFunc stop sg s ≡ (none, s)
-  unfolding level step nextScriptFunc ◌>>=◌ here return
-  nextScriptFunc-end rem zero stop sg s h = refl
-  nextScriptFunc-end rem (suc k) stop sg s h = ap (λ x. goesOn x.0 x.1) (advance-end (heads sg) s h) ∙ ap (λ x. thenOn x.0 x.1) (nextSimple-end rem k stop sg s h)
+  next_script_func-end : (rem : Bool) (k : ℕ) (stop : Stop) (sg : Bool) (s : State) → length es ≤ s.pos → (level text es rem k).script_func stop sg s ≡ (none, s)
+  unfolding level step next_script_func ◌>>=◌ here return
+  next_script_func-end rem zero stop sg s h = refl
+  next_script_func-end rem (suc k) stop sg s h = ap (λ x. goes_on x.0 x.1) (advance-end (heads sg) s h) ∙ ap (λ x. then_on x.0 x.1) (next_simple-end rem k stop sg s h)
     where
       Q : Readers
       Q = level text es rem k
 
-      thenOn : Option Node → M (Option Node)
-      thenOn a = elim a [ none ↦ return none | some x ↦ (nextScript text es rem Q >>= λ q. return (some (node (Head.simple q.0) (x ▸ q.1)))) ]
+      then_on : Option Node → M (Option Node)
+      then_on a = elim a [ none ↦ return none | some x ↦ (next_script text es rem Q >>= λ q. return (some (node (Head.simple q.0) (x ▸ q.1)))) ]
 
-      goesOn : Option Entry → M (Option Node)
-      goesOn x = elim x [
-        | none ↦ (Q.simple stop sg >>= thenOn)
+      goes_on : Option Entry → M (Option Node)
+      goes_on x = elim x [
+        | none ↦ (Q.simple stop sg >>= then_on)
         | some e ↦ (if is token.Function e
-            then (nextScript text es rem Q >>= λ q. Q.scriptFunc Stop.none true >>= λ a. return (some (node (Head.func e.span q.0) (q.1 ⧺ (orMissingPart a ▸ end)))))
-            else (Q.scriptFunc stop true >>= λ a. return (some (one (Head.prefix Prefix.signed e.span) (orMissingPart a)))))
+            then (next_script text es rem Q >>= λ q. Q.script_func Stop.none true >>= λ a. return (some (node (Head.func e.span q.0) (q.1 ⧺ (or_missing_part a ▸ end)))))
+            else (Q.script_func stop true >>= λ a. return (some (one (Head.prefix Prefix.signed e.span) (or_missing_part a)))))
       ]
 
   abbrev SimpleAt : ℕ → Type 0
@@ -526,20 +526,20 @@ module _ (text : List ℕ) (es : List Entry) where
 
   abbrev ScriptAt : ℕ → Type 0
   ScriptAt k = (stop : Stop) (sg : Bool) (s t : State) (r : ℕ) → s.pos ≡ t.pos → Sound s.marks → 2 * length es + 1 ≤ k + 2 * s.pos → 2 * length es + 1 ≤ r + 2 * s.pos →
-      Same s.pos ((level text es true k).scriptFunc stop sg s) ((level text es false r).scriptFunc stop sg t)
+      Same s.pos ((level text es true k).script_func stop sg s) ((level text es false r).script_func stop sg t)
 
   like_at : (k b : ℕ) → SimpleAt k → ScriptAt k → 2 * length es + 1 ≤ k + 2 * b → Like b (level text es true k)
   like_at k b f g h = record {
-    nextSimple-agree = λ stop sg. record { run = λ r en s t eq base sound. lower base (f stop sg s t r eq sound (omega arith) (omega arith)).same };
-    nextScriptFunc-agree = λ stop sg. record { run = λ r en s t eq base sound. lower base (g stop sg s t r eq sound (omega arith) (omega arith)) };
+    next_simple-agree = λ stop sg. record { run = λ r en s t eq base sound. lower base (f stop sg s t r eq sound (omega arith) (omega arith)).same };
+    next_script_func-agree = λ stop sg. record { run = λ r en s t eq base sound. lower base (g stop sg s t r eq sound (omega arith) (omega arith)) };
   }
 
   ended-simple : (k r : ℕ) (stop : Stop) (sg : Bool) (s t : State) → s.pos ≡ t.pos → Sound s.marks → length es ≤ s.pos → Moved s.pos ((level text es true k).simple stop sg s) ((level text es false r).simple stop sg t)
-  ended-simple k r stop sg s t eq sound h = rw (nextSimple-end true k stop sg s h, nextSimple-end false r stop sg t (omega arith))
-      (record { same = record { value = refl; place = eq; base = omega arith; sound = sound }; moved = λ v e. no-some v e })
+  ended-simple k r stop sg s t eq sound h = rw (next_simple-end true k stop sg s h, next_simple-end false r stop sg t (omega arith))
+      (record { same = record { value = refl; place = eq; base = omega arith; sound = sound }; moved = λ v e. no_some v e })
 
-  ended-script : (k r : ℕ) (stop : Stop) (sg : Bool) (s t : State) → s.pos ≡ t.pos → Sound s.marks → length es ≤ s.pos → Same s.pos ((level text es true k).scriptFunc stop sg s) ((level text es false r).scriptFunc stop sg t)
-  ended-script k r stop sg s t eq sound h = rw (nextScriptFunc-end true k stop sg s h, nextScriptFunc-end false r stop sg t (omega arith))
+  ended-script : (k r : ℕ) (stop : Stop) (sg : Bool) (s t : State) → s.pos ≡ t.pos → Sound s.marks → length es ≤ s.pos → Same s.pos ((level text es true k).script_func stop sg s) ((level text es false r).script_func stop sg t)
+  ended-script k r stop sg s t eq sound h = rw (next_script_func-end true k stop sg s h, next_script_func-end false r stop sg t (omega arith))
       (record { value = refl; place = eq; base = omega arith; sound = sound })
 
   simply : (k : ℕ) → SimpleAt k → ScriptAt k → SimpleAt (suc k)
@@ -549,16 +549,16 @@ module _ (text : List ℕ) (es : List Entry) where
       go : (r : ℕ) → 2 * length es ≤ r + 2 * s.pos → Dec (length es ≤ s.pos) → Moved s.pos ((level text es true (suc k)).simple stop sg s) ((level text es false r).simple stop sg t)
       go r en (yes l) = ended-simple (suc k) r stop sg s t eq sound l
       go zero en (no l) = absurd (omega arith)
-      go (suc r) en (no l) = nextSimple-step (level text es true k) s t eq sound (like_at k (suc s.pos) f g (omega arith)) r en stop sg
+      go (suc r) en (no l) = next_simple-step (level text es true k) s t eq sound (like_at k (suc s.pos) f g (omega arith)) r en stop sg
 
   scriptly : (k : ℕ) → SimpleAt k → ScriptAt k → ScriptAt (suc k)
   unfolding level step
   scriptly k f g stop sg s t r eq sound h en = go r en (dec_le (length es) s.pos)
     where
-      go : (r : ℕ) → 2 * length es + 1 ≤ r + 2 * s.pos → Dec (length es ≤ s.pos) → Same s.pos ((level text es true (suc k)).scriptFunc stop sg s) ((level text es false r).scriptFunc stop sg t)
+      go : (r : ℕ) → 2 * length es + 1 ≤ r + 2 * s.pos → Dec (length es ≤ s.pos) → Same s.pos ((level text es true (suc k)).script_func stop sg s) ((level text es false r).script_func stop sg t)
       go r en (yes l) = ended-script (suc k) r stop sg s t eq sound l
       go zero en (no l) = absurd (omega arith)
-      go (suc r) en (no l) = nextScriptFunc-step (level text es true k) s t eq sound (like_at k (suc s.pos) f g (omega arith)) r en stop sg
+      go (suc r) en (no l) = next_script_func-step (level text es true k) s t eq sound (like_at k (suc s.pos) f g (omega arith)) r en stop sg
           (λ s₁ t₁ p d so. f stop sg s₁ t₁ r d so (omega arith) (omega arith))
 
   levels : (k : ℕ) → SimpleAt k × ScriptAt k
@@ -570,8 +570,8 @@ module _ (text : List ℕ) (es : List Entry) where
     parse-like : Like 0 (level text es true 256)
     parse-like = like_at 256 0 (levels 256).0 (levels 256).1 (omega arith)
 
-    abbrev topTail : Bool → ℕ → ℕ → Nodes → Nodes → Option Entry → M Nodes
-    topTail rem f wraps acc l t = elim t [ none ↦ return (acc ⧺ l) | some c ↦ elim wraps [ zero ↦ parse text es rem f zero (acc ⧺ l) | suc w ↦ parse text es rem f w (unscripted (node (Head.group nowhere c.span) (acc ⧺ l)) ▸ end) ] ]
+    abbrev top_tail : Bool → ℕ → ℕ → Nodes → Nodes → Option Entry → M Nodes
+    top_tail rem f wraps acc l t = elim t [ none ↦ return (acc ⧺ l) | some c ↦ elim wraps [ zero ↦ parse text es rem f zero (acc ⧺ l) | suc w ↦ parse text es rem f w (unscripted (node (Head.group nowhere c.span) (acc ⧺ l)) ▸ end) ] ]
 
     -- With r fixed at 256.
     fixed : {A : Type 0} {m : M A} {p : ℕ → M A} → Agree 1 0 m p → Agree 1 0 m (λ r. p 256)
@@ -593,11 +593,11 @@ module _ (text : List ℕ) (es : List Entry) where
     abbrev begin : State
     begin = start text es true
 
-    pub trees-same : (parseEntries text es true).0 ≡ (parseEntries text es false).0
-    unfolding parseEntries
-    trees-same = ((parse-agree (suc (length es)) 256 end).run 256 (omega arith) begin begin refl (omega arith) (λ m i h. absurd (true≢false (sym h ∙ unset (3 * length es) (slot m i))))).value
+    pub trees_same : (parse_entries text es true).0 ≡ (parse_entries text es false).0
+    unfolding parse_entries
+    trees_same = ((parse-agree (suc (length es)) 256 end).run 256 (omega arith) begin begin refl (omega arith) (λ m i h. absurd (true≢false (sym h ∙ unset (3 * length es) (slot m i))))).value
 
 -- For at most 127 tokens other than Space, the tree is that of the reading without memory.
-pub same-tree : (text : List ℕ) (ts : List Lexeme) → length (entries nowhere ts) ≤ 127 → (readingBy true text ts).tree ≡ (readingBy false text ts).tree
-unfolding readingBy
-same-tree text ts h = trees-same text (entries nowhere ts) h
+pub same-tree : (text : List ℕ) (ts : List Lexeme) → length (entries nowhere ts) ≤ 127 → (reading_by true text ts).tree ≡ (reading_by false text ts).tree
+unfolding reading_by
+same-tree text ts h = trees_same text (entries nowhere ts) h

@@ -14,7 +14,7 @@ use Rattle.tokens.specs.declared.token.Token.TheVariants as token
 use Rattle.tree.specs.Tree.{Node, Nodes, end}
 use Rattle.reading.specs.Stop.{Stop}
 use Rattle.reading.specs.Entries.{Entry, is}
-use Rattle.reading.specs.Reading.{State, M, return, ◌>>=◌, here, current, closed, Mark, openMark, matrixMark, slot, Try, made, lost, nought, Readers, is_at, advance, failed, giveUp, attempt, argument, nextScript, nextScriptFunc, nextIntermediate, intermediates, Row, nextMatrixRow, rowCells, moreRows, nextMatrixRows, matrixBody, tryMatrix, nextOpenGroup, barBody, nextOpenCloseGroup, nextBracket, begun, nextSimple, step, level, parse, start, parseEntries, couldBeMatrix, prefixes, any, marksScript, heads, begins, if◌then◌else◌}
+use Rattle.reading.specs.Reading.{State, M, return, ◌>>=◌, here, current, closed, Mark, open_mark, matrix_mark, slot, Try, made, lost, nought, Readers, is_at, advance, failed, give_up, attempt, argument, next_script, next_script_func, next_intermediate, intermediates, Row, next_matrix_row, row_cells, more_rows, next_matrix_rows, matrix_body, try_matrix, next_open_group, bar_body, next_open_close_group, next_bracket, begun, next_simple, step, level, parse, start, parse_entries, could_be_matrix, prefixes, any, marks_script, heads, begins, if◌then◌else◌}
 
 -- The takes are bounded: every reader pays for what it takes. Nothing is assumed.
 
@@ -38,30 +38,30 @@ opt k (some a) = k
 
 slot-below : (m : Mark) (i : ℕ) → slot m i < 3 * suc i
 unfolding slot
-slot-below (openMark Stop.none) i = omega arith
-slot-below (openMark Stop.sep) i = omega arith
-slot-below matrixMark i = omega arith
+slot-below (open_mark Stop.none) i = omega arith
+slot-below (open_mark Stop.sep) i = omega arith
+slot-below matrix_mark i = omega arith
 
 slot-above : (m : Mark) (i b : ℕ) → b ≤ i → 3 * b ≤ slot m i
 unfolding slot
-slot-above (openMark Stop.none) i b h = omega arith
-slot-above (openMark Stop.sep) i b h = omega arith
-slot-above matrixMark i b h = omega arith
+slot-above (open_mark Stop.none) i b h = omega arith
+slot-above (open_mark Stop.sep) i b h = omega arith
+slot-above matrix_mark i b h = omega arith
 
-no-some : {A X : Type 0} (x : X) → none ≡ some x → A
-no-some x e = let z : ◌≡◌ {A = ℕ} 0 1 = cc in absurd (omega arith)
+no_some : {A X : Type 0} (x : X) → none ≡ some x → A
+no_some x e = let z : ◌≡◌ {A = ℕ} 0 1 = cc in absurd (omega arith)
 
-next-opens : (text : List ℕ) (es : List Entry) (o : Entry) (i : ℕ) → couldBeMatrix text es o i ≡ true → (f : Entry) × (get_elem? es (suc i) ≡ some f) × (is token.OpenBracket f ≡ true)
-unfolding couldBeMatrix is_at
+next-opens : (text : List ℕ) (es : List Entry) (o : Entry) (i : ℕ) → could_be_matrix text es o i ≡ true → (f : Entry) × (get_elem? es (suc i) ≡ some f) × (is token.OpenBracket f ≡ true)
+unfolding could_be_matrix is_at
 next-opens text es o i c = go (get_elem? es (suc i)) refl
   where
     go : (x : Option Entry) → get_elem? es (suc i) ≡ x → (f : Entry) × (get_elem? es (suc i) ≡ some f) × (is token.OpenBracket f ≡ true)
-    go none e = absurd (false≢true (rw (e, couldBeMatrix, is_at) at c))
+    go none e = absurd (false≢true (rw (e, could_be_matrix, is_at) at c))
     go (some f) e = go' (is token.OpenBracket f) refl
       where
         go' : (x : Bool) → is token.OpenBracket f ≡ x → (f : Entry) × (get_elem? es (suc i) ≡ some f) × (is token.OpenBracket f ≡ true)
         go' true k = (f, e, k)
-        go' false k = absurd (false≢true (rw (e, couldBeMatrix, is_at, k) at c))
+        go' false k = absurd (false≢true (rw (e, could_be_matrix, is_at, k) at c))
 
 pub entry-inside : (es : List Entry) (i : ℕ) (e : Entry) → get_elem? es i ≡ some e → i < length es
 entry-inside [] i e h = let z : ◌≡◌ {A = ℕ} 0 1 = cc in omega arith
@@ -74,8 +74,8 @@ pub data Opener (e : Entry) : Type 0 where
 
 -- Where an attempt can be made at all.
 abbrev Opens : List Entry → Mark → ℕ → Type 0
-Opens es (openMark stop) i = (e : Entry) × (get_elem? es i ≡ some e) × (e.token ≡ token.OpenCloseBracket)
-Opens es matrixMark i = (e f : Entry) × (get_elem? es i ≡ some e) × Opener e × (get_elem? es (suc i) ≡ some f) × (is token.OpenBracket f ≡ true)
+Opens es (open_mark stop) i = (e : Entry) × (get_elem? es i ≡ some e) × (e.token ≡ token.OpenCloseBracket)
+Opens es matrix_mark i = (e f : Entry) × (get_elem? es i ≡ some e) × Opener e × (get_elem? es (suc i) ≡ some f) × (is token.OpenBracket f ≡ true)
 
 module _ (text : List ℕ) (es : List Entry) (price : ℕ) (fee : (m : Mark) (i : ℕ) → Opens es m i → 7 * length es + 7 ≤ price) where
   pub record Ok (s : State) : Type 0 where
@@ -110,10 +110,10 @@ module _ (text : List ℕ) (es : List Entry) (price : ℕ) (fee : (m : Mark) (i 
         record { ok = q.ok; base = q.base; kept = λ j l. q.kept j l ∙ p.kept j l; cost = omega (arith, p.cost, q.cost, leb→le c₀ c le) };
   }
 
-  where-true : {A : Type 0} {a b c : ℕ} (x : Bool) {m n : M A} {d : A → ℕ} → (x ≡ true → Pays a b c m d) → Pays a b c n d → Pays a b c (if x then m else n) d
+  where_true : {A : Type 0} {a b c : ℕ} (x : Bool) {m n : M A} {d : A → ℕ} → (x ≡ true → Pays a b c m d) → Pays a b c n d → Pays a b c (if x then m else n) d
   unfolding if◌then◌else◌
-  where-true true p q = p refl
-  where-true false p q = q
+  where_true true p q = p refl
+  where_true false p q = q
 
   spare : {A : Type 0} {a b c c₀ : ℕ} {m : M A} {d : A → ℕ} → Pays a b c₀ m d → T (leb c₀ c) → Pays a b c m d
   spare {c} {c₀} {m} {d} h le = record { run = λ s o base. let p = h.run s o base in record { ok = p.ok; base = p.base; kept = p.kept; cost = omega (arith, p.cost, leb→le c₀ c le) } }
@@ -145,10 +145,10 @@ module _ (text : List ℕ) (es : List Entry) (price : ℕ) (fee : (m : Mark) (i 
     where
       go' : (z : Entry) → s.pos < length es → (x : Bool) → ok z ≡ x → get_elem? es s.pos ≡ some z → (advance text es ok s).0 ≡ some y → ((advance text es ok s).1.pos ≡ suc s.pos) × (s.pos < length es) × (get_elem? es s.pos ≡ some y)
       go' z l true k e = rw (e, advance, k) λ h. (refl, l, h)
-      go' z l false k e = rw (e, advance, k) λ h. no-some y h
+      go' z l false k e = rw (e, advance, k) λ h. no_some y h
 
       go : (x : Option Entry) → get_elem? es s.pos ≡ x → (advance text es ok s).0 ≡ some y → ((advance text es ok s).1.pos ≡ suc s.pos) × (s.pos < length es) × (get_elem? es s.pos ≡ some y)
-      go none e = rw (e, advance) λ h. no-some y h
+      go none e = rw (e, advance) λ h. no_some y h
       go (some z) e = go' z (entry-inside es s.pos z e) (ok z) refl e
 
   lower : {A : Type 0} {a b c : ℕ} {m : M A} {d : A → ℕ} → b ≤ a → Pays a a c m d → Pays a b c m d
@@ -161,11 +161,11 @@ module _ (text : List ℕ) (es : List Entry) (price : ℕ) (fee : (m : Mark) (i 
   tries z nought = z
 
   abbrev settle : Mark → ℕ → State → Try → M (Option Node)
-  settle m i p t = elim t [ made x ↦ return (some x) | lost ↦ giveUp text es true m i p | nought ↦ return none ]
+  settle m i p t = elim t [ made x ↦ return (some x) | lost ↦ give_up text es true m i p | nought ↦ return none ]
 
   module _ (m : Mark) (i b z : ℕ) (below : b ≤ i) (within : i < length es) (small : z ≤ 7) (dear : 7 * length es + 7 ≤ price) (body : M Try) (pays : Pays (suc i) (suc i) 7 body (tries z)) (s : State) (o : Ok s) (base : suc i ≤ s.pos) where
     settled : (t : Try) → (body s).0 ≡ t → get_or s.marks (slot m i) false ≡ false → Paid (suc i) b 7 z s (settle m i s t (body s).1).1
-    unfolding return giveUp
+    unfolding return give_up
     settled (made x) e u =
         let p = pays.run s o base in
         record { ok = p.ok; base = p.base; kept = λ j l. p.kept j (omega arith); cost = omega (arith, p.cost, ap (tries z) e) }
@@ -192,18 +192,18 @@ module _ (text : List ℕ) (es : List Entry) (price : ℕ) (fee : (m : Mark) (i 
   attempt-pays {b} {z} m i {body} below within small dear pays = record { run = λ s o base. known m i b z below within small dear body pays s o base (get_or s.marks (slot m i) false) refl }
 
   record Good (R : Readers) : Type 0 where
-    nextSimple-pays : {b : ℕ} (stop : Stop) (sg : Bool) → Pays b b 1 (R.simple stop sg) (opt 4)
-    nextScriptFunc-pays : {b : ℕ} (stop : Stop) (sg : Bool) → Pays b b 2 (R.scriptFunc stop sg) (opt 3)
+    next_simple-pays : {b : ℕ} (stop : Stop) (sg : Bool) → Pays b b 1 (R.simple stop sg) (opt 4)
+    next_script_func-pays : {b : ℕ} (stop : Stop) (sg : Bool) → Pays b b 2 (R.script_func stop sg) (opt 3)
 
   module _ (R : Readers) (good : Good R) where
     argument-pays : {b : ℕ} → Pays b b 1 (argument text es true R) (λ a. 0)
     unfolding argument
     argument-pays = bind (good.nextSimple-pays Stop.none true) tt λ a. elim a [ none ↦ ret _ tt | some x ↦ ret _ tt ]
 
-    nextScript-pays : {b : ℕ} → Pays b b 1 (nextScript text es true R) (λ a. 0)
-    unfolding nextScript
-    nextScript-pays =
-        bind (advance-pays marksScript) tt λ t. elim t [
+    next_script-pays : {b : ℕ} → Pays b b 1 (next_script text es true R) (λ a. 0)
+    unfolding next_script
+    next_script-pays =
+        bind (advance-pays marks_script) tt λ t. elim t [
           | none ↦ ret _ tt
           | some e ↦ both_ways _ (bind argument-pays tt λ a. ret _ tt)
               (bind argument-pays tt λ a. bind (advance-pays (is token.Super)) tt λ u. elim u [
@@ -212,21 +212,21 @@ module _ (text : List ℕ) (es : List Entry) (price : ℕ) (fee : (m : Mark) (i 
               ])
         ]
 
-    nextScriptFunc-pays' : {b : ℕ} (stop : Stop) (sg : Bool) → Pays b b 2 (nextScriptFunc text es true R stop sg) (opt 3)
-    unfolding nextScriptFunc
-    nextScriptFunc-pays' stop sg =
+    next_script_func-pays' : {b : ℕ} (stop : Stop) (sg : Bool) → Pays b b 2 (next_script_func text es true R stop sg) (opt 3)
+    unfolding next_script_func
+    next_script_func-pays' stop sg =
         bind (advance-pays (heads sg)) tt λ t. elim t [
           | none ↦ bind (good.nextSimple-pays stop sg) tt λ a. elim a [
             | none ↦ ret _ tt
-            | some x ↦ bind nextScript-pays tt λ q. ret _ tt
+            | some x ↦ bind next_script-pays tt λ q. ret _ tt
           ]
-          | some e ↦ both_ways _ (bind nextScript-pays tt λ q. bind (good.nextScriptFunc-pays Stop.none true) tt λ a. elim a [ none ↦ ret _ tt | some x ↦ ret _ tt ])
+          | some e ↦ both_ways _ (bind next_script-pays tt λ q. bind (good.nextScriptFunc-pays Stop.none true) tt λ a. elim a [ none ↦ ret _ tt | some x ↦ ret _ tt ])
               (bind (good.nextScriptFunc-pays stop true) tt λ a. elim a [ none ↦ ret _ tt | some x ↦ ret _ tt ])
         ]
 
-    nextIntermediate-pays : {b : ℕ} (stop : Stop) (sg : Bool) → Pays b b 2 (nextIntermediate text es true R stop sg) (opt 2)
-    unfolding nextIntermediate
-    nextIntermediate-pays stop sg =
+    next_intermediate-pays : {b : ℕ} (stop : Stop) (sg : Bool) → Pays b b 2 (next_intermediate text es true R stop sg) (opt 2)
+    unfolding next_intermediate
+    next_intermediate-pays stop sg =
         bind (good.nextScriptFunc-pays stop sg) tt λ a. elim a [
           | none ↦ ret _ tt
           | some x ↦ bind (advance-pays (is token.Frac)) tt λ t. elim t [
@@ -241,94 +241,94 @@ module _ (text : List ℕ) (es : List Entry) (price : ℕ) (fee : (m : Mark) (i 
     intermediates-pays (suc f) until stop before =
         bind here-pays tt λ p.
         both_ways _ (ret _ tt)
-        (bind (nextIntermediate-pays stop (prefixes before)) tt λ a. elim a [
+        (bind (next_intermediate-pays stop (prefixes before)) tt λ a. elim a [
           | none ↦ ret _ tt
           | some x ↦ bind (intermediates-pays f until stop (some x)) tt λ l. ret _ tt
         ])
 
-    rowCells-pays : {b : ℕ} (f : ℕ) → Pays b b 3 (rowCells text es true R f) (opt 7)
-    unfolding rowCells
-    rowCells-pays zero = ret _ tt
-    rowCells-pays (suc f) =
+    row_cells-pays : {b : ℕ} (f : ℕ) → Pays b b 3 (row_cells text es true R f) (opt 7)
+    unfolding row_cells
+    row_cells-pays zero = ret _ tt
+    row_cells-pays (suc f) =
         bind (intermediates-pays _ none Stop.sep none) tt λ l.
         bind (advance-pays any) tt λ t. elim t [
           | none ↦ ret _ tt
           | some e ↦ both_ways _
-              (bind (rowCells-pays f) tt λ q. elim q [ none ↦ ret _ tt | some m ↦ ret _ tt ])
+              (bind (row_cells-pays f) tt λ q. elim q [ none ↦ ret _ tt | some m ↦ ret _ tt ])
               (both_ways _ (ret _ tt) (ret _ tt))
         ]
 
-    nextMatrixRow-pays : {b : ℕ} → Pays b b 1 (nextMatrixRow text es true R) (opt 7)
-    unfolding nextMatrixRow
-    nextMatrixRow-pays =
+    next_matrix_row-pays : {b : ℕ} → Pays b b 1 (next_matrix_row text es true R) (opt 7)
+    unfolding next_matrix_row
+    next_matrix_row-pays =
         bind here-pays tt λ i. bind (advance-pays any) tt λ t. elim t [
           | none ↦ ret _ tt
-          | some o ↦ both_ways _ (bind (rowCells-pays _) tt λ q. elim q [ none ↦ ret _ tt | some m ↦ noted i _ tt ]) (ret _ tt)
+          | some o ↦ both_ways _ (bind (row_cells-pays _) tt λ q. elim q [ none ↦ ret _ tt | some m ↦ noted i _ tt ]) (ret _ tt)
         ]
 
-    moreRows-pays : {b : ℕ} (f : ℕ) (h : Row) → Pays b b 2 (moreRows text es true R f h) (opt 2)
-    unfolding moreRows
-    moreRows-pays zero h = ret _ tt
-    moreRows-pays (suc f) h =
+    more_rows-pays : {b : ℕ} (f : ℕ) (h : Row) → Pays b b 2 (more_rows text es true R f h) (opt 2)
+    unfolding more_rows
+    more_rows-pays zero h = ret _ tt
+    more_rows-pays (suc f) h =
         bind here-pays tt λ p.
         both_ways _
         (bind (advance-pays any) tt λ t. elim t [
-          | none ↦ bind nextMatrixRow-pays tt λ q. elim q [ none ↦ ret _ tt | some r ↦ both_ways _ (bind (moreRows-pays f h) tt λ l. elim l [ none ↦ ret _ tt | some m ↦ ret _ tt ]) (ret _ tt) ]
-          | some e ↦ bind nextMatrixRow-pays tt λ q. elim q [ none ↦ ret _ tt | some r ↦ both_ways _ (bind (moreRows-pays f h) tt λ l. elim l [ none ↦ ret _ tt | some m ↦ ret _ tt ]) (ret _ tt) ]
+          | none ↦ bind next_matrix_row-pays tt λ q. elim q [ none ↦ ret _ tt | some r ↦ both_ways _ (bind (more_rows-pays f h) tt λ l. elim l [ none ↦ ret _ tt | some m ↦ ret _ tt ]) (ret _ tt) ]
+          | some e ↦ bind next_matrix_row-pays tt λ q. elim q [ none ↦ ret _ tt | some r ↦ both_ways _ (bind (more_rows-pays f h) tt λ l. elim l [ none ↦ ret _ tt | some m ↦ ret _ tt ]) (ret _ tt) ]
         ])
         (ret _ tt)
 
-    nextMatrixRows-pays : {b : ℕ} → Pays b b 1 (nextMatrixRows text es true R) (opt 2)
-    unfolding nextMatrixRows
-    nextMatrixRows-pays =
-        bind nextMatrixRow-pays tt λ q. elim q [
+    next_matrix_rows-pays : {b : ℕ} → Pays b b 1 (next_matrix_rows text es true R) (opt 2)
+    unfolding next_matrix_rows
+    next_matrix_rows-pays =
+        bind next_matrix_row-pays tt λ q. elim q [
           | none ↦ ret _ tt
-          | some h ↦ both_ways _ (bind (moreRows-pays _ h) tt λ l. elim l [ none ↦ ret _ tt | some m ↦ ret _ tt ]) (ret _ tt)
+          | some h ↦ both_ways _ (bind (more_rows-pays _ h) tt λ l. elim l [ none ↦ ret _ tt | some m ↦ ret _ tt ]) (ret _ tt)
         ]
 
-    matrixBody-pays : {b : ℕ} (o : Entry) (i : ℕ) → Pays b b 7 (matrixBody text es true R o i) (tries 7)
-    unfolding matrixBody
-    matrixBody-pays o i =
-        bind nextMatrixRows-pays tt λ q. elim q [
+    matrix_body-pays : {b : ℕ} (o : Entry) (i : ℕ) → Pays b b 7 (matrix_body text es true R o i) (tries 7)
+    unfolding matrix_body
+    matrix_body-pays o i =
+        bind next_matrix_rows-pays tt λ q. elim q [
           | none ↦ ret _ tt
           | some r ↦ bind here-pays tt λ p.
               both_ways _ (bind (advance-pays any) tt λ t. elim t [ none ↦ ret _ tt | some c ↦ noted i _ tt ]) (ret _ tt)
         ]
 
-    barBody-pays : {b : ℕ} (o : Entry) (i : ℕ) (stop : Stop) → Pays b b 7 (barBody text es true R o i stop) (tries 4)
-    unfolding barBody
-    barBody-pays o i stop =
-        bind (nextIntermediate-pays stop true) tt λ a. elim a [
+    bar_body-pays : {b : ℕ} (o : Entry) (i : ℕ) (stop : Stop) → Pays b b 7 (bar_body text es true R o i stop) (tries 4)
+    unfolding bar_body
+    bar_body-pays o i stop =
+        bind (next_intermediate-pays stop true) tt λ a. elim a [
           | none ↦ ret _ tt
           | some x ↦ bind (intermediates-pays _ (some o) stop (some x)) tt λ l. bind here-pays tt λ p.
               both_ways _ (bind (advance-pays any) tt λ t. elim t [ none ↦ ret _ tt | some c ↦ noted i _ tt ]) (ret _ tt)
         ]
 
-    nextOpenGroup-pays : {b : ℕ} (o : Entry) (i : ℕ) → Pays b b 7 (nextOpenGroup text es true R o i) (λ x. 4)
-    unfolding nextOpenGroup
-    nextOpenGroup-pays o i =
+    next_open_group-pays : {b : ℕ} (o : Entry) (i : ℕ) → Pays b b 7 (next_open_group text es true R o i) (λ x. 4)
+    unfolding next_open_group
+    next_open_group-pays o i =
         bind (intermediates-pays _ none Stop.none none) tt λ l.
         bind (advance-pays (is token.CloseBracket)) tt λ t. elim t [ none ↦ ret _ tt | some c ↦ noted i _ tt ]
 
     module _ (i b : ℕ) (below : b ≤ i) (within : i < length es) (o : Entry) (has : get_elem? es i ≡ some o) where
-      tryMatrix-pays : Opener o → Pays (suc i) b 7 (tryMatrix text es true R o i) (λ x. 7)
-      unfolding tryMatrix
-      tryMatrix-pays w = where-true _ (λ c. attempt-pays matrixMark i below within (omega arith) (fee matrixMark i (let q = next-opens text es o i c in (o, q.0, has, w, q.1, q.2))) (matrixBody-pays o i)) (ret _ tt)
+      try_matrix-pays : Opener o → Pays (suc i) b 7 (try_matrix text es true R o i) (λ x. 7)
+      unfolding try_matrix
+      try_matrix-pays w = where_true _ (λ c. attempt-pays matrix_mark i below within (omega arith) (fee matrix_mark i (let q = next-opens text es o i c in (o, q.0, has, w, q.1, q.2))) (matrix_body-pays o i)) (ret _ tt)
 
-      nextBracket-pays : o.token ≡ token.OpenBracket → Pays (suc i) b 7 (nextBracket text es true R o i) (λ x. 4)
-      unfolding nextBracket
-      nextBracket-pays k =
-          bind (tryMatrix-pays (opens k)) tt λ m. elim m [
+      next_bracket-pays : o.token ≡ token.OpenBracket → Pays (suc i) b 7 (next_bracket text es true R o i) (λ x. 4)
+      unfolding next_bracket
+      next_bracket-pays k =
+          bind (try_matrix-pays (opens k)) tt λ m. elim m [
             | some x ↦ ret _ tt
-            | none ↦ lower (omega arith) (nextOpenGroup-pays o i)
+            | none ↦ lower (omega arith) (next_open_group-pays o i)
           ]
 
-      nextOpenCloseGroup-pays : (stop : Stop) → o.token ≡ token.OpenCloseBracket → Pays (suc i) b 7 (nextOpenCloseGroup text es true R o i stop) (λ x. 4)
-      unfolding nextOpenCloseGroup
-      nextOpenCloseGroup-pays stop bar =
-          bind (tryMatrix-pays (bars bar)) tt λ m. elim m [
+      next_open_close_group-pays : (stop : Stop) → o.token ≡ token.OpenCloseBracket → Pays (suc i) b 7 (next_open_close_group text es true R o i stop) (λ x. 4)
+      unfolding next_open_close_group
+      next_open_close_group-pays stop bar =
+          bind (try_matrix-pays (bars bar)) tt λ m. elim m [
             | some x ↦ ret _ tt
-            | none ↦ bind (attempt-pays (openMark stop) i below within (omega arith) (fee (openMark stop) i (o, has, bar)) (barBody-pays o i stop)) tt λ g. ret _ tt
+            | none ↦ bind (attempt-pays (open_mark stop) i below within (omega arith) (fee (open_mark stop) i (o, has, bar)) (bar_body-pays o i stop)) tt λ g. ret _ tt
           ]
 
       begun-pays : (k : Token) → o.token ≡ k → (stop : Stop) (sg : Bool) → Pays (suc i) b 7 (begun text es true R k o i stop sg) (opt 4)
@@ -343,8 +343,8 @@ module _ (text : List ℕ) (es : List Entry) (price : ℕ) (fee : (m : Mark) (i 
       begun-pays token.Unary e stop sg = lower (omega arith) (bind argument-pays tt λ a. ret _ tt)
       begun-pays token.Function e stop sg = lower (omega arith) (bind argument-pays tt λ a. ret _ tt)
       begun-pays token.Binary e stop sg = lower (omega arith) (bind argument-pays tt λ a. bind argument-pays tt λ y. ret _ tt)
-      begun-pays token.OpenBracket e stop sg = bind (nextBracket-pays e) tt λ a. ret _ tt
-      begun-pays token.OpenCloseBracket e stop sg = bind (nextOpenCloseGroup-pays stop e) tt λ a. ret _ tt
+      begun-pays token.OpenBracket e stop sg = bind (next_bracket-pays e) tt λ a. ret _ tt
+      begun-pays token.OpenCloseBracket e stop sg = bind (next_open_close_group-pays stop e) tt λ a. ret _ tt
       begun-pays token.Sep e stop sg = ret _ tt
       begun-pays token.Frac e stop sg = ret _ tt
       begun-pays token.Super e stop sg = ret _ tt
@@ -370,17 +370,17 @@ module _ (text : List ℕ) (es : List Entry) (price : ℕ) (fee : (m : Mark) (i 
           let q = (begun-pays s.pos b base f.1 y f.2 y.token refl stop sg).run taken.1 p.ok (omega (arith, f.0)) in
           record { ok = q.ok; base = omega (arith, q.base); kept = λ j l. q.kept j l ∙ p.kept j l; cost = omega (arith, p.cost, q.cost, ap (opt 7) e) }
 
-    nextSimple-pays' : {b : ℕ} (stop : Stop) (sg : Bool) → Pays b b 1 (nextSimple text es true R stop sg) (opt 4)
-    unfolding nextSimple ◌>>=◌ here
-    nextSimple-pays' {b} stop sg = record { run = λ s o base. went b stop sg s o base (taken b stop sg s o base).0 refl }
+    next_simple-pays' : {b : ℕ} (stop : Stop) (sg : Bool) → Pays b b 1 (next_simple text es true R stop sg) (opt 4)
+    unfolding next_simple ◌>>=◌ here
+    next_simple-pays' {b} stop sg = record { run = λ s o base. went b stop sg s o base (taken b stop sg s o base).0 refl }
 
     step-good : Good (step text es true R)
     unfolding step
-    step-good = record { nextSimple-pays = nextSimple-pays'; nextScriptFunc-pays = nextScriptFunc-pays' }
+    step-good = record { next_simple-pays = next_simple-pays'; next_script_func-pays = next_script_func-pays' }
 
   level-good : (r : ℕ) → Good (level text es true r)
   unfolding level
-  level-good zero = record { nextSimple-pays = λ stop sg. ret _ tt; nextScriptFunc-pays = λ stop sg. ret _ tt }
+  level-good zero = record { next_simple-pays = λ stop sg. ret _ tt; next_script_func-pays = λ stop sg. ret _ tt }
   level-good (suc r) = step-good (level text es true r) (level-good r)
 
   parse-pays : {b : ℕ} (f wraps : ℕ) (acc : Nodes) → Pays b b 3 (parse text es true f wraps acc) (λ l. 0)
@@ -403,8 +403,8 @@ bank-full n (suc k) = omega (arith, bank-full n k, suc-mul k (suc n))
 
 -- The takes of any reading.
 pub takes-bound : (text : List ℕ) (es : List Entry) →
-    (parseEntries text es true).1.takes ≤ 21 * (length es * suc (length es)) + 7 * length es + 3
-unfolding parseEntries
+    (parse_entries text es true).1.takes ≤ 21 * (length es * suc (length es)) + 7 * length es + 3
+unfolding parse_entries
 takes-bound text es =
     let n = length es in
     let p = (parse-pays text es (7 * n + 7) (omega arith) {b = 0} (suc n) 256 end).run (start text es true)
@@ -414,8 +414,8 @@ takes-bound text es =
 -- With no bar, and no opening bracket right before another, the reading is linear: no attempt is made, and no mark is worth anything.
 pub plain-bound : (text : List ℕ) (es : List Entry) → ((i : ℕ) (e : Entry) → get_elem? es i ≡ some e → e.token ≡ token.OpenCloseBracket → ⊥) →
     ((i : ℕ) (e f : Entry) → get_elem? es i ≡ some e → get_elem? es (suc i) ≡ some f → e.token ≡ token.OpenBracket → is token.OpenBracket f ≡ true → ⊥) →
-    (parseEntries text es true).1.takes ≤ 10 * length es + 10
-unfolding parseEntries bank
+    (parse_entries text es true).1.takes ≤ 10 * length es + 10
+unfolding parse_entries bank
 plain-bound text es nobar noadj =
     let n = length es in
     let p = (parse-pays text es 0 never {b = 0} (suc n) 256 end).run (start text es true)
@@ -427,8 +427,8 @@ plain-bound text es nobar noadj =
     bank-none (suc k) = omega (arith, bank-none k)
 
     never : (m : Mark) (i : ℕ) → Opens es m i → 7 * length es + 7 ≤ 0
-    never (openMark stop) i o = absurd (nobar i o.0 o.1 o.2)
-    never matrixMark i o = go o.3
+    never (open_mark stop) i o = absurd (nobar i o.0 o.1 o.2)
+    never matrix_mark i o = go o.3
       where
         go : Opener o.0 → 7 * length es + 7 ≤ 0
         go (opens k) = absurd (noadj i o.0 o.1 o.2 o.4 k o.5)

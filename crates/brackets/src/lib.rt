@@ -1,6 +1,6 @@
 // Tests of brackets and bars, by their words and their texts.
 ghost use Rattle.std.specs.Prelude.{◌≡◌, ◌<◌};
-ghost use Rattle.brackets.specs.Brackets.{barAt, closes_at, rowFitsAt, couldBeMatrixAt, set_at, makes_at, triesAt, hasAttempts};
+ghost use Rattle.brackets.specs.Brackets.{bar_at, closes_at, row_fits_at, could_be_matrix_at, set_at, makes_at, tries_at, has_attempts};
 
 use fields::{after_close, sep_of};
 use lookahead::tests::is_at;
@@ -10,7 +10,7 @@ use tokens::kinds::{OPEN_BRACKET, OPEN_CLOSE_BRACKET, SEP};
 
 // The entry at j is a bar with the text of the entry i, if both are there.
 pub fn bar_at(text: &[u8], tok: &[u32], work: &[u32], n: usize, i: usize, j: usize) -> bool
-    ensures { result ≡ barAt text.now tok.now work.now n i j }
+    ensures { result ≡ bar_at text.now tok.now work.now n i j }
 {
     if i < n {
         if is_at(tok, work, n, j, OPEN_CLOSE_BRACKET) {
@@ -37,7 +37,7 @@ fn closes(text: &[u8], tok: &[u32], work: &[u32], n: usize, i: usize, j: usize) 
 
 // The bracket at `row` may be that of a first row in the bracket at i.
 fn row_fits(text: &[u8], tok: &[u32], work: &[u32], n: usize, i: usize, row: usize) -> bool
-    ensures { result ≡ rowFitsAt text.now tok.now work.now n i row }
+    ensures { result ≡ row_fits_at text.now tok.now work.now n i row }
 {
     let after = after_close(work, row);
     if after == 0 {
@@ -53,7 +53,7 @@ fn row_fits(text: &[u8], tok: &[u32], work: &[u32], n: usize, i: usize, row: usi
 
 // The bracket at i may begin a matrix. Most have no bracket behind them: what is asked of a row stands apart, so that they are quick.
 pub fn could_be_matrix(text: &[u8], tok: &[u32], work: &[u32], n: usize, i: usize) -> bool
-    ensures { result ≡ couldBeMatrixAt text.now tok.now work.now n i }
+    ensures { result ≡ could_be_matrix_at text.now tok.now work.now n i }
 {
     if n <= i {
         return false;
@@ -106,7 +106,7 @@ pub fn makes_matrix(
 // An attempt may be made at the entry i: it is a bar, or a bracket that may begin a matrix.
 fn tries_at(text: &[u8], tok: &[u32], work: &[u32], n: usize, i: usize) -> bool
     requires { i < n }
-    ensures { result ≡ triesAt text.now tok.now work.now n i }
+    ensures { result ≡ tries_at text.now tok.now work.now n i }
 {
     let k = kind_at(tok, work, i);
     if k == OPEN_CLOSE_BRACKET {
@@ -124,7 +124,7 @@ fn tries_at(text: &[u8], tok: &[u32], work: &[u32], n: usize, i: usize) -> bool
 
 // An attempt may be made at one of the n entries.
 pub fn has_attempts(text: &[u8], tok: &[u32], work: &[u32], n: usize) -> bool
-    ensures { result ≡ hasAttempts text.now tok.now work.now n }
+    ensures { result ≡ has_attempts text.now tok.now work.now n }
 {
     let mut i: usize = 0;
     while i < n {

@@ -1,8 +1,8 @@
 -- What is promised of the closers that a call has written, n the tokens other than Space.
 use Rattle.std.specs.Prelude.{ℕ, ◌≤◌, ◌<◌, ◌≡◌, List, ◌⊎◌, get_or, take}
 use Rattle.tokens.specs.Lexeme.{Lexeme}
-use Rattle.tokens.specs.Table.{countOthers}
-use Rattle.reading.specs.Reading.{closersOf}
+use Rattle.tokens.specs.Table.{count_others}
+use Rattle.reading.specs.Reading.{closers_of}
 
 -- "Each closer is matched with one opener at most, and pairs never cross." w are the words of the lent buffer.
 pub record Matched (n : ℕ) (w : List ℕ) : Type 0 where
@@ -19,5 +19,5 @@ pub record Matched (n : ℕ) (w : List ℕ) : Type 0 where
 
 -- The words are the closers of the whole reading of this list, and matched.
 pub record Answered (text : List ℕ) (ts : List Lexeme) (w : List ℕ) : Type 0 where
-  pub whole : take (countOthers ts) w ≡ closersOf text ts
-  pub matched : Matched (countOthers ts) w
+  pub whole : take (count_others ts) w ≡ closers_of text ts
+  pub matched : Matched (count_others ts) w

@@ -1,10 +1,10 @@
 // The bracket pass as calls: for each token other than Space the place of its closer, of a token list and of a text.
 ghost use Rattle.std.specs.Prelude.{◌≡◌, ◌+◌, ◌≤◌, length};
 ghost use Rattle.std.proofs.Math.Option.{none};
-ghost use Rattle.tokens.specs.Refusals.{listRefusal};
-ghost use Rattle.tokens.specs.Table.{tokenList, countOthers};
-ghost use Rattle.records.specs.Record.{recordWords};
-ghost use Rattle.closers.specs.Call.{answer_of, textAnswerOf, closersAfter, closedTokens, closedText};
+ghost use Rattle.tokens.specs.Refusals.{list_refusal};
+ghost use Rattle.tokens.specs.Table.{token_list, count_others};
+ghost use Rattle.records.specs.Record.{record_words};
+ghost use Rattle.closers.specs.Call.{answer_of, text_answer_of, closers_after, closed_tokens, closed_text};
 
 use closers_notes::put_closers;
 use closers_pass::top::{Pass, pair_list};
@@ -41,10 +41,10 @@ const WORK: usize = RECORD_WORDS * (MOST + 1);
 
 // The closers of an accepted list, with these work words.
 fn list_closers(text: &[u8], table: &[u32], count: usize, work: &mut [u32], out: &mut [u32])
-    requires table_value { listRefusal text.now count table.now ≡ none }
-    requires table_in_bounds { recordWords (countOthers (tokenList count table.now) + 1) ≤ length work.old }
-    requires table_in_bounds_2 { countOthers (tokenList count table.now) ≤ length out.old }
-    ensures { out.new ≡ closersAfter text.now (tokenList count table.now) out.old }
+    requires table_value { list_refusal text.now count table.now ≡ none }
+    requires table_in_bounds { record_words (count_others (token_list count table.now) + 1) ≤ length work.old }
+    requires table_in_bounds_2 { count_others (token_list count table.now) ≤ length out.old }
+    ensures { out.new ≡ closers_after text.now (token_list count table.now) out.old }
 {
     match pair_list(text, table, count, true, work) {
         Pass::Read { entries, takes: _ } => put_closers(work, entries as u32, out),
@@ -56,10 +56,10 @@ fn list_closers(text: &[u8], table: &[u32], count: usize, work: &mut [u32], out:
 
 // The same for a short list, so that it clears little.
 fn pair_small(text: &[u8], table: &[u32], count: usize, out: &mut [u32])
-    requires table_value { listRefusal text.now count table.now ≡ none }
-    requires table_bound { countOthers (tokenList count table.now) ≤ 128 }
-    requires table_in_bounds { countOthers (tokenList count table.now) ≤ length out.old }
-    ensures { out.new ≡ closersAfter text.now (tokenList count table.now) out.old }
+    requires table_value { list_refusal text.now count table.now ≡ none }
+    requires table_bound { count_others (token_list count table.now) ≤ 128 }
+    requires table_in_bounds { count_others (token_list count table.now) ≤ length out.old }
+    ensures { out.new ≡ closers_after text.now (token_list count table.now) out.old }
 {
     let mut work = [0u32; SMALL_WORK];
     list_closers(text, table, count, &mut work, out);
@@ -67,19 +67,19 @@ fn pair_small(text: &[u8], table: &[u32], count: usize, out: &mut [u32])
 
 // The same for any.
 fn pair_large(text: &[u8], table: &[u32], count: usize, out: &mut [u32])
-    requires table_value { listRefusal text.now count table.now ≡ none }
-    requires table_in_bounds { countOthers (tokenList count table.now) ≤ length out.old }
-    ensures { out.new ≡ closersAfter text.now (tokenList count table.now) out.old }
+    requires table_value { list_refusal text.now count table.now ≡ none }
+    requires table_in_bounds { count_others (token_list count table.now) ≤ length out.old }
+    ensures { out.new ≡ closers_after text.now (token_list count table.now) out.old }
 {
     let mut work = [0u32; WORK];
     list_closers(text, table, count, &mut work, out);
 }
 
 fn pair_sized(text: &[u8], table: &[u32], count: usize, others: usize, out: &mut [u32])
-    requires table_value { listRefusal text.now count table.now ≡ none }
-    requires others_value { others ≡ countOthers (tokenList count table.now) }
+    requires table_value { list_refusal text.now count table.now ≡ none }
+    requires others_value { others ≡ count_others (token_list count table.now) }
     requires others_in_bounds { others ≤ length out.old }
-    ensures { out.new ≡ closersAfter text.now (tokenList count table.now) out.old }
+    ensures { out.new ≡ closers_after text.now (token_list count table.now) out.old }
 {
     if others <= SMALL {
         pair_small(text, table, count, out);
@@ -90,7 +90,7 @@ fn pair_sized(text: &[u8], table: &[u32], count: usize, others: usize, out: &mut
 
 // The closers of a list of `count` tokens over a text, or a refusal by 1 to 6 or 8.
 pub fn closers(text: &[u8], table: &[u32], count: usize, out: &mut [u32]) -> Paired
-    ensures { (answer_of result, out.new) ≡ closedTokens text.now table.now count out.old }
+    ensures { (answer_of result, out.new) ≡ closed_tokens text.now table.now count out.old }
 {
     match check_list(text, table, count) {
         Checked::Refused(k) => Paired::Refused(k),
@@ -106,8 +106,8 @@ pub fn closers(text: &[u8], table: &[u32], count: usize, out: &mut [u32]) -> Pai
 
 // The tokens of a text and their closers, or a refusal by 1, 2, 7 or 8.
 pub fn closers_text(text: &[u8], table: &mut [u32], out: &mut [u32]) -> PairedText
-    ensures { (textAnswerOf result, table.new, out.new)
-        ≡ closedText text.now table.old out.old }
+    ensures { (text_answer_of result, table.new, out.new)
+        ≡ closed_text text.now table.old out.old }
 {
     match tokenize_under(text, table, out.len() + 1) {
         TokenizedUnder::Refused(k) => PairedText::Refused(k),

@@ -15,7 +15,7 @@ use Rattle.tokens.specs.Lexeme.{Lexeme}
 use Rattle.tree.specs.Tree.{nowhere, Node, Nodes, end}
 use Rattle.reading.specs.Stop.{Stop}
 use Rattle.reading.specs.Entries.{Entry, is, entries}
-use Rattle.reading.specs.Reading.{State, M, return, ◌>>=◌, here, current, closed, Mark, openMark, matrixMark, slot, Try, made, lost, nought, Readers, advance, failed, giveUp, attempt, argument, nextScript, nextScriptFunc, nextIntermediate, intermediates, Row, nextMatrixRow, rowCells, moreRows, nextMatrixRows, matrixBody, tryMatrix, nextOpenGroup, barBody, nextOpenCloseGroup, nextBracket, begun, nextSimple, step, level, parse, parseEntries, start, orGlyph, couldBeMatrix, prefixes, any, marksScript, heads, begins, if◌then◌else◌, closersOf}
+use Rattle.reading.specs.Reading.{State, M, return, ◌>>=◌, here, current, closed, Mark, open_mark, matrix_mark, slot, Try, made, lost, nought, Readers, advance, failed, give_up, attempt, argument, next_script, next_script_func, next_intermediate, intermediates, Row, next_matrix_row, row_cells, more_rows, next_matrix_rows, matrix_body, try_matrix, next_open_group, bar_body, next_open_close_group, next_bracket, begun, next_simple, step, level, parse, parse_entries, start, or_glyph, could_be_matrix, prefixes, any, marks_script, heads, begins, if◌then◌else◌, closers_of}
 
 -- Of n entries, those from a up to b: a closer stands behind its opener, before b; of two openers the first is closed before the
 -- second, or the second before the first is closed. n stands for none.
@@ -201,15 +201,15 @@ module _ (text : List ℕ) (es : List Entry) where
   unfolding advance
   advance-some ok s y = go (get_elem? es s.pos) refl
     where
-      no-some : none ≡ some y → {X : Type 0} → X
-      no-some e = let z : ◌≡◌ {A = ℕ} 0 1 = cc in absurd (omega arith)
+      no_some : none ≡ some y → {X : Type 0} → X
+      no_some e = let z : ◌≡◌ {A = ℕ} 0 1 = cc in absurd (omega arith)
 
       go' : (z : Entry) → (x : Bool) → ok z ≡ x → get_elem? es s.pos ≡ some z → (advance text es ok s).0 ≡ some y → ((advance text es ok s).1.pos ≡ suc s.pos) × (s.pos < length es)
       go' z true k e = rw (e, advance, k) λ h. (refl, inside_of es s.pos z e)
-      go' z false k e = rw (e, advance, k) λ h. no-some h
+      go' z false k e = rw (e, advance, k) λ h. no_some h
 
       go : (x : Option Entry) → get_elem? es s.pos ≡ x → (advance text es ok s).0 ≡ some y → ((advance text es ok s).1.pos ≡ suc s.pos) × (s.pos < length es)
-      go none e = rw (e, advance) λ h. no-some h
+      go none e = rw (e, advance) λ h. no_some h
       go (some z) e = go' z (ok z) refl e
 
   taking : (ok : Entry → Bool) → Pairs (advance text es ok)
@@ -371,17 +371,17 @@ module _ (text : List ℕ) (es : List Entry) where
 
   pub record Good (R : Readers) : Type 0 where
     simple : (stop : Stop) (sg : Bool) → Pairs (R.simple stop sg)
-    scriptFunc : (stop : Stop) (sg : Bool) → Pairs (R.scriptFunc stop sg)
+    script_func : (stop : Stop) (sg : Bool) → Pairs (R.script_func stop sg)
 
   module _ (R : Readers) (good : Good R) where
     argument-pairs : Pairs (argument text es true R)
     unfolding argument
     argument-pairs = bind (good.simple Stop.none true) λ a. ret _
 
-    nextScript-pairs : Pairs (nextScript text es true R)
-    unfolding nextScript
-    nextScript-pairs =
-        bind (taking marksScript) λ t. elim t [
+    next_script-pairs : Pairs (next_script text es true R)
+    unfolding next_script
+    next_script-pairs =
+        bind (taking marks_script) λ t. elim t [
           | none ↦ ret _
           | some e ↦ both_ways _ (bind argument-pairs λ a. ret _)
               (bind argument-pairs λ a. bind (taking (is token.Super)) λ u. elim u [
@@ -390,26 +390,26 @@ module _ (text : List ℕ) (es : List Entry) where
               ])
         ]
 
-    nextScriptFunc-pairs : (stop : Stop) (sg : Bool) → Pairs (nextScriptFunc text es true R stop sg)
-    unfolding nextScriptFunc
-    nextScriptFunc-pairs stop sg =
+    next_script_func-pairs : (stop : Stop) (sg : Bool) → Pairs (next_script_func text es true R stop sg)
+    unfolding next_script_func
+    next_script_func-pairs stop sg =
         bind (taking (heads sg)) λ t. elim t [
           | none ↦ bind (good.simple stop sg) λ a. elim a [
             | none ↦ ret _
-            | some x ↦ bind nextScript-pairs λ q. ret _
+            | some x ↦ bind next_script-pairs λ q. ret _
           ]
-          | some e ↦ both_ways _ (bind nextScript-pairs λ q. bind (good.scriptFunc Stop.none true) λ a. ret _)
-              (bind (good.scriptFunc stop true) λ a. ret _)
+          | some e ↦ both_ways _ (bind next_script-pairs λ q. bind (good.script_func Stop.none true) λ a. ret _)
+              (bind (good.script_func stop true) λ a. ret _)
         ]
 
-    pub nextIntermediate-pairs : (stop : Stop) (sg : Bool) → Pairs (nextIntermediate text es true R stop sg)
-    unfolding nextIntermediate
-    nextIntermediate-pairs stop sg =
-        bind (good.scriptFunc stop sg) λ a. elim a [
+    pub next_intermediate-pairs : (stop : Stop) (sg : Bool) → Pairs (next_intermediate text es true R stop sg)
+    unfolding next_intermediate
+    next_intermediate-pairs stop sg =
+        bind (good.script_func stop sg) λ a. elim a [
           | none ↦ ret _
           | some x ↦ bind (taking (is token.Frac)) λ t. elim t [
             | none ↦ ret _
-            | some e ↦ bind (good.scriptFunc Stop.none true) λ b. ret _
+            | some e ↦ bind (good.script_func Stop.none true) λ b. ret _
           ]
         ]
 
@@ -419,26 +419,26 @@ module _ (text : List ℕ) (es : List Entry) where
     intermediates-pairs (suc f) until stop before =
         bind at_here λ p.
         both_ways _ (ret _)
-        (bind (nextIntermediate-pairs stop (prefixes before)) λ a. elim a [
+        (bind (next_intermediate-pairs stop (prefixes before)) λ a. elim a [
           | none ↦ ret _
           | some x ↦ bind (intermediates-pairs f until stop (some x)) λ l. ret _
         ])
 
-    rowCells-pairs : (f : ℕ) → RowPairs (rowCells text es true R f)
-    unfolding rowCells
-    rowCells-pairs zero = row-none
-    rowCells-pairs (suc f) =
+    row_cells-pairs : (f : ℕ) → RowPairs (row_cells text es true R f)
+    unfolding row_cells
+    row_cells-pairs zero = row-none
+    row_cells-pairs (suc f) =
         row-bind (intermediates-pairs _ none Stop.sep none) λ l.
         row-take any _ λ e.
-        after-if _ (after-pairs (row-map _ (rowCells-pairs f)))
+        after-if _ (after-pairs (row-map _ (row_cells-pairs f)))
         (after-if _ (after-some _) (after-pairs row-none))
 
-    nextMatrixRow-pairs : Pairs (nextMatrixRow text es true R)
-    unfolding nextMatrixRow ◌>>=◌ here return closed if◌then◌else◌
-    nextMatrixRow-pairs = record { run = λ s f. go s f (advance text es any s).0 refl }
+    next_matrix_row-pairs : Pairs (next_matrix_row text es true R)
+    unfolding next_matrix_row ◌>>=◌ here return closed if◌then◌else◌
+    next_matrix_row-pairs = record { run = λ s f. go s f (advance text es any s).0 refl }
       where
         cells : State → Option (Nodes × Entry) × State
-        cells s = rowCells text es true R (suc (length es)) s
+        cells s = row_cells text es true R (suc (length es)) s
 
         next : ℕ → Entry → Option (Nodes × Entry) → M (Option Row)
         next i o q = elim q [ none ↦ return none | some m ↦ closed i (some (record { left = o; right = m.1; cells = m.0 })) ]
@@ -463,57 +463,57 @@ module _ (text : List ℕ) (es : List Entry) where
                   (around (omega (arith, a.fit.size, a.fit.within, w.0)) (omega (arith, w.0)) (omega (arith, a.fit.within, w.0)) w.1 (subst (λ (b : ℕ). Nested (length es) b (r.pos - 1) r.closers) e w.2));
             }
 
-        opened : (s u : State) → Fit s → Stepped s u → u.pos ≡ suc s.pos → (o : Entry) → (b : Bool) → Pairing s ((if b then (rowCells text es true R (suc (length es)) >>= next s.pos o) else return none) u).1
-        opened s u f st e o true = last s u f st e o ((rowCells-pairs _).run u (stepped st f).fit) (cells u).0 refl
+        opened : (s u : State) → Fit s → Stepped s u → u.pos ≡ suc s.pos → (o : Entry) → (b : Bool) → Pairing s ((if b then (row_cells text es true R (suc (length es)) >>= next s.pos o) else return none) u).1
+        opened s u f st e o true = last s u f st e o ((row_cells-pairs _).run u (stepped st f).fit) (cells u).0 refl
         opened s u f st e o false = stepped st f
 
         taken : ℕ → Option Entry → M (Option Row)
-        taken i t = elim t [ none ↦ return none | some o ↦ (if is token.OpenBracket o then (rowCells text es true R (suc (length es)) >>= next i o) else return none) ]
+        taken i t = elim t [ none ↦ return none | some o ↦ (if is token.OpenBracket o then (row_cells text es true R (suc (length es)) >>= next i o) else return none) ]
 
         go : (s : State) → Fit s → (t : Option Entry) → (advance text es any s).0 ≡ t → Pairing s (taken s.pos t (advance text es any s).1).1
         go s f none e = stepped (advance-steps any s) f
         go s f (some o) e = opened s (advance text es any s).1 f (advance-steps any s) (advance-some any s o e).0 o (is token.OpenBracket o)
 
-    moreRows-pairs : (f : ℕ) (h : Row) → Pairs (moreRows text es true R f h)
-    unfolding moreRows
-    moreRows-pairs zero h = ret _
-    moreRows-pairs (suc f) h =
+    more_rows-pairs : (f : ℕ) (h : Row) → Pairs (more_rows text es true R f h)
+    unfolding more_rows
+    more_rows-pairs zero h = ret _
+    more_rows-pairs (suc f) h =
         bind at_here λ p.
         both_ways _
-        (bind (taking any) λ t. bind nextMatrixRow-pairs λ q. elim q [
+        (bind (taking any) λ t. bind next_matrix_row-pairs λ q. elim q [
           | none ↦ ret _
-          | some r ↦ both_ways _ (bind (moreRows-pairs f h) λ l. elim l [ none ↦ ret _ | some m ↦ ret _ ]) (ret _)
+          | some r ↦ both_ways _ (bind (more_rows-pairs f h) λ l. elim l [ none ↦ ret _ | some m ↦ ret _ ]) (ret _)
         ])
         (ret _)
 
-    pub nextMatrixRows-pairs : Pairs (nextMatrixRows text es true R)
-    unfolding nextMatrixRows
-    nextMatrixRows-pairs =
-        bind nextMatrixRow-pairs λ q. elim q [
+    pub next_matrix_rows-pairs : Pairs (next_matrix_rows text es true R)
+    unfolding next_matrix_rows
+    next_matrix_rows-pairs =
+        bind next_matrix_row-pairs λ q. elim q [
           | none ↦ ret _
-          | some h ↦ both_ways _ (bind (moreRows-pairs _ h) λ l. elim l [ none ↦ ret _ | some m ↦ ret _ ]) (ret _)
+          | some h ↦ both_ways _ (bind (more_rows-pairs _ h) λ l. elim l [ none ↦ ret _ | some m ↦ ret _ ]) (ret _)
         ]
 
-    matrixBody-closing : (o : Entry) (i : ℕ) → Closing i (matrixBody text es true R o i)
-    unfolding matrixBody
-    matrixBody-closing o i =
-        closing-bind i nextMatrixRows-pairs λ q. elim q [
+    matrix_body-closing : (o : Entry) (i : ℕ) → Closing i (matrix_body text es true R o i)
+    unfolding matrix_body
+    matrix_body-closing o i =
+        closing-bind i next_matrix_rows-pairs λ q. elim q [
           | none ↦ closing-ret i _
           | some r ↦ closing-bind i at_here λ p. closing-if i _ (closing-take i any _ _) (closing-ret i _)
         ]
 
-    barBody-closing : (o : Entry) (i : ℕ) (stop : Stop) → Closing i (barBody text es true R o i stop)
-    unfolding barBody
-    barBody-closing o i stop =
-        closing-bind i (nextIntermediate-pairs stop true) λ a. elim a [
+    bar_body-closing : (o : Entry) (i : ℕ) (stop : Stop) → Closing i (bar_body text es true R o i stop)
+    unfolding bar_body
+    bar_body-closing o i stop =
+        closing-bind i (next_intermediate-pairs stop true) λ a. elim a [
           | none ↦ closing-ret i _
           | some x ↦ closing-bind i (intermediates-pairs _ (some o) stop (some x)) λ l.
               closing-bind i at_here λ p. closing-if i _ (closing-take i any _ _) (closing-ret i _)
         ]
 
-    nextOpenGroup-closing : (o : Entry) (i : ℕ) → Closing i (nextOpenGroup text es true R o i)
-    unfolding nextOpenGroup
-    nextOpenGroup-closing o i = closing-bind i (intermediates-pairs _ none Stop.none none) λ l. closing-take i (is token.CloseBracket) _ _
+    next_open_group-closing : (o : Entry) (i : ℕ) → Closing i (next_open_group text es true R o i)
+    unfolding next_open_group
+    next_open_group-closing o i = closing-bind i (intermediates-pairs _ none Stop.none none) λ l. closing-take i (is token.CloseBracket) _ _
 
   -- Right behind the opener i.
   pub record AtPairs {A : Type 0} (i : ℕ) (m : M A) : Type 0 where
@@ -538,11 +538,11 @@ module _ (text : List ℕ) (es : List Entry) where
   }
 
   abbrev settle : Mark → ℕ → State → Try → M (Option Node)
-  settle k i o t = elim t [ made x ↦ return (some x) | lost ↦ giveUp text es true k i o | nought ↦ return none ]
+  settle k i o t = elim t [ made x ↦ return (some x) | lost ↦ give_up text es true k i o | nought ↦ return none ]
 
   module _ (k : Mark) (i : ℕ) (body : M Try) (closing : Closing i body) where
     attempt-pairs : AtPairs i (attempt text es true k i body)
-    unfolding attempt failed ◌>>=◌ current if◌then◌else◌ return giveUp
+    unfolding attempt failed ◌>>=◌ current if◌then◌else◌ return give_up
     attempt-pairs = record { run = λ s f e u. go s f e u (get_or s.marks (slot k i) false) }
       where
         settled : (s : State) → Fit s → s.pos ≡ suc i → get_or s.closers i (length es) ≡ length es → (t : Try) → Closed i s (settle k i s t (body s).1).1
@@ -574,8 +574,8 @@ module _ (text : List ℕ) (es : List Entry) where
   unfolding closed
   never-made i x = record { never = λ s e. let z : ◌≡◌ {A = ℕ} 0 1 = cc in omega arith }
 
-  matrix-never : (R : Readers) (o : Entry) (i : ℕ) → Never (matrixBody text es true R o i)
-  unfolding matrixBody
+  matrix-never : (R : Readers) (o : Entry) (i : ℕ) → Never (matrix_body text es true R o i)
+  unfolding matrix_body
   matrix-never R o i =
       never-bind _ λ q. elim q [
         | none ↦ never-lost
@@ -583,64 +583,64 @@ module _ (text : List ℕ) (es : List Entry) where
       ]
 
   module _ (R : Readers) (good : Good R) (i : ℕ) (o : Entry) where
-    tryMatrix-pairs : AtPairs i (tryMatrix text es true R o i)
-    unfolding tryMatrix if◌then◌else◌
-    tryMatrix-pairs = go (couldBeMatrix text es o i)
+    try_matrix-pairs : AtPairs i (try_matrix text es true R o i)
+    unfolding try_matrix if◌then◌else◌
+    try_matrix-pairs = go (could_be_matrix text es o i)
       where
-        go : (x : Bool) → AtPairs i (if x then attempt text es true matrixMark i (matrixBody text es true R o i) else return none)
-        go true = attempt-pairs matrixMark i _ (matrixBody-closing R good o i)
+        go : (x : Bool) → AtPairs i (if x then attempt text es true matrix_mark i (matrix_body text es true R o i) else return none)
+        go true = attempt-pairs matrix_mark i _ (matrix_body-closing R good o i)
         go false = at_plain (ret _)
 
     -- A matrix that is not made leaves the place and the closers as they were.
-    back_at : (s : State) (x : Bool) → ((if x then attempt text es true matrixMark i (matrixBody text es true R o i) else return none) s).0 ≡ none →
-        (((if x then attempt text es true matrixMark i (matrixBody text es true R o i) else return none) s).1.pos ≡ s.pos)
-        × (((if x then attempt text es true matrixMark i (matrixBody text es true R o i) else return none) s).1.closers ≡ s.closers)
-    unfolding if◌then◌else◌ return attempt failed ◌>>=◌ giveUp current
+    back_at : (s : State) (x : Bool) → ((if x then attempt text es true matrix_mark i (matrix_body text es true R o i) else return none) s).0 ≡ none →
+        (((if x then attempt text es true matrix_mark i (matrix_body text es true R o i) else return none) s).1.pos ≡ s.pos)
+        × (((if x then attempt text es true matrix_mark i (matrix_body text es true R o i) else return none) s).1.closers ≡ s.closers)
+    unfolding if◌then◌else◌ return attempt failed ◌>>=◌ give_up current
     back_at s false e = (refl, refl)
-    back_at s true e = go (get_or s.marks (slot matrixMark i) false) e
+    back_at s true e = go (get_or s.marks (slot matrix_mark i) false) e
       where
-        end-at : (t : Try) → (matrixBody text es true R o i s).0 ≡ t → ((settle matrixMark i s t (matrixBody text es true R o i s).1).0 ≡ none) →
-            ((settle matrixMark i s t (matrixBody text es true R o i s).1).1.pos ≡ s.pos) × ((settle matrixMark i s t (matrixBody text es true R o i s).1).1.closers ≡ s.closers)
+        end-at : (t : Try) → (matrix_body text es true R o i s).0 ≡ t → ((settle matrix_mark i s t (matrix_body text es true R o i s).1).0 ≡ none) →
+            ((settle matrix_mark i s t (matrix_body text es true R o i s).1).1.pos ≡ s.pos) × ((settle matrix_mark i s t (matrix_body text es true R o i s).1).1.closers ≡ s.closers)
         end-at (made x) f e = let z : ◌≡◌ {A = ℕ} 0 1 = cc in absurd (omega arith)
         end-at lost f e = (refl, refl)
         end-at nought f e = absurd ((matrix-never R o i).never s f)
 
-        go : (x : Bool) → ((if x then return none else (matrixBody text es true R o i >>= settle matrixMark i s)) s).0 ≡ none →
-            (((if x then return none else (matrixBody text es true R o i >>= settle matrixMark i s)) s).1.pos ≡ s.pos)
-            × (((if x then return none else (matrixBody text es true R o i >>= settle matrixMark i s)) s).1.closers ≡ s.closers)
+        go : (x : Bool) → ((if x then return none else (matrix_body text es true R o i >>= settle matrix_mark i s)) s).0 ≡ none →
+            (((if x then return none else (matrix_body text es true R o i >>= settle matrix_mark i s)) s).1.pos ≡ s.pos)
+            × (((if x then return none else (matrix_body text es true R o i >>= settle matrix_mark i s)) s).1.closers ≡ s.closers)
         go true e = (refl, refl)
-        go false e = end-at (matrixBody text es true R o i s).0 refl e
+        go false e = end-at (matrix_body text es true R o i s).0 refl e
 
-    tryMatrix-back : (s : State) → (tryMatrix text es true R o i s).0 ≡ none → ((tryMatrix text es true R o i s).1.pos ≡ s.pos) × ((tryMatrix text es true R o i s).1.closers ≡ s.closers)
-    unfolding tryMatrix
-    tryMatrix-back s e = back_at s (couldBeMatrix text es o i) e
+    try_matrix-back : (s : State) → (try_matrix text es true R o i s).0 ≡ none → ((try_matrix text es true R o i s).1.pos ≡ s.pos) × ((try_matrix text es true R o i s).1.closers ≡ s.closers)
+    unfolding try_matrix
+    try_matrix-back s e = back_at s (could_be_matrix text es o i) e
 
     abbrev after : M Node → Option Node → M Node
     after rest m = elim m [ some x ↦ return x | none ↦ rest ]
 
-    then-pairs : (rest : M Node) → AtPairs i rest → AtPairs i (tryMatrix text es true R o i >>= after rest)
+    then-pairs : (rest : M Node) → AtPairs i rest → AtPairs i (try_matrix text es true R o i >>= after rest)
     unfolding ◌>>=◌ return
-    then-pairs rest h = record { run = λ s f e u. go s f e u (tryMatrix text es true R o i s).0 refl }
+    then-pairs rest h = record { run = λ s f e u. go s f e u (try_matrix text es true R o i s).0 refl }
       where
-        go : (s : State) → Fit s → s.pos ≡ suc i → get_or s.closers i (length es) ≡ length es → (x : Option Node) → (tryMatrix text es true R o i s).0 ≡ x → Closed i s (after rest x (tryMatrix text es true R o i s).1).1
-        go s f e u (some v) k = tryMatrix-pairs.run s f e u
+        go : (s : State) → Fit s → s.pos ≡ suc i → get_or s.closers i (length es) ≡ length es → (x : Option Node) → (try_matrix text es true R o i s).0 ≡ x → Closed i s (after rest x (try_matrix text es true R o i s).1).1
+        go s f e u (some v) k = try_matrix-pairs.run s f e u
         go s f e u none k =
-            let b = tryMatrix-back s k in
-            let p = tryMatrix-pairs.run s f e u in
-            let q = h.run (tryMatrix text es true R o i s).1 p.fit (b.0 ∙ e) (ap (λ (x : List ℕ). get_or x i (length es)) b.1 ∙ u) in
+            let b = try_matrix-back s k in
+            let p = try_matrix-pairs.run s f e u in
+            let q = h.run (try_matrix text es true R o i s).1 p.fit (b.0 ∙ e) (ap (λ (x : List ℕ). get_or x i (length es)) b.1 ∙ u) in
             record { fit = q.fit; on = q.on; low = λ j l. q.low j l ∙ ap (λ (x : List ℕ). get_or x j (length es)) b.1; nest = q.nest }
 
-    nextBracket-pairs : AtPairs i (nextBracket text es true R o i)
-    unfolding nextBracket
-    nextBracket-pairs = then-pairs _ (begins-at (nextOpenGroup-closing R good o i))
+    next_bracket-pairs : AtPairs i (next_bracket text es true R o i)
+    unfolding next_bracket
+    next_bracket-pairs = then-pairs _ (begins-at (next_open_group-closing R good o i))
 
-    bars-pairs : (stop : Stop) → AtPairs i (attempt text es true (openMark stop) i (barBody text es true R o i stop) >>= λ g. return (orGlyph o g))
+    bars-pairs : (stop : Stop) → AtPairs i (attempt text es true (open_mark stop) i (bar_body text es true R o i stop) >>= λ g. return (or_glyph o g))
     unfolding ◌>>=◌ return
-    bars-pairs stop = record { run = λ s f e u. (attempt-pairs (openMark stop) i _ (barBody-closing R good o i stop)).run s f e u }
+    bars-pairs stop = record { run = λ s f e u. (attempt-pairs (open_mark stop) i _ (bar_body-closing R good o i stop)).run s f e u }
 
-    nextOpenCloseGroup-pairs : (stop : Stop) → AtPairs i (nextOpenCloseGroup text es true R o i stop)
-    unfolding nextOpenCloseGroup
-    nextOpenCloseGroup-pairs stop = then-pairs _ (bars-pairs stop)
+    next_open_close_group-pairs : (stop : Stop) → AtPairs i (next_open_close_group text es true R o i stop)
+    unfolding next_open_close_group
+    next_open_close_group-pairs stop = then-pairs _ (bars-pairs stop)
 
   then_some : {i : ℕ} {m : M Node} → AtPairs i m → AtPairs i (m >>= λ a. return (some a))
   unfolding ◌>>=◌ return
@@ -659,8 +659,8 @@ module _ (text : List ℕ) (es : List Entry) where
     begun-pairs token.Unary e stop sg = at_plain (bind (argument-pairs R good) λ a. ret _)
     begun-pairs token.Function e stop sg = at_plain (bind (argument-pairs R good) λ a. ret _)
     begun-pairs token.Binary e stop sg = at_plain (bind (argument-pairs R good) λ a. bind (argument-pairs R good) λ b. ret _)
-    begun-pairs token.OpenBracket e stop sg = then_some (nextBracket-pairs R good i e)
-    begun-pairs token.OpenCloseBracket e stop sg = then_some (nextOpenCloseGroup-pairs R good i e stop)
+    begun-pairs token.OpenBracket e stop sg = then_some (next_bracket-pairs R good i e)
+    begun-pairs token.OpenCloseBracket e stop sg = then_some (next_open_close_group-pairs R good i e stop)
     begun-pairs token.Sep e stop sg = at_plain (ret _)
     begun-pairs token.Frac e stop sg = at_plain (ret _)
     begun-pairs token.Super e stop sg = at_plain (ret _)
@@ -672,9 +672,9 @@ module _ (text : List ℕ) (es : List Entry) where
     abbrev going : ℕ → Option Entry → M (Option Node)
     going i x = elim x [ none ↦ return none | some e ↦ begun text es true R e.token e i stop sg ]
 
-    nextSimple-pairs : Pairs (nextSimple text es true R stop sg)
-    unfolding nextSimple ◌>>=◌ here return
-    nextSimple-pairs = record { run = λ s f. go s f (advance text es (begins stop) s).0 refl }
+    next_simple-pairs : Pairs (next_simple text es true R stop sg)
+    unfolding next_simple ◌>>=◌ here return
+    next_simple-pairs = record { run = λ s f. go s f (advance text es (begins stop) s).0 refl }
       where
         go : (s : State) → Fit s → (x : Option Entry) → (advance text es (begins stop) s).0 ≡ x → Pairing s (going s.pos x (advance text es (begins stop) s).1).1
         go s f none e = stepped (advance-steps (begins stop) s) f
@@ -687,10 +687,10 @@ module _ (text : List ℕ) (es : List Entry) where
 
   pub level-good : (r : ℕ) → Good (level text es true r)
   unfolding level step
-  level-good zero = record { simple = λ stop sg. ret _; scriptFunc = λ stop sg. ret _ }
+  level-good zero = record { simple = λ stop sg. ret _; script_func = λ stop sg. ret _ }
   level-good (suc r) = record {
-    simple = λ stop sg. nextSimple-pairs (level text es true r) (level-good r) stop sg;
-    scriptFunc = λ stop sg. nextScriptFunc-pairs (level text es true r) (level-good r) stop sg;
+    simple = λ stop sg. next_simple-pairs (level text es true r) (level-good r) stop sg;
+    script_func = λ stop sg. next_script_func-pairs (level text es true r) (level-good r) stop sg;
   }
 
   parse-pairs : (f wraps : ℕ) (acc : Nodes) → Pairs (parse text es true f wraps acc)
@@ -712,23 +712,23 @@ module _ (text : List ℕ) (es : List Entry) where
   long-none zero m = refl
   long-none (suc k) m = ap suc (long-none k m)
 
-  pub all-nested : Pairing (start text es true) (parseEntries text es true).1
-  unfolding parseEntries
+  pub all-nested : Pairing (start text es true) (parse_entries text es true).1
+  unfolding parse_entries
   all-nested = (parse-pairs (suc (length es)) 256 end).run (start text es true)
       (record { size = long-none (length es) (length es); within = omega arith; free = λ j l. all_none (length es) (length es) j; most = λ j. omega (arith, all_none (length es) (length es) j) })
 
 -- Over all the entries of a list.
-pub nested : (text : List ℕ) (ts : List Lexeme) → let n = length (entries nowhere ts) in let c = closersOf text ts in
+pub nested : (text : List ℕ) (ts : List Lexeme) → let n = length (entries nowhere ts) in let c = closers_of text ts in
     (length c ≡ n)
     × ((i : ℕ) → get_or c i n ≤ n)
     × ((i : ℕ) → get_or c i n < n → i < get_or c i n)
     × ((i j : ℕ) → i < j → get_or c i n < n → get_or c j n < n → (get_or c i n < j) ⊎ (get_or c j n < get_or c i n))
-unfolding closersOf
+unfolding closers_of
 nested text ts =
     let es = entries nowhere ts in
     let p = all-nested text es in
-    let c = (parseEntries text es true).1.closers in
-    let low : (i : ℕ) → get_or c i (length es) < length es → i < (parseEntries text es true).1.pos = λ i h. below (parseEntries text es true).1.pos i c (length es) p.fit.free h in (
+    let c = (parse_entries text es true).1.closers in
+    let low : (i : ℕ) → get_or c i (length es) < length es → i < (parse_entries text es true).1.pos = λ i h. below (parse_entries text es true).1.pos i c (length es) p.fit.free h in (
       p.fit.size,
       p.fit.most,
       λ i h. (p.nest.inside i (omega arith) (low i h) h).0,
@@ -748,7 +748,7 @@ module _ (text : List ℕ) (ts : List Lexeme) where
   n = length (entries nowhere ts)
 
   abbrev c : List ℕ
-  c = closersOf text ts
+  c = closers_of text ts
 
   pub one-opener : (i j : ℕ) → i < j → get_or c i n < n → get_or c j n < n → get_or c i n ≡ get_or c j n → ⊥
   one-opener i j l h k e = let p = nested text ts in go (p.3 i j l h k) (p.2 j k) e
@@ -757,8 +757,8 @@ module _ (text : List ℕ) (ts : List Lexeme) where
       go (inl x) y e = omega arith
       go (inr x) y e = omega arith
 
-  pub closer-opens-nothing : (i : ℕ) → get_or c i n < n → get_or c (get_or c i n) n ≡ n
-  closer-opens-nothing i h = let p = nested text ts in go (dec_le n (get_or c (get_or c i n) n)) (p.1 (get_or c i n)) (p.2 i h) (p.2 (get_or c i n)) (p.3 i (get_or c i n) (p.2 i h) h)
+  pub closer-opens_nothing : (i : ℕ) → get_or c i n < n → get_or c (get_or c i n) n ≡ n
+  closer-opens_nothing i h = let p = nested text ts in go (dec_le n (get_or c (get_or c i n) n)) (p.1 (get_or c i n)) (p.2 i h) (p.2 (get_or c i n)) (p.3 i (get_or c i n) (p.2 i h) h)
     where
       either : {a b : ℕ} → (a < a) ⊎ (b < a) → a < b → ⊥
       either (inl x) y = omega arith

@@ -13,7 +13,7 @@ use Rattle.tokens.specs.declared.token.Token.TheVariants as token
 use Rattle.tree.specs.Tree.{Node, Nodes, end}
 use Rattle.reading.specs.Stop.{Stop}
 use Rattle.reading.specs.Entries.{Entry, is}
-use Rattle.reading.specs.Reading.{State, M, return, ◌>>=◌, here, current, closed, Mark, openMark, matrixMark, slot, Try, made, lost, nought, Readers, advance, failed, giveUp, attempt, argument, nextScript, nextScriptFunc, nextIntermediate, intermediates, Row, nextMatrixRow, rowCells, moreRows, nextMatrixRows, matrixBody, tryMatrix, nextOpenGroup, barBody, nextOpenCloseGroup, nextBracket, begun, nextSimple, step, level, parse, parseEntries, start, orGlyph, couldBeMatrix, prefixes, any, marksScript, heads, begins, if◌then◌else◌}
+use Rattle.reading.specs.Reading.{State, M, return, ◌>>=◌, here, current, closed, Mark, open_mark, matrix_mark, slot, Try, made, lost, nought, Readers, advance, failed, give_up, attempt, argument, next_script, next_script_func, next_intermediate, intermediates, Row, next_matrix_row, row_cells, more_rows, next_matrix_rows, matrix_body, try_matrix, next_open_group, bar_body, next_open_close_group, next_bracket, begun, next_simple, step, level, parse, parse_entries, start, or_glyph, could_be_matrix, prefixes, any, marks_script, heads, begins, if◌then◌else◌}
 
 inside_of : {A : Type 0} (l : List A) (i : ℕ) (x : A) → get_elem? l i ≡ some x → i < length l
 inside_of [] i x e = let z : ◌≡◌ {A = ℕ} 0 1 = cc in absurd (omega arith)
@@ -22,20 +22,20 @@ inside_of (y ∷ l) (suc i) x e = omega (arith, inside_of l i x e)
 
 slot-low : (k : Mark) (i : ℕ) → slot k i < 3 * suc i
 unfolding slot
-slot-low (openMark Stop.none) i = omega arith
-slot-low (openMark Stop.sep) i = omega arith
-slot-low matrixMark i = omega arith
+slot-low (open_mark Stop.none) i = omega arith
+slot-low (open_mark Stop.sep) i = omega arith
+slot-low matrix_mark i = omega arith
 
 slot-high : (k : Mark) (i : ℕ) → 3 * i ≤ slot k i
 unfolding slot
-slot-high (openMark Stop.none) i = omega arith
-slot-high (openMark Stop.sep) i = omega arith
-slot-high matrixMark i = omega arith
+slot-high (open_mark Stop.none) i = omega arith
+slot-high (open_mark Stop.sep) i = omega arith
+slot-high matrix_mark i = omega arith
 
-open-apart : (stop : Stop) (i : ℕ) → slot matrixMark i ≡ slot (openMark stop) i → ⊥
+open_apart : (stop : Stop) (i : ℕ) → slot matrix_mark i ≡ slot (open_mark stop) i → ⊥
 unfolding slot
-open-apart Stop.none i e = omega arith
-open-apart Stop.sep i e = omega arith
+open_apart Stop.none i e = omega arith
+open_apart Stop.sep i e = omega arith
 
 -- From the slot a up to b the marks are the same.
 abbrev pub Alike : ℕ → ℕ → List Bool → List Bool → Type 0
@@ -134,15 +134,15 @@ module _ (text : List ℕ) (es : List Entry) where
   unfolding advance
   advance-some ok s y = go (get_elem? es s.pos) refl
     where
-      no-some : none ≡ some y → {X : Type 0} → X
-      no-some e = let z : ◌≡◌ {A = ℕ} 0 1 = cc in absurd (omega arith)
+      no_some : none ≡ some y → {X : Type 0} → X
+      no_some e = let z : ◌≡◌ {A = ℕ} 0 1 = cc in absurd (omega arith)
 
       go' : (z : Entry) → (x : Bool) → ok z ≡ x → get_elem? es s.pos ≡ some z → (advance text es ok s).0 ≡ some y → ((advance text es ok s).1.pos ≡ suc s.pos) × (get_elem? es s.pos ≡ some y)
       go' z true k e = rw (e, advance, k) λ h. (refl, h)
-      go' z false k e = rw (e, advance, k) λ h. no-some h
+      go' z false k e = rw (e, advance, k) λ h. no_some h
 
       go : (x : Option Entry) → get_elem? es s.pos ≡ x → (advance text es ok s).0 ≡ some y → ((advance text es ok s).1.pos ≡ suc s.pos) × (get_elem? es s.pos ≡ some y)
-      go none e = rw (e, advance) λ h. no-some h
+      go none e = rw (e, advance) λ h. no_some h
       go (some z) e = go' z (ok z) refl e
 
   bind : {A B : Type 0} {m : M A} {f : A → M B} → Plays m → ((x : A) → Plays (f x)) → Plays (m >>= f)
@@ -197,8 +197,8 @@ module _ (text : List ℕ) (es : List Entry) where
     };
   }
 
-  by-once : {A : Type 0} (k : Mark) (i : ℕ) {m : M A} → Plays m → PlaysBy k i m
-  by-once k i h = record {
+  by_once : {A : Type 0} (k : Mark) (i : ℕ) {m : M A} → Plays m → PlaysBy k i m
+  by_once k i h = record {
     run = λ s l a. let p = h.run s l in record {
       long = p.long;
       on = omega (arith, p.on);
@@ -208,7 +208,7 @@ module _ (text : List ℕ) (es : List Entry) where
   }
 
   abbrev settle : Mark → ℕ → State → Try → M (Option Node)
-  settle k i o t = elim t [ made x ↦ return (some x) | lost ↦ giveUp text es true k i o | nought ↦ return none ]
+  settle k i o t = elim t [ made x ↦ return (some x) | lost ↦ give_up text es true k i o | nought ↦ return none ]
 
   abbrev tried : Mark → ℕ → M Try → State → Bool → Option Node × State
   tried k i body s x = (if x then return none else (body >>= settle k i s)) s
@@ -228,7 +228,7 @@ module _ (text : List ℕ) (es : List Entry) where
 
     module _ (s : State) (l : Long s) (a : s.pos ≡ suc i) where
       new : get_or s.marks (slot k i) false ≡ false → (x : Try) → (body s).0 ≡ x → PlayedBy k i (attempt text es true k i body) s (settle k i s x (body s).1)
-      unfolding return giveUp
+      unfolding return give_up
       new u (made x) e =
           let p = plays.run s l in
           let own : get_or (body s).1.marks (slot k i) false ≡ false = p.kept (slot k i) (omega arith) (omega (arith, slot-low k i)) ∙ u in
@@ -276,17 +276,17 @@ module _ (text : List ℕ) (es : List Entry) where
 
   record Good (R : Readers) : Type 0 where
     simple : (stop : Stop) (sg : Bool) → Plays (R.simple stop sg)
-    scriptFunc : (stop : Stop) (sg : Bool) → Plays (R.scriptFunc stop sg)
+    script_func : (stop : Stop) (sg : Bool) → Plays (R.script_func stop sg)
 
   module _ (R : Readers) (good : Good R) where
     argument-plays : Plays (argument text es true R)
     unfolding argument
     argument-plays = bind (good.simple Stop.none true) λ a. ret _
 
-    nextScript-plays : Plays (nextScript text es true R)
-    unfolding nextScript
-    nextScript-plays =
-        bind (taking marksScript) λ t. elim t [
+    next_script-plays : Plays (next_script text es true R)
+    unfolding next_script
+    next_script-plays =
+        bind (taking marks_script) λ t. elim t [
           | none ↦ ret _
           | some e ↦ both_ways _ (bind argument-plays λ a. ret _)
               (bind argument-plays λ a. bind (taking (is token.Super)) λ u. elim u [
@@ -295,26 +295,26 @@ module _ (text : List ℕ) (es : List Entry) where
               ])
         ]
 
-    nextScriptFunc-plays : (stop : Stop) (sg : Bool) → Plays (nextScriptFunc text es true R stop sg)
-    unfolding nextScriptFunc
-    nextScriptFunc-plays stop sg =
+    next_script_func-plays : (stop : Stop) (sg : Bool) → Plays (next_script_func text es true R stop sg)
+    unfolding next_script_func
+    next_script_func-plays stop sg =
         bind (taking (heads sg)) λ t. elim t [
           | none ↦ bind (good.simple stop sg) λ a. elim a [
             | none ↦ ret _
-            | some x ↦ bind nextScript-plays λ q. ret _
+            | some x ↦ bind next_script-plays λ q. ret _
           ]
-          | some e ↦ both_ways _ (bind nextScript-plays λ q. bind (good.scriptFunc Stop.none true) λ a. ret _)
-              (bind (good.scriptFunc stop true) λ a. ret _)
+          | some e ↦ both_ways _ (bind next_script-plays λ q. bind (good.script_func Stop.none true) λ a. ret _)
+              (bind (good.script_func stop true) λ a. ret _)
         ]
 
-    nextIntermediate-plays : (stop : Stop) (sg : Bool) → Plays (nextIntermediate text es true R stop sg)
-    unfolding nextIntermediate
-    nextIntermediate-plays stop sg =
-        bind (good.scriptFunc stop sg) λ a. elim a [
+    next_intermediate-plays : (stop : Stop) (sg : Bool) → Plays (next_intermediate text es true R stop sg)
+    unfolding next_intermediate
+    next_intermediate-plays stop sg =
+        bind (good.script_func stop sg) λ a. elim a [
           | none ↦ ret _
           | some x ↦ bind (taking (is token.Frac)) λ t. elim t [
             | none ↦ ret _
-            | some e ↦ bind (good.scriptFunc Stop.none true) λ b. ret _
+            | some e ↦ bind (good.script_func Stop.none true) λ b. ret _
           ]
         ]
 
@@ -324,72 +324,72 @@ module _ (text : List ℕ) (es : List Entry) where
     intermediates-plays (suc f) until stop before =
         bind at_here λ p.
         both_ways _ (ret _)
-        (bind (nextIntermediate-plays stop (prefixes before)) λ a. elim a [
+        (bind (next_intermediate-plays stop (prefixes before)) λ a. elim a [
           | none ↦ ret _
           | some x ↦ bind (intermediates-plays f until stop (some x)) λ l. ret _
         ])
 
-    rowCells-plays : (f : ℕ) → Plays (rowCells text es true R f)
-    unfolding rowCells
-    rowCells-plays zero = ret _
-    rowCells-plays (suc f) =
+    row_cells-plays : (f : ℕ) → Plays (row_cells text es true R f)
+    unfolding row_cells
+    row_cells-plays zero = ret _
+    row_cells-plays (suc f) =
         bind (intermediates-plays _ none Stop.sep none) λ l.
         bind (taking any) λ t. elim t [
           | none ↦ ret _
           | some e ↦ both_ways _
-              (bind (rowCells-plays f) λ q. elim q [ none ↦ ret _ | some m ↦ ret _ ])
+              (bind (row_cells-plays f) λ q. elim q [ none ↦ ret _ | some m ↦ ret _ ])
               (both_ways _ (ret _) (ret _))
         ]
 
-    nextMatrixRow-plays : Plays (nextMatrixRow text es true R)
-    unfolding nextMatrixRow
-    nextMatrixRow-plays =
+    next_matrix_row-plays : Plays (next_matrix_row text es true R)
+    unfolding next_matrix_row
+    next_matrix_row-plays =
         bind at_here λ i. bind (taking any) λ t. elim t [
           | none ↦ ret _
-          | some o ↦ both_ways _ (bind (rowCells-plays _) λ q. elim q [ none ↦ ret _ | some m ↦ noted i _ ]) (ret _)
+          | some o ↦ both_ways _ (bind (row_cells-plays _) λ q. elim q [ none ↦ ret _ | some m ↦ noted i _ ]) (ret _)
         ]
 
-    moreRows-plays : (f : ℕ) (h : Row) → Plays (moreRows text es true R f h)
-    unfolding moreRows
-    moreRows-plays zero h = ret _
-    moreRows-plays (suc f) h =
+    more_rows-plays : (f : ℕ) (h : Row) → Plays (more_rows text es true R f h)
+    unfolding more_rows
+    more_rows-plays zero h = ret _
+    more_rows-plays (suc f) h =
         bind at_here λ p.
         both_ways _
-        (bind (taking any) λ t. bind nextMatrixRow-plays λ q. elim q [
+        (bind (taking any) λ t. bind next_matrix_row-plays λ q. elim q [
           | none ↦ ret _
-          | some r ↦ both_ways _ (bind (moreRows-plays f h) λ l. elim l [ none ↦ ret _ | some m ↦ ret _ ]) (ret _)
+          | some r ↦ both_ways _ (bind (more_rows-plays f h) λ l. elim l [ none ↦ ret _ | some m ↦ ret _ ]) (ret _)
         ])
         (ret _)
 
-    nextMatrixRows-plays : Plays (nextMatrixRows text es true R)
-    unfolding nextMatrixRows
-    nextMatrixRows-plays =
-        bind nextMatrixRow-plays λ q. elim q [
+    next_matrix_rows-plays : Plays (next_matrix_rows text es true R)
+    unfolding next_matrix_rows
+    next_matrix_rows-plays =
+        bind next_matrix_row-plays λ q. elim q [
           | none ↦ ret _
-          | some h ↦ both_ways _ (bind (moreRows-plays _ h) λ l. elim l [ none ↦ ret _ | some m ↦ ret _ ]) (ret _)
+          | some h ↦ both_ways _ (bind (more_rows-plays _ h) λ l. elim l [ none ↦ ret _ | some m ↦ ret _ ]) (ret _)
         ]
 
-    matrixBody-plays : (o : Entry) (i : ℕ) → Plays (matrixBody text es true R o i)
-    unfolding matrixBody
-    matrixBody-plays o i =
-        bind nextMatrixRows-plays λ q. elim q [
+    matrix_body-plays : (o : Entry) (i : ℕ) → Plays (matrix_body text es true R o i)
+    unfolding matrix_body
+    matrix_body-plays o i =
+        bind next_matrix_rows-plays λ q. elim q [
           | none ↦ ret _
           | some r ↦ bind at_here λ p.
               both_ways _ (bind (taking any) λ t. elim t [ none ↦ ret _ | some c ↦ noted i _ ]) (ret _)
         ]
 
-    barBody-plays : (o : Entry) (i : ℕ) (stop : Stop) → Plays (barBody text es true R o i stop)
-    unfolding barBody
-    barBody-plays o i stop =
-        bind (nextIntermediate-plays stop true) λ a. elim a [
+    bar_body-plays : (o : Entry) (i : ℕ) (stop : Stop) → Plays (bar_body text es true R o i stop)
+    unfolding bar_body
+    bar_body-plays o i stop =
+        bind (next_intermediate-plays stop true) λ a. elim a [
           | none ↦ ret _
           | some x ↦ bind (intermediates-plays _ (some o) stop (some x)) λ l. bind at_here λ p.
               both_ways _ (bind (taking any) λ t. elim t [ none ↦ ret _ | some c ↦ noted i _ ]) (ret _)
         ]
 
-    nextOpenGroup-plays : (o : Entry) (i : ℕ) → Plays (nextOpenGroup text es true R o i)
-    unfolding nextOpenGroup
-    nextOpenGroup-plays o i =
+    next_open_group-plays : (o : Entry) (i : ℕ) → Plays (next_open_group text es true R o i)
+    unfolding next_open_group
+    next_open_group-plays o i =
         bind (intermediates-plays _ none Stop.none none) λ l.
         bind (taking (is token.CloseBracket)) λ t. elim t [ none ↦ ret _ | some c ↦ noted i _ ]
 
@@ -414,8 +414,8 @@ module _ (text : List ℕ) (es : List Entry) where
   unfolding closed
   never-made i x = record { never = λ s e. let z : ◌≡◌ {A = ℕ} 0 1 = cc in omega arith }
 
-  matrix-never : (R : Readers) (o : Entry) (i : ℕ) → Never (matrixBody text es true R o i)
-  unfolding matrixBody
+  matrix-never : (R : Readers) (o : Entry) (i : ℕ) → Never (matrix_body text es true R o i)
+  unfolding matrix_body
   matrix-never R o i =
       never-bind _ λ q. elim q [
         | none ↦ never-lost
@@ -423,84 +423,84 @@ module _ (text : List ℕ) (es : List Entry) where
       ]
 
   module _ (R : Readers) (good : Good R) (i : ℕ) (o : Entry) (within : i < length es) where
-    tryMatrix-plays : PlaysBy matrixMark i (tryMatrix text es true R o i)
-    unfolding tryMatrix if◌then◌else◌
-    tryMatrix-plays = go (couldBeMatrix text es o i)
+    try_matrix-plays : PlaysBy matrix_mark i (try_matrix text es true R o i)
+    unfolding try_matrix if◌then◌else◌
+    try_matrix-plays = go (could_be_matrix text es o i)
       where
-        go : (x : Bool) → PlaysBy matrixMark i (if x then attempt text es true matrixMark i (matrixBody text es true R o i) else return none)
-        go true = attempt-plays matrixMark i within _ (matrixBody-plays R good o i)
-        go false = by-once matrixMark i (ret _)
+        go : (x : Bool) → PlaysBy matrix_mark i (if x then attempt text es true matrix_mark i (matrix_body text es true R o i) else return none)
+        go true = attempt-plays matrix_mark i within _ (matrix_body-plays R good o i)
+        go false = by_once matrix_mark i (ret _)
 
-    back_at : (s : State) → s.pos ≡ suc i → (x : Bool) → ((if x then attempt text es true matrixMark i (matrixBody text es true R o i) else return none) s).0 ≡ none →
-        ((if x then attempt text es true matrixMark i (matrixBody text es true R o i) else return none) s).1.pos ≡ suc i
-    unfolding if◌then◌else◌ return attempt failed ◌>>=◌ giveUp current
+    back_at : (s : State) → s.pos ≡ suc i → (x : Bool) → ((if x then attempt text es true matrix_mark i (matrix_body text es true R o i) else return none) s).0 ≡ none →
+        ((if x then attempt text es true matrix_mark i (matrix_body text es true R o i) else return none) s).1.pos ≡ suc i
+    unfolding if◌then◌else◌ return attempt failed ◌>>=◌ give_up current
     back_at s a false e = a
-    back_at s a true e = go (get_or s.marks (slot matrixMark i) false) e
+    back_at s a true e = go (get_or s.marks (slot matrix_mark i) false) e
       where
-        end-at : (t : Try) → (matrixBody text es true R o i s).0 ≡ t → ((settle matrixMark i s t (matrixBody text es true R o i s).1).0 ≡ none) → (settle matrixMark i s t (matrixBody text es true R o i s).1).1.pos ≡ suc i
+        end-at : (t : Try) → (matrix_body text es true R o i s).0 ≡ t → ((settle matrix_mark i s t (matrix_body text es true R o i s).1).0 ≡ none) → (settle matrix_mark i s t (matrix_body text es true R o i s).1).1.pos ≡ suc i
         end-at (made x) f e = let z : ◌≡◌ {A = ℕ} 0 1 = cc in omega arith
         end-at lost f e = a
         end-at nought f e = absurd ((matrix-never R o i).never s f)
 
-        go : (x : Bool) → ((if x then return none else (matrixBody text es true R o i >>= settle matrixMark i s)) s).0 ≡ none → ((if x then return none else (matrixBody text es true R o i >>= settle matrixMark i s)) s).1.pos ≡ suc i
+        go : (x : Bool) → ((if x then return none else (matrix_body text es true R o i >>= settle matrix_mark i s)) s).0 ≡ none → ((if x then return none else (matrix_body text es true R o i >>= settle matrix_mark i s)) s).1.pos ≡ suc i
         go true e = a
-        go false e = end-at (matrixBody text es true R o i s).0 refl e
+        go false e = end-at (matrix_body text es true R o i s).0 refl e
 
-    tryMatrix-back : (s : State) → s.pos ≡ suc i → (tryMatrix text es true R o i s).0 ≡ none → (tryMatrix text es true R o i s).1.pos ≡ suc i
-    unfolding tryMatrix
-    tryMatrix-back s a e = back_at s a (couldBeMatrix text es o i) e
+    try_matrix-back : (s : State) → s.pos ≡ suc i → (try_matrix text es true R o i s).0 ≡ none → (try_matrix text es true R o i s).1.pos ≡ suc i
+    unfolding try_matrix
+    try_matrix-back s a e = back_at s a (could_be_matrix text es o i) e
 
     abbrev after : M Node → Option Node → M Node
     after rest m = elim m [ some x ↦ return x | none ↦ rest ]
 
     -- A matrix, or else what sets no mark of a matrix here.
-    then-plays : (k : Mark) → (slot matrixMark i ≡ slot k i → ⊥) → (rest : M Node) → PlaysBy k i rest → PlaysAt i (tryMatrix text es true R o i >>= after rest)
+    then-plays : (k : Mark) → (slot matrix_mark i ≡ slot k i → ⊥) → (rest : M Node) → PlaysBy k i rest → PlaysAt i (try_matrix text es true R o i >>= after rest)
     unfolding ◌>>=◌ return
-    then-plays k apart rest plays = record { run = λ s l a. go s l a (tryMatrix-plays.run s l a) (tryMatrix text es true R o i s).0 refl }
+    then-plays k apart rest plays = record { run = λ s l a. go s l a (try_matrix-plays.run s l a) (try_matrix text es true R o i s).0 refl }
       where
-        go : (s : State) → Long s → s.pos ≡ suc i → PlayedBy matrixMark i (tryMatrix text es true R o i) s (tryMatrix text es true R o i s) →
-            (x : Option Node) → (tryMatrix text es true R o i s).0 ≡ x →
-            PlayedAt i (tryMatrix text es true R o i >>= after rest) s (after rest x (tryMatrix text es true R o i s).1)
+        go : (s : State) → Long s → s.pos ≡ suc i → PlayedBy matrix_mark i (try_matrix text es true R o i) s (try_matrix text es true R o i s) →
+            (x : Option Node) → (try_matrix text es true R o i s).0 ≡ x →
+            PlayedAt i (try_matrix text es true R o i >>= after rest) s (after rest x (try_matrix text es true R o i s).1)
         go s l a p (some v) e = record {
           long = p.long;
           on = p.on;
-          kept = λ q x y. p.kept q (omega arith) (λ z. omega (arith, z, slot-high matrixMark i));
+          kept = λ q x y. p.kept q (omega arith) (λ z. omega (arith, z, slot-high matrix_mark i));
           again = λ t c same.
-              let u = p.again t c (same (slot matrixMark i) (slot-high matrixMark i) (omega (arith, slot-low matrixMark i, p.on))) (λ j x y. same j (omega arith) y) in
+              let u = p.again t c (same (slot matrix_mark i) (slot-high matrix_mark i) (omega (arith, slot-low matrix_mark i, p.on))) (λ j x y. same j (omega arith) y) in
               rw (u.value ∙ e) (record { value = refl; place = u.place; marks = u.marks });
         }
         go s l a p none e =
-            let b = tryMatrix-back s a e in
-            let r = plays.run (tryMatrix text es true R o i s).1 p.long b in
+            let b = try_matrix-back s a e in
+            let r = plays.run (try_matrix text es true R o i s).1 p.long b in
             record {
               long = r.long;
               on = r.on;
-              kept = λ q x y. r.kept q (omega arith) (λ z. omega (arith, z, slot-high k i)) ∙ p.kept q (omega arith) (λ z. omega (arith, z, slot-high matrixMark i));
+              kept = λ q x y. r.kept q (omega arith) (λ z. omega (arith, z, slot-high k i)) ∙ p.kept q (omega arith) (λ z. omega (arith, z, slot-high matrix_mark i));
               again = λ t c same.
-                  let u = p.again t c (same (slot matrixMark i) (slot-high matrixMark i) (omega (arith, slot-low matrixMark i, r.on)) ∙ r.kept (slot matrixMark i) (slot-low matrixMark i) apart) (λ j x y. absurd (omega (arith, b))) in
+                  let u = p.again t c (same (slot matrix_mark i) (slot-high matrix_mark i) (omega (arith, slot-low matrix_mark i, r.on)) ∙ r.kept (slot matrix_mark i) (slot-low matrix_mark i) apart) (λ j x y. absurd (omega (arith, b))) in
                   let w = ap (λ (z : List Bool). get_or z (slot k i) false) u.marks ∙ same (slot k i) (slot-high k i) (omega (arith, slot-low k i, r.on)) in
-                  let v = r.again (tryMatrix text es true R o i t).1 (u.place ∙ b) w (λ j x y. ap (λ (z : List Bool). get_or z j false) u.marks ∙ same j (omega arith) y) in
+                  let v = r.again (try_matrix text es true R o i t).1 (u.place ∙ b) w (λ j x y. ap (λ (z : List Bool). get_or z j false) u.marks ∙ same j (omega arith) y) in
                   rw (u.value ∙ e) (record { value = v.value; place = v.place; marks = v.marks ∙ u.marks });
             }
 
-    nextBracket-plays : PlaysAt i (nextBracket text es true R o i)
-    unfolding nextBracket
-    nextBracket-plays = then-plays (openMark Stop.none) (open-apart Stop.none i) _ (by-once (openMark Stop.none) i (nextOpenGroup-plays R good o i))
+    next_bracket-plays : PlaysAt i (next_bracket text es true R o i)
+    unfolding next_bracket
+    next_bracket-plays = then-plays (open_mark Stop.none) (open_apart Stop.none i) _ (by_once (open_mark Stop.none) i (next_open_group-plays R good o i))
 
-    bars-plays : (stop : Stop) → PlaysBy (openMark stop) i (attempt text es true (openMark stop) i (barBody text es true R o i stop) >>= λ g. return (orGlyph o g))
+    bars-plays : (stop : Stop) → PlaysBy (open_mark stop) i (attempt text es true (open_mark stop) i (bar_body text es true R o i stop) >>= λ g. return (or_glyph o g))
     unfolding ◌>>=◌ return
     bars-plays stop = record {
-      run = λ s l a. let p = (attempt-plays (openMark stop) i within _ (barBody-plays R good o i stop)).run s l a in record {
+      run = λ s l a. let p = (attempt-plays (open_mark stop) i within _ (bar_body-plays R good o i stop)).run s l a in record {
         long = p.long;
         on = p.on;
         kept = p.kept;
-        again = λ t c own same. let u = p.again t c own same in record { value = ap (orGlyph o) u.value; place = u.place; marks = u.marks };
+        again = λ t c own same. let u = p.again t c own same in record { value = ap (or_glyph o) u.value; place = u.place; marks = u.marks };
       };
     }
 
-    nextOpenCloseGroup-plays : (stop : Stop) → PlaysAt i (nextOpenCloseGroup text es true R o i stop)
-    unfolding nextOpenCloseGroup
-    nextOpenCloseGroup-plays stop = then-plays (openMark stop) (open-apart stop i) _ (bars-plays stop)
+    next_open_close_group-plays : (stop : Stop) → PlaysAt i (next_open_close_group text es true R o i stop)
+    unfolding next_open_close_group
+    next_open_close_group-plays stop = then-plays (open_mark stop) (open_apart stop i) _ (bars-plays stop)
 
   then_some : {i : ℕ} {m : M Node} → PlaysAt i m → PlaysAt i (m >>= λ a. return (some a))
   unfolding ◌>>=◌ return
@@ -526,8 +526,8 @@ module _ (text : List ℕ) (es : List Entry) where
     begun-plays token.Unary e w stop sg = at_once (bind (argument-plays R good) λ a. ret _)
     begun-plays token.Function e w stop sg = at_once (bind (argument-plays R good) λ a. ret _)
     begun-plays token.Binary e w stop sg = at_once (bind (argument-plays R good) λ a. bind (argument-plays R good) λ b. ret _)
-    begun-plays token.OpenBracket e w stop sg = then_some (nextBracket-plays R good i e w)
-    begun-plays token.OpenCloseBracket e w stop sg = then_some (nextOpenCloseGroup-plays R good i e w stop)
+    begun-plays token.OpenBracket e w stop sg = then_some (next_bracket-plays R good i e w)
+    begun-plays token.OpenCloseBracket e w stop sg = then_some (next_open_close_group-plays R good i e w stop)
     begun-plays token.Sep e w stop sg = at_once (ret _)
     begun-plays token.Frac e w stop sg = at_once (ret _)
     begun-plays token.Super e w stop sg = at_once (ret _)
@@ -539,14 +539,14 @@ module _ (text : List ℕ) (es : List Entry) where
     abbrev going : ℕ → Option Entry → M (Option Node)
     going i x = elim x [ none ↦ return none | some e ↦ begun text es true R e.token e i stop sg ]
 
-    nextSimple-plays : Plays (nextSimple text es true R stop sg)
-    unfolding nextSimple ◌>>=◌ here return
-    nextSimple-plays = record { run = λ s l. go s l (advance text es (begins stop) s).0 refl }
+    next_simple-plays : Plays (next_simple text es true R stop sg)
+    unfolding next_simple ◌>>=◌ here return
+    next_simple-plays = record { run = λ s l. go s l (advance text es (begins stop) s).0 refl }
       where
         q : Quiet (advance text es (begins stop))
         q = advance-quiet (begins stop)
 
-        go : (s : State) → Long s → (x : Option Entry) → (advance text es (begins stop) s).0 ≡ x → Played (nextSimple text es true R stop sg) s (going s.pos x (advance text es (begins stop) s).1)
+        go : (s : State) → Long s → (x : Option Entry) → (advance text es (begins stop) s).0 ≡ x → Played (next_simple text es true R stop sg) s (going s.pos x (advance text es (begins stop) s).1)
         go s l none e = record {
           long = ap length (q.silent s) ∙ l;
           on = q.onward s;
@@ -569,10 +569,10 @@ module _ (text : List ℕ) (es : List Entry) where
 
   level-good : (r : ℕ) → Good (level text es true r)
   unfolding level step
-  level-good zero = record { simple = λ stop sg. ret _; scriptFunc = λ stop sg. ret _ }
+  level-good zero = record { simple = λ stop sg. ret _; script_func = λ stop sg. ret _ }
   level-good (suc r) = record {
-    simple = λ stop sg. nextSimple-plays (level text es true r) (level-good r) stop sg;
-    scriptFunc = λ stop sg. nextScriptFunc-plays (level text es true r) (level-good r) stop sg;
+    simple = λ stop sg. next_simple-plays (level text es true r) (level-good r) stop sg;
+    script_func = λ stop sg. next_script_func-plays (level text es true r) (level-good r) stop sg;
   }
 
   parse-plays : (f wraps : ℕ) (acc : Nodes) → Plays (parse text es true f wraps acc)
@@ -590,15 +590,15 @@ module _ (text : List ℕ) (es : List Entry) where
   blank-long (suc n) = ap suc (blank-long n)
 
   -- The whole reading keeps three marks for each entry.
-  pub marks-long : length (parseEntries text es true).1.marks ≡ 3 * length es
-  unfolding parseEntries
+  pub marks-long : length (parse_entries text es true).1.marks ≡ 3 * length es
+  unfolding parse_entries
   marks-long = ((parse-plays (suc (length es)) 256 end).run (start text es true) (blank-long (3 * length es))).long
 
   -- The reading from the marks that the reading leaves, whatever its takes and closers: the same tree, and no mark is new.
-  pub replay : (t : State) → t.pos ≡ 0 → t.marks ≡ (parseEntries text es true).1.marks →
-      ((parse text es true (suc (length es)) 256 end t).0 ≡ (parseEntries text es true).0)
+  pub replay : (t : State) → t.pos ≡ 0 → t.marks ≡ (parse_entries text es true).1.marks →
+      ((parse text es true (suc (length es)) 256 end t).0 ≡ (parse_entries text es true).0)
       × ((parse text es true (suc (length es)) 256 end t).1.marks ≡ t.marks)
-  unfolding parseEntries
+  unfolding parse_entries
   replay t e m =
       let p = (parse-plays (suc (length es)) 256 end).run (start text es true) (blank-long (3 * length es)) in
       let u = p.again t e (λ j a b. ap (λ (x : List Bool). get_or x j false) m) in

@@ -9,12 +9,12 @@ use lib.ListN.{length, get_or, drop, set, length-set, length-append, length-drop
 use lib.Seq.{get_or-set_same, get_or-set_other, ext_get_or, get_or-append-add, get_or-drop}
 use lib.Dec.{ltb}
 use borrow.Author.Tests.{ltb-true, ltb-false, lt-ltb, le-ltb}
-use Rattle.records.specs.Record.{marksOf, closerOf, Whole, withCloser, Kept}
-use Rattle.stores.proofs.Stores.{kept_refl, kept_trans, closer-kept, closer-length, closer-same, closer-other, marks-of-closer}
-use Rattle.closers_notes.specs.Notes.{cleared, closerWords, withClosers}
+use Rattle.records.specs.Record.{marks_of, closer_of, Whole, with_closer, Kept}
+use Rattle.stores.proofs.Stores.{kept_refl, kept_trans, closer-kept, closer-length, closer-same, closer-other, marks-of_closer}
+use Rattle.closers_notes.specs.Notes.{cleared, closer_words, with_closers}
 
 -- one entry more, and none left
-pub cleared-next : (to i : ℕ) (K : List ℕ) → i < to → cleared (to - (i + 1)) (i + 1) (withCloser K i 0) ≡ cleared (to - i) i K
+pub cleared-next : (to i : ℕ) (K : List ℕ) → i < to → cleared (to - (i + 1)) (i + 1) (with_closer K i 0) ≡ cleared (to - i) i K
 unfolding cleared
 cleared-next to i K h =
     let z : to - i ≡ suc (to - (i + 1)) = omega arith in
@@ -28,87 +28,87 @@ cleared-end to i K h = let z : to - i ≡ zero = omega arith in rw z
 pub cleared-kept : (k i : ℕ) (K : List ℕ) → Kept K (cleared k i K)
 unfolding cleared
 cleared-kept zero i K = kept_refl K
-cleared-kept (suc k) i K = kept_trans (closer-kept K i 0) (cleared-kept k (suc i) (withCloser K i 0))
+cleared-kept (suc k) i K = kept_trans (closer-kept K i 0) (cleared-kept k (suc i) (with_closer K i 0))
 
-pub cleared-marks : (k i : ℕ) (K : List ℕ) (j : ℕ) → marksOf (cleared k i K) j ≡ marksOf K j
+pub cleared-marks : (k i : ℕ) (K : List ℕ) (j : ℕ) → marks_of (cleared k i K) j ≡ marks_of K j
 unfolding cleared
 cleared-marks zero i K j = refl
-cleared-marks (suc k) i K j = cleared-marks k (suc i) (withCloser K i 0) j ∙ marks-of-closer K i 0 j
+cleared-marks (suc k) i K j = cleared-marks k (suc i) (with_closer K i 0) j ∙ marks-of_closer K i 0 j
 
-pub cleared-below : (k i : ℕ) (K : List ℕ) (j : ℕ) → j < i → closerOf (cleared k i K) j ≡ closerOf K j
+pub cleared-below : (k i : ℕ) (K : List ℕ) (j : ℕ) → j < i → closer_of (cleared k i K) j ≡ closer_of K j
 unfolding cleared
 cleared-below zero i K j h = refl
-cleared-below (suc k) i K j h = cleared-below k (suc i) (withCloser K i 0) j (omega arith) ∙ closer-other K i 0 j (λ z. omega arith)
+cleared-below (suc k) i K j h = cleared-below k (suc i) (with_closer K i 0) j (omega arith) ∙ closer-other K i 0 j (λ z. omega arith)
 
-pub cleared-behind : (k i : ℕ) (K : List ℕ) (j : ℕ) → i + k ≤ j → closerOf (cleared k i K) j ≡ closerOf K j
+pub cleared-behind : (k i : ℕ) (K : List ℕ) (j : ℕ) → i + k ≤ j → closer_of (cleared k i K) j ≡ closer_of K j
 unfolding cleared
 cleared-behind zero i K j h = refl
-cleared-behind (suc k) i K j h = cleared-behind k (suc i) (withCloser K i 0) j (omega arith) ∙ closer-other K i 0 j (λ z. omega arith)
+cleared-behind (suc k) i K j h = cleared-behind k (suc i) (with_closer K i 0) j (omega arith) ∙ closer-other K i 0 j (λ z. omega arith)
 
-pub cleared-inside : (k i : ℕ) (K : List ℕ) (j : ℕ) → i ≤ j → j < i + k → Whole K j → closerOf (cleared k i K) j ≡ 0
+pub cleared-inside : (k i : ℕ) (K : List ℕ) (j : ℕ) → i ≤ j → j < i + k → Whole K j → closer_of (cleared k i K) j ≡ 0
 unfolding cleared
 cleared-inside zero i K j a b w = absurd (omega arith)
-cleared-inside (suc k) i K j a b w = go (ℕ_discrete j i) (λ l. cleared-inside k (suc i) (withCloser K i 0) j l (omega arith) (omega (arith, closer-length K i 0)))
+cleared-inside (suc k) i K j a b w = go (ℕ_discrete j i) (λ l. cleared-inside k (suc i) (with_closer K i 0) j l (omega arith) (omega (arith, closer-length K i 0)))
   where
-    go : Dec (j ≡ i) → (i < j → closerOf (cleared k (suc i) (withCloser K i 0)) j ≡ 0) → closerOf (cleared k (suc i) (withCloser K i 0)) j ≡ 0
-    go (yes e) later = rw e (cleared-below k (suc i) (withCloser K i 0) i (omega arith) ∙ closer-same K i 0 (omega arith) (omega arith))
+    go : Dec (j ≡ i) → (i < j → closer_of (cleared k (suc i) (with_closer K i 0)) j ≡ 0) → closer_of (cleared k (suc i) (with_closer K i 0)) j ≡ 0
+    go (yes e) later = rw e (cleared-below k (suc i) (with_closer K i 0) i (omega arith) ∙ closer-same K i 0 (omega arith) (omega arith))
     go (no d) later = later (omega (arith, d))
 
 -- the closers of the first i of n entries are written into the words x, which are y now
 pub record Put (K : List ℕ) (n i : ℕ) (x y : List ℕ) : Type 0 where
   pub long : length y ≡ length x
-  pub first : (j : ℕ) → j < i → get_or y j 0 ≡ n - closerOf K j
+  pub first : (j : ℕ) → j < i → get_or y j 0 ≡ n - closer_of K j
   pub rest : (j : ℕ) → i ≤ j → get_or y j 0 ≡ get_or x j 0
 
 pub put-none : (K : List ℕ) (n : ℕ) (x : List ℕ) → Put K n 0 x x
 put-none K n x = record { long = refl; first = λ j h. absurd (omega arith); rest = λ j h. refl }
 
-pub put-more : {K : List ℕ} {n i : ℕ} {x y : List ℕ} → Put K n i x y → i < length x → Put K n (i + 1) x (set y i (n - closerOf K i))
+pub put-more : {K : List ℕ} {n i : ℕ} {x y : List ℕ} → Put K n i x y → i < length x → Put K n (i + 1) x (set y i (n - closer_of K i))
 put-more {K} {n} {i} {x} {y} p l = record {
-  long = length-set y i (n - closerOf K i) ∙ p.long;
+  long = length-set y i (n - closer_of K i) ∙ p.long;
   first = λ j h. go j h (ℕ_discrete j i);
-  rest = λ j h. get_or-set_other y i j (n - closerOf K i) 0 (λ z. omega arith) ∙ p.rest j (omega arith);
+  rest = λ j h. get_or-set_other y i j (n - closer_of K i) 0 (λ z. omega arith) ∙ p.rest j (omega arith);
 }
   where
-    go : (j : ℕ) → j < i + 1 → Dec (j ≡ i) → get_or (set y i (n - closerOf K i)) j 0 ≡ n - closerOf K j
-    go j h (yes e) = rw e (get_or-set_same y i (n - closerOf K i) 0 (omega (arith, p.long)))
-    go j h (no d) = get_or-set_other y i j (n - closerOf K i) 0 d ∙ p.first j (omega (arith, d))
+    go : (j : ℕ) → j < i + 1 → Dec (j ≡ i) → get_or (set y i (n - closer_of K i)) j 0 ≡ n - closer_of K j
+    go j h (yes e) = rw e (get_or-set_same y i (n - closer_of K i) 0 (omega (arith, p.long)))
+    go j h (no d) = get_or-set_other y i j (n - closer_of K i) 0 d ∙ p.first j (omega (arith, d))
 
 -- the words one by one
-pub length-words : (K : List ℕ) (n i k : ℕ) → length (closerWords K n i k) ≡ k
-unfolding closerWords
+pub length-words : (K : List ℕ) (n i k : ℕ) → length (closer_words K n i k) ≡ k
+unfolding closer_words
 length-words K n i zero = refl
 length-words K n i (suc k) = ap suc (length-words K n (suc i) k)
 
-pub word-is : (K : List ℕ) (n i k j : ℕ) → j < k → get_or (closerWords K n i k) j 0 ≡ n - closerOf K (i + j)
-unfolding closerWords
+pub word-is : (K : List ℕ) (n i k j : ℕ) → j < k → get_or (closer_words K n i k) j 0 ≡ n - closer_of K (i + j)
+unfolding closer_words
 word-is K n i zero j h = absurd (omega arith)
 word-is K n i (suc k) zero h = let z : i + 0 ≡ i = omega arith in rw z
 word-is K n i (suc k) (suc j) h = let z : i + suc j ≡ suc i + j = omega arith in rw z (word-is K n (suc i) k j (omega arith))
 
-pub put_all : {K : List ℕ} {n : ℕ} {x y : List ℕ} → Put K n n x y → n ≤ length x → y ≡ closerWords K n 0 n ++ drop n x
-put_all {K} {n} {x} {y} p h = ext_get_or 0 y (closerWords K n 0 n ++ drop n x) total (λ j l. go j l (ltb j n) refl)
+pub put_all : {K : List ℕ} {n : ℕ} {x y : List ℕ} → Put K n n x y → n ≤ length x → y ≡ closer_words K n 0 n ++ drop n x
+put_all {K} {n} {x} {y} p h = ext_get_or 0 y (closer_words K n 0 n ++ drop n x) total (λ j l. go j l (ltb j n) refl)
   where
-    total : length y ≡ length (closerWords K n 0 n ++ drop n x)
-    total = omega (arith, p.long, length-append (closerWords K n 0 n) (drop n x), length-words K n 0 n, length-drop n x)
+    total : length y ≡ length (closer_words K n 0 n ++ drop n x)
+    total = omega (arith, p.long, length-append (closer_words K n 0 n) (drop n x), length-words K n 0 n, length-drop n x)
 
-    go : (j : ℕ) → j < length y → (r : Bool) → ltb j n ≡ r → get_or y j 0 ≡ get_or (closerWords K n 0 n ++ drop n x) j 0
+    go : (j : ℕ) → j < length y → (r : Bool) → ltb j n ≡ r → get_or y j 0 ≡ get_or (closer_words K n 0 n ++ drop n x) j 0
     go j l true e =
         let b : j < n = ltb-true j n e in
         let none : 0 + j ≡ j = omega arith in
-        p.first j b ∙ sym (get_or-append (closerWords K n 0 n) (drop n x) 0 j (omega (arith, length-words K n 0 n)) ∙ rw none at (word-is K n 0 n j b))
+        p.first j b ∙ sym (get_or-append (closer_words K n 0 n) (drop n x) 0 j (omega (arith, length-words K n 0 n)) ∙ rw none at (word-is K n 0 n j b))
     go j l false e =
         let b : n ≤ j = ltb-false j n e in
-        let z : length (closerWords K n 0 n) + (j - n) ≡ j = omega (arith, length-words K n 0 n) in
+        let z : length (closer_words K n 0 n) + (j - n) ≡ j = omega (arith, length-words K n 0 n) in
         let w : n + (j - n) ≡ j = omega arith in
         p.rest j b
-        ∙ sym (rw z at (get_or-append-add (closerWords K n 0 n) (drop n x) (j - n) 0) ∙ rw w at (get_or-drop n x (j - n) 0))
+        ∙ sym (rw z at (get_or-append-add (closer_words K n 0 n) (drop n x) (j - n) 0) ∙ rw w at (get_or-drop n x (j - n) 0))
 
 -- with room or without
-pub room-short : (K : List ℕ) (n : ℕ) (x : List ℕ) → length x < n → x ≡ withClosers K n x
-unfolding withClosers
+pub room-short : (K : List ℕ) (n : ℕ) (x : List ℕ) → length x < n → x ≡ with_closers K n x
+unfolding with_closers
 room-short K n x h = rw (lt-ltb (length x) n h)
 
-pub room-enough : (K : List ℕ) (n : ℕ) (x : List ℕ) → n ≤ length x → closerWords K n 0 n ++ drop n x ≡ withClosers K n x
-unfolding withClosers
+pub room-enough : (K : List ℕ) (n : ℕ) (x : List ℕ) → n ≤ length x → closer_words K n 0 n ++ drop n x ≡ with_closers K n x
+unfolding with_closers
 room-enough K n x h = rw (le-ltb (length x) n h)

@@ -1,7 +1,7 @@
 // The closers as the bracket pass notes them in the records: taken back where an attempt is given back, and written out.
 ghost use Rattle.std.specs.Prelude.{◌≡◌, ◌-◌};
-ghost use Rattle.records.specs.Record.{closerOf, withCloser};
-ghost use Rattle.closers_notes.specs.Notes.{cleared, gaveUp, withClosers};
+ghost use Rattle.records.specs.Record.{closer_of, with_closer};
+ghost use Rattle.closers_notes.specs.Notes.{cleared, gave_up, with_closers};
 
 use fields::closer_of;
 use marks::mark_failed;
@@ -13,7 +13,7 @@ const NONE: u32 = 0;
 
 // Of n entries, the one at k is the closer of the one at i.
 pub fn note_closer(work: &mut [u32], i: usize, n: usize, k: usize)
-    ensures { work.new ≡ withCloser work.old i (n - k) }
+    ensures { work.new ≡ with_closer work.old i (n - k) }
 {
     if k < n {
         // cut to the bits of a closer; up to 4,096 entries nothing is lost
@@ -36,7 +36,7 @@ fn clear_closers(work: &mut [u32], from: usize, to: usize)
 
 // The attempt of that mark at the entry i has failed and is given back: what it closed from `from` up to `to` is not closed.
 pub fn give_up(work: &mut [u32], i: usize, mark: u32, from: usize, to: usize)
-    ensures { work.new ≡ gaveUp i mark from to work.old }
+    ensures { work.new ≡ gave_up i mark from to work.old }
 {
     mark_failed(work, i, mark);
     clear_closers(work, from, to);
@@ -44,7 +44,7 @@ pub fn give_up(work: &mut [u32], i: usize, mark: u32, from: usize, to: usize)
 
 // The place of the closer of the entry i of n, or n.
 fn closer_at(work: &[u32], i: usize, n: u32) -> u32
-    ensures { result ≡ n - closerOf work.now i }
+    ensures { result ≡ n - closer_of work.now i }
 {
     let before = closer_of(work, i);
     if before < n { n - before } else { 0 }
@@ -52,7 +52,7 @@ fn closer_at(work: &[u32], i: usize, n: u32) -> u32
 
 // The closers of n entries, if `out` has words for them.
 pub fn put_closers(work: &[u32], n: u32, out: &mut [u32])
-    ensures { out.new ≡ withClosers work.now n out.old }
+    ensures { out.new ≡ with_closers work.now n out.old }
 {
     let many = n as usize;
     if out.len() < many {

@@ -7,21 +7,21 @@ use mathlib.Core.Option.{none}
 use native.Mathlib.Omega.{arith}
 use lib.ListN.{length, drop, replicate, length-append}
 use Rattle.tokens.specs.Lexeme.{Lexeme}
-use Rattle.tokens.specs.Table.{tokenList, countOthers}
-use Rattle.tokens.specs.Refusals.{listRefusal}
+use Rattle.tokens.specs.Table.{token_list, count_others}
+use Rattle.tokens.specs.Refusals.{list_refusal}
 use Rattle.tokens.proofs.Accepted.{accepted}
-use Rattle.tokens.proofs.Cases.{by-test, apart}
+use Rattle.tokens.proofs.Cases.{by_test, apart}
 use Rattle.tokens.proofs.TokenList.{others-few}
 use Rattle.tree.specs.Tree.{nowhere}
 use Rattle.reading.specs.Entries.{entries}
 use Rattle.bounds.proofs.Theorems.{entries-count}
 use Rattle.closers_laws.proofs.Replay.{marks-long}
-use Rattle.records.specs.Record.{recordWords, Kept}
+use Rattle.records.specs.Record.{record_words, Kept}
 use Rattle.entries.specs.declared.Prepared.{Prepared}
-use Rattle.entries.specs.Prepared.{workWords}
+use Rattle.entries.specs.Prepared.{work_words}
 use Rattle.entries.proofs.Accepted.{prepared-is}
 use Rattle.entries.proofs.Answers.{made}
-use Rattle.brackets.specs.Brackets.{hasAttempts}
+use Rattle.brackets.specs.Brackets.{has_attempts}
 use Rattle.reading_words.specs.Meet.{Given, Marks}
 use Rattle.reading_words.proofs.Kit.{given-kept}
 use Rattle.reading_words.proofs.Records as records
@@ -29,24 +29,24 @@ use Rattle.reading_words.proofs.Records.{input_of}
 use Rattle.closers_pass.specs.declared.top.Pass.{Pass}
 use Rattle.closers_pass.specs.declared.top.Pass.TheVariants.{Read, Plain, Refused}
 use Rattle.closers_pass.specs.Meet.{Noted}
-use Rattle.closers_pass.specs.Call.{noted, readTo, passOver, pairedList}
+use Rattle.closers_pass.specs.Call.{noted, read_to, pass_over, paired_list}
 use Rattle.closers_pass.proofs.Records.{blank-records}
 use Rattle.closers_pass.proofs.Noting.{noted-kept, noted-marks, noted-closer}
 
-module _ (text table : List ℕ) (count : ℕ) (ok : listRefusal text count table ≡ none) where
+module _ (text table : List ℕ) (count : ℕ) (ok : list_refusal text count table ≡ none) where
   abbrev ts : List Lexeme
-  ts = tokenList count table
+  ts = token_list count table
 
   abbrev n : ℕ
-  n = countOthers ts
+  n = count_others ts
 
   pub few : n ≤ 4096
   few = let a = accepted text count table ok in omega (arith, a.few, others-few count table)
 
-  module _ (work : List ℕ) (room : recordWords (n + 1) ≤ length work) where
+  module _ (work : List ℕ) (room : record_words (n + 1) ≤ length work) where
     -- the records as `prepare` makes them
     abbrev pub made-words : List ℕ
-    made-words = workWords ts ++ drop (recordWords n) work
+    made-words = work_words ts ++ drop (record_words n) work
 
     pub made-given : Given text table n made-words (input_of text ts)
     made-given = let a = accepted text count table ok in records.given text table count a.few a.words made-words _ refl
@@ -54,37 +54,37 @@ module _ (text table : List ℕ) (count : ℕ) (ok : listRefusal text count tabl
     pub made-blank : Marks n made-words (replicate (3 * n) false)
     made-blank = let a = accepted text count table ok in (blank-records text table count a.few a.words made-words _ refl).marks
 
-    pub fit : recordWords n ≤ length made-words
+    pub fit : record_words n ≤ length made-words
     fit = let m = made table count work n made-words (sym (prepared-is text table count work ok room)) in
-        omega (arith, m.size, length-append (workWords ts) (drop (recordWords n) work))
+        omega (arith, m.size, length-append (work_words ts) (drop (record_words n) work))
 
     -- the same with what the whole reading leaves in them
     abbrev pub read-words : List ℕ
-    read-words = noted n n (readTo text ts).marks (readTo text ts).closers made-words
+    read-words = noted n n (read_to text ts).marks (read_to text ts).closers made-words
 
     pub read_kept : Kept made-words read-words
-    read_kept = noted-kept n (readTo text ts).marks (readTo text ts).closers made-words n
+    read_kept = noted-kept n (read_to text ts).marks (read_to text ts).closers made-words n
 
     pub read-given : Given text table n read-words (input_of text ts)
     read-given = given-kept read_kept made-given
 
-    pub read-marks : Marks n read-words (readTo text ts).marks
+    pub read-marks : Marks n read-words (read_to text ts).marks
     read-marks = record {
       held = marks-long text (entries nowhere ts) ∙ ap (λ (k : ℕ). 3 * k) (entries-count nowhere ts);
-      words = λ i h. noted-marks n (readTo text ts).marks (readTo text ts).closers made-words n i h fit;
+      words = λ i h. noted-marks n (read_to text ts).marks (read_to text ts).closers made-words n i h fit;
     }
 
-    pub read-closers : Noted n read-words (readTo text ts).closers
-    read-closers = record { words = λ i h. noted-closer n (readTo text ts).marks (readTo text ts).closers made-words n i h fit (omega (arith, few)) }
+    pub read-closers : Noted n read-words (read_to text ts).closers
+    read-closers = record { words = λ i h. noted-closer n (read_to text ts).marks (read_to text ts).closers made-words n i h fit (omega (arith, few)) }
 
-    module _ (always : Bool) (r : Pass) (L : List ℕ) (c : (r, L) ≡ pairedList text table count always work) where
-      answered : ◌≡◌ {A = Pass × List ℕ} (r, L) (cond (always || hasAttempts text table made-words n) (Read n (readTo text ts).takes, read-words) (Plain n, made-words))
-      unfolding pairedList passOver
-      answered = c ∙ ap (λ (x : Prepared × List ℕ). passOver text table ts always x.0 x.1) (prepared-is text table count work ok room)
+    module _ (always : Bool) (r : Pass) (L : List ℕ) (c : (r, L) ≡ paired_list text table count always work) where
+      answered : ◌≡◌ {A = Pass × List ℕ} (r, L) (cond (always || has_attempts text table made-words n) (Read n (read_to text ts).takes, read-words) (Plain n, made-words))
+      unfolding paired_list pass_over
+      answered = c ∙ ap (λ (x : Prepared × List ℕ). pass_over text table ts always x.0 x.1) (prepared-is text table count work ok room)
 
-      by-case : {A : Type 0} → (r ≡ Read n (readTo text ts).takes → L ≡ read-words → A) → (always ≡ false → r ≡ Plain n → L ≡ made-words → A) → A
-      by-case f g =
-          by-test (always || hasAttempts text table made-words n)
+      by_case : {A : Type 0} → (r ≡ Read n (read_to text ts).takes → L ≡ read-words → A) → (always ≡ false → r ≡ Plain n → L ≡ made-words → A) → A
+      by_case f g =
+          by_test (always || has_attempts text table made-words n)
           (λ e. let p = rw e at answered in f (ap (λ (x : Pass × List ℕ). x.0) p) (ap (λ (x : Pass × List ℕ). x.1) p))
           (λ e. let p = rw e at answered in g (asked always _ e) (ap (λ (x : Pass × List ℕ). x.0) p) (ap (λ (x : Pass × List ℕ). x.1) p))
         where
@@ -92,14 +92,14 @@ module _ (text table : List ℕ) (count : ℕ) (ok : listRefusal text count tabl
           asked true a e = e
           asked false a e = refl
 
-      pub not-refused : {A : Type 0} (k : ℕ) → r ≡ Refused k → A
-      not-refused k q = by-case (λ a b. apart cc) (λ z a b. apart cc)
+      pub not_refused : {A : Type 0} (k : ℕ) → r ≡ Refused k → A
+      not_refused k q = by_case (λ a b. apart cc) (λ z a b. apart cc)
 
       pub not_plain : {A : Type 0} (m : ℕ) → always ≡ true → r ≡ Plain m → A
-      not_plain m y q = by-case (λ a b. apart cc) (λ z a b. apart cc)
+      not_plain m y q = by_case (λ a b. apart cc) (λ z a b. apart cc)
 
       pub plain-is : (m : ℕ) → r ≡ Plain m → (m ≡ n) × (L ≡ made-words)
-      plain-is m q = by-case (λ a b. apart cc) (λ z a b. (cc, b))
+      plain-is m q = by_case (λ a b. apart cc) (λ z a b. (cc, b))
 
-      pub read_is : (m takes : ℕ) → r ≡ Read m takes → (m ≡ n) × (takes ≡ (readTo text ts).takes) × (L ≡ read-words)
-      read_is m takes q = by-case (λ a b. (cc, cc, b)) (λ z a b. apart cc)
+      pub read_is : (m takes : ℕ) → r ≡ Read m takes → (m ≡ n) × (takes ≡ (read_to text ts).takes) × (L ≡ read-words)
+      read_is m takes q = by_case (λ a b. (cc, cc, b)) (λ z a b. apart cc)

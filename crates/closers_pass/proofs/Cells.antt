@@ -12,21 +12,21 @@ use Rattle.tokens.specs.declared.token.Token.TheVariants as token
 use Rattle.tree.specs.Tree.{Head, Node, node, Nodes, end, ◌▸◌, ◌⧺◌, count}
 use Rattle.reading.specs.Stop.{Stop}
 use Rattle.reading.specs.Entries.{Entry}
-use Rattle.reading.specs.Reading.{State, intermediates, rowCells, nextMatrixRow, prefixes, isColumnLine, keptCols, lineCells}
-use Rattle.lookahead.specs.Tests.{testAt, isKind}
+use Rattle.reading.specs.Reading.{State, intermediates, row_cells, next_matrix_row, prefixes, is_column_line, kept_cols, line_cells}
+use Rattle.lookahead.specs.Tests.{test_at, is_kind}
 use Rattle.lookahead.proofs.Testing.{test_below}
 use Rattle.closers_pass.specs.declared.cursor.Cursor.{Cursor}
 use Rattle.closers_pass.specs.declared.cursor.Items.{Items}
 use Rattle.closers_pass.specs.declared.cursor.Cells.{Cells}
-use Rattle.records.specs.Record.{recordWords, withCloser}
-use Rattle.reading_words.specs.Meet.{Input, readers, cellsAt, row_at}
+use Rattle.records.specs.Record.{record_words, with_closer}
+use Rattle.reading_words.specs.Meet.{Input, readers, cells_at, row_at}
 use Rattle.closers_pass.specs.Meet.{At, Moves, Each, Intermediates, onward, passing}
 use Rattle.closers_pass.specs.Matrix.{Counts, Fails, RowCells, MatrixRow}
 use Rattle.stores.proofs.Stores.{kept_refl, kept_trans, closer-kept}
-use Rattle.reading_words.proofs.Kit.{shut, ret-closed, bind, ret, at_here, if-false, tick, kind-is}
-use Rattle.closers_pass.proofs.Kit.{at_tick, at-shut}
+use Rattle.reading_words.proofs.Kit.{shut, ret-closed, bind, ret, at_here, if_false, tick, kind-is}
+use Rattle.closers_pass.proofs.Kit.{at_tick, at_shut}
 use Rattle.closers_pass.proofs.Loop.{whole-items}
-use Rattle.reading_words.proofs.Steps.{row-taken, turn_end, turn-other, turn-sep, turn-shut, with-one, withCells, took-any, end-any}
+use Rattle.reading_words.proofs.Steps.{row-taken, turn_end, turn-other, turn-sep, turn-shut, with_one, with_cells, took-any, end-any}
 
 -- one token passed, if there is one
 pub passing-in : (n : ℕ) (c : Cursor) → c.pos < n → passing n c ≡ onward c
@@ -59,17 +59,17 @@ passing-on n c = go (ltb c.pos n) refl
     go false e = omega (arith, ap (λ (q : Cursor). q.pos) (passing-out n c (ltb-false c.pos n e)))
 
 -- how many cells are no lines, with one cell more
-kept-snoc : (text : List ℕ) (es : List Entry) (acc : Nodes) (x : Node) → keptCols (lineCells text es (acc ⧺ (x ▸ end))) ≡ cond (isColumnLine text es x) (keptCols (lineCells text es acc)) (keptCols (lineCells text es acc) + 1)
-unfolding lineCells keptCols
-kept-snoc text es end x = go (isColumnLine text es x)
+kept-snoc : (text : List ℕ) (es : List Entry) (acc : Nodes) (x : Node) → kept_cols (line_cells text es (acc ⧺ (x ▸ end))) ≡ cond (is_column_line text es x) (kept_cols (line_cells text es acc)) (kept_cols (line_cells text es acc) + 1)
+unfolding line_cells kept_cols
+kept-snoc text es end x = go (is_column_line text es x)
   where
-    go : (b : Bool) → keptCols (b ∷ []) ≡ cond b 0 1
+    go : (b : Bool) → kept_cols (b ∷ []) ≡ cond b 0 1
     go true = refl
     go false = refl
-kept-snoc text es (y ▸ acc) x = go (isColumnLine text es y) (isColumnLine text es x) (kept-snoc text es acc x)
+kept-snoc text es (y ▸ acc) x = go (is_column_line text es y) (is_column_line text es x) (kept-snoc text es acc x)
   where
-    go : (a b : Bool) → keptCols (lineCells text es (acc ⧺ (x ▸ end))) ≡ cond b (keptCols (lineCells text es acc)) (keptCols (lineCells text es acc) + 1)
-        → keptCols (a ∷ lineCells text es (acc ⧺ (x ▸ end))) ≡ cond b (keptCols (a ∷ lineCells text es acc)) (keptCols (a ∷ lineCells text es acc) + 1)
+    go : (a b : Bool) → kept_cols (line_cells text es (acc ⧺ (x ▸ end))) ≡ cond b (kept_cols (line_cells text es acc)) (kept_cols (line_cells text es acc) + 1)
+        → kept_cols (a ∷ line_cells text es (acc ⧺ (x ▸ end))) ≡ cond b (kept_cols (a ∷ line_cells text es acc)) (kept_cols (a ∷ line_cells text es acc) + 1)
     go true true h = h
     go true false h = h
     go false true h = ap suc h
@@ -79,7 +79,7 @@ count-snoc : (acc : Nodes) (x : Node) → count (acc ⧺ (x ▸ end)) ≡ count 
 count-snoc end x = refl
 count-snoc (y ▸ acc) x = let h = count-snoc acc x in omega (arith, h)
 
-counts-more : {I : Input} {k j : ℕ} {acc : Nodes} {b : Bool} (x : Node) → Counts I k j acc → b ≡ isColumnLine I.text I.es x → Counts I (k + 1) (cond b j (j + 1)) (acc ⧺ (x ▸ end))
+counts-more : {I : Input} {k j : ℕ} {acc : Nodes} {b : Bool} (x : Node) → Counts I k j acc → b ≡ is_column_line I.text I.es x → Counts I (k + 1) (cond b j (j + 1)) (acc ⧺ (x ▸ end))
 counts-more {I} {k} {j} {acc} {b} x c h = record {
   number = ap (λ (m : ℕ). m + 1) c.number ∙ sym (count-snoc acc x);
   kept' = rw (h, c.kept') (sym (kept-snoc I.text I.es acc x));
@@ -90,7 +90,7 @@ pub record Along (X t : List ℕ) (n : ℕ) (L : List ℕ) (d : ℕ) (I : Input)
   pub left : ℕ
   pub acc : Nodes
   pub state : State
-  pub whole : cellsAt d I s ≡ withCells acc (rowCells I.text I.es true (readers d I) (suc left) state)
+  pub whole : cells_at d I s ≡ with_cells acc (row_cells I.text I.es true (readers d I) (suc left) state)
   pub enough : n - cur.pos ≤ left
   pub at : At X t n L cur.pos cur.takes I state
   pub counts : Counts I num kept acc
@@ -100,20 +100,20 @@ pub record Inv (X t : List ℕ) (n : ℕ) (K L : List ℕ) (c cur : Cursor) (num
   pub few : kept ≤ num
   pub along : Each X t n K c (λ I s. Along X t n L c.depth I s cur num kept)
 
-cond-few : (b : Bool) (j k : ℕ) → j ≤ k → cond b j (j + 1) ≤ k + 1
-cond-few true j k h = omega arith
-cond-few false j k h = omega arith
+cond_few : (b : Bool) (j k : ℕ) → j ≤ k → cond b j (j + 1) ≤ k + 1
+cond_few true j k h = omega arith
+cond_few false j k h = omega arith
 
 module _ {X t : List ℕ} {n : ℕ} {K : List ℕ} (c : Cursor) where
   pub cells-none : c.pos ≤ n → Inv X t n K K c c 0 0
-  unfolding lineCells keptCols
+  unfolding line_cells kept_cols
   cells-none k = record {
     moves = record { within = k; on = omega arith; depth = refl; kept = kept_refl K };
     few = omega arith;
-    along = λ I s at. record { left = length I.es; acc = end; state = s; whole = none_first (cellsAt c.depth I s); enough = omega (arith, at.given.size); at = at; counts = record { number = refl; kept' = refl } };
+    along = λ I s at. record { left = length I.es; acc = end; state = s; whole = none_first (cells_at c.depth I s); enough = omega (arith, at.given.size); at = at; counts = record { number = refl; kept' = refl } };
   }
     where
-      none_first : (r : Option (Nodes × Entry) × State) → r ≡ withCells end r
+      none_first : (r : Option (Nodes × Entry) × State) → r ≡ with_cells end r
       none_first (none, u) = refl
       none_first (some m, u) = refl
 
@@ -131,36 +131,36 @@ module _ {X t : List ℕ} {n : ℕ} {K : List ℕ} (c : Cursor) where
         let q = rw i.moves.depth at (whole-items p (omega arith) I a.state a.at none refl refl) in
         record { l = q.answer; u = q.state; run = q.runs; at = q.at; counts = counts-more (node Head.cell q.answer) a.counts (q.besides.line refl) }
 
-    pub cells-more : testAt t J n (isKind 3) g.cur.pos ≡ true → Inv X t n K J c (passing n g.cur) (num + 1) (cond g.line kept (kept + 1))
+    pub cells-more : test_at t J n (is_kind 3) g.cur.pos ≡ true → Inv X t n K J c (passing n g.cur) (num + 1) (cond g.line kept (kept + 1))
     cells-more h =
-        let b : g.cur.pos < n = test_below t J n (isKind 3) g.cur.pos h in
+        let b : g.cur.pos < n = test_below t J n (is_kind 3) g.cur.pos h in
         rw (passing-in n g.cur b) (record {
           moves = record { within = omega arith; on = omega (arith, i.moves.on, p.moves.on); depth = p.moves.depth ∙ i.moves.depth; kept = kept_trans i.moves.kept p.moves.kept };
-          few = cond-few g.line kept num i.few;
+          few = cond_few g.line kept num i.few;
           along = λ I s at.
               let a = i.along I s at in
               let q = turn I s a in
               let v = took-any q.at.given q.at.pos b in
               let l1 : a.left ≡ suc (a.left - 1) = omega (arith, a.enough, p.moves.on) in
               let R = readers c.depth I in
-              let rest = rowCells I.text I.es true R a.left (tick q.u) in
+              let rest = row_cells I.text I.es true R a.left (tick q.u) in
               record {
                 left = a.left - 1;
                 acc = a.acc ⧺ (node Head.cell q.l ▸ end);
                 state = tick q.u;
-                whole = a.whole ∙ ap (withCells a.acc) (turn-sep I R a.left q.l a.state q.u q.run v.1 (kind-is token.Sep true v.0.row b h))
-                    ∙ with-one a.acc q.l rest.0 rest.1
-                    ∙ ap (λ (m : ℕ). withCells (a.acc ⧺ (node Head.cell q.l ▸ end)) (rowCells I.text I.es true R m (tick q.u))) l1;
+                whole = a.whole ∙ ap (with_cells a.acc) (turn-sep I R a.left q.l a.state q.u q.run v.1 (kind-is token.Sep true v.0.row b h))
+                    ∙ with_one a.acc q.l rest.0 rest.1
+                    ∙ ap (λ (m : ℕ). with_cells (a.acc ⧺ (node Head.cell q.l ▸ end)) (row_cells I.text I.es true R m (tick q.u))) l1;
                 enough = omega (arith, l1, a.enough, p.moves.on);
                 at = at_tick q.at;
                 counts = q.counts;
               };
         })
 
-    module _ (h : testAt t J n (isKind 3) g.cur.pos ≡ false) where
-      shut-cells : testAt t J n (isKind 21) g.cur.pos ≡ true → RowCells X t n K J c (record { cur = passing n g.cur; count = num + 1; kept = cond g.line kept (kept + 1); shut = true; right = g.cur.pos })
+    module _ (h : test_at t J n (is_kind 3) g.cur.pos ≡ false) where
+      shut-cells : test_at t J n (is_kind 21) g.cur.pos ≡ true → RowCells X t n K J c (record { cur = passing n g.cur; count = num + 1; kept = cond g.line kept (kept + 1); shut = true; right = g.cur.pos })
       shut-cells k =
-          let b : g.cur.pos < n = test_below t J n (isKind 21) g.cur.pos k in
+          let b : g.cur.pos < n = test_below t J n (is_kind 21) g.cur.pos k in
           rw (passing-in n g.cur b) (
             record { within = omega arith; on = omega (arith, i.moves.on, p.moves.on); depth = p.moves.depth ∙ i.moves.depth; kept = kept_trans i.moves.kept p.moves.kept },
             (
@@ -173,7 +173,7 @@ module _ {X t : List ℕ} {n : ℕ} {K : List ℕ} (c : Cursor) where
                     cells = a.acc ⧺ (node Head.cell q.l ▸ end);
                     right = v.0.entry;
                     state = tick q.u;
-                    runs = a.whole ∙ ap (withCells a.acc) (turn-shut I (readers c.depth I) a.left q.l a.state q.u q.run v.1 (kind-is token.Sep false v.0.row b h) (kind-is token.CloseBracket true v.0.row b k));
+                    runs = a.whole ∙ ap (with_cells a.acc) (turn-shut I (readers c.depth I) a.left q.l a.state q.u q.run v.1 (kind-is token.Sep false v.0.row b h) (kind-is token.CloseBracket true v.0.row b k));
                     at = at_tick q.at;
                     there = v.0.there;
                     counts = q.counts;
@@ -181,7 +181,7 @@ module _ {X t : List ℕ} {n : ℕ} {K : List ℕ} (c : Cursor) where
             ),
           )
 
-      broken-cells : testAt t J n (isKind 21) g.cur.pos ≡ false → RowCells X t n K J c (record { cur = passing n g.cur; count = num + 1; kept = cond g.line kept (kept + 1); shut = false; right = g.cur.pos })
+      broken-cells : test_at t J n (is_kind 21) g.cur.pos ≡ false → RowCells X t n K J c (record { cur = passing n g.cur; count = num + 1; kept = cond g.line kept (kept + 1); shut = false; right = g.cur.pos })
       broken-cells k = (
         record { within = passing-within n g.cur p.moves.within; on = omega (arith, i.moves.on, p.moves.on, passing-on n g.cur); depth = passing-depth n g.cur ∙ p.moves.depth ∙ i.moves.depth; kept = kept_trans i.moves.kept p.moves.kept },
         λ I s at.
@@ -190,33 +190,33 @@ module _ {X t : List ℕ} {n : ℕ} {K : List ℕ} (c : Cursor) where
             go I s a q (ltb g.cur.pos n) refl,
       )
         where
-          go : (I : Input) (s : State) (a : Along X t n L c.depth I s cur num kept) (q : Turn I s a) → (b : Bool) → ltb g.cur.pos n ≡ b → Fails X t n J (cellsAt c.depth I) I s (passing n g.cur)
+          go : (I : Input) (s : State) (a : Along X t n L c.depth I s cur num kept) (q : Turn I s a) → (b : Bool) → ltb g.cur.pos n ≡ b → Fails X t n J (cells_at c.depth I) I s (passing n g.cur)
           go I s a q true eq =
               let b : g.cur.pos < n = ltb-true g.cur.pos n eq in
               let v = took-any q.at.given q.at.pos b in
               rw (passing-in n g.cur b) (record {
                 state = tick q.u;
-                runs = a.whole ∙ ap (withCells a.acc) (turn-other I (readers c.depth I) a.left q.l a.state q.u q.run v.1 (kind-is token.Sep false v.0.row b h) (kind-is token.CloseBracket false v.0.row b k));
+                runs = a.whole ∙ ap (with_cells a.acc) (turn-other I (readers c.depth I) a.left q.l a.state q.u q.run v.1 (kind-is token.Sep false v.0.row b h) (kind-is token.CloseBracket false v.0.row b k));
                 at = at_tick q.at;
               })
           go I s a q false eq =
               let b : n ≤ g.cur.pos = ltb-false g.cur.pos n eq in
               rw (passing-out n g.cur b) (record {
                 state = q.u;
-                runs = a.whole ∙ ap (withCells a.acc) (turn_end I (readers c.depth I) a.left q.l a.state q.u q.run (end-any q.at.given q.at.pos b));
+                runs = a.whole ∙ ap (with_cells a.acc) (turn_end I (readers c.depth I) a.left q.l a.state q.u q.run (end-any q.at.given q.at.pos b));
                 at = q.at;
               })
 
-      pub cells-ended : (r : Bool) → r ≡ testAt t J n (isKind 21) g.cur.pos → RowCells X t n K J c (record { cur = passing n g.cur; count = num + 1; kept = cond g.line kept (kept + 1); shut = r; right = g.cur.pos })
+      pub cells-ended : (r : Bool) → r ≡ test_at t J n (is_kind 21) g.cur.pos → RowCells X t n K J c (record { cur = passing n g.cur; count = num + 1; kept = cond g.line kept (kept + 1); shut = r; right = g.cur.pos })
       cells-ended true e = shut-cells (sym e)
       cells-ended false e = broken-cells (sym e)
 
 -- a row: its bracket and its cells
 module _ (X t : List ℕ) (n : ℕ) (K : List ℕ) (c : Cursor) where
-  pub row-shut : {L J : List ℕ} (k j q : ℕ) (d : Cursor) → n ≤ 4096 → recordWords n ≤ length K → testAt t K n (isKind 20) c.pos ≡ true → RowCells X t n K L (onward c) (record { cur = d; count = k; kept = j; shut = true; right = q }) → J ≡ withCloser L c.pos (n - q)
+  pub row-shut : {L J : List ℕ} (k j q : ℕ) (d : Cursor) → n ≤ 4096 → record_words n ≤ length K → test_at t K n (is_kind 20) c.pos ≡ true → RowCells X t n K L (onward c) (record { cur = d; count = k; kept = j; shut = true; right = q }) → J ≡ with_closer L c.pos (n - q)
       → MatrixRow X t n K J c (record { cur = d; count = k; kept = j; shut = true; right = q })
   row-shut {L} {J} k j q d few fit h p hj =
-      let b : c.pos < n = test_below t K n (isKind 20) c.pos h in (
+      let b : c.pos < n = test_below t K n (is_kind 20) c.pos h in (
         record { within = p.0.within; on = omega (arith, p.0.on); depth = p.0.depth; kept = kept_trans p.0.kept (rw hj (closer-kept L c.pos _)) },
         (
           p.1.0,
@@ -228,7 +228,7 @@ module _ (X t : List ℕ) (n : ℕ) (K : List ℕ) (c : Cursor) where
                 row = record { left = v.0.entry; right = w.right; cells = w.cells };
                 state = shut s.pos w.state;
                 runs = row-taken I (readers c.depth I) s (tick s) v.0.entry (some (w.cells, w.right)) w.state v.1 (kind-is token.OpenBracket true v.0.row b h) w.runs ∙ ret-closed _ _ _;
-                at = subst (λ (m : ℕ). At X t n J d.pos d.takes I (shut m w.state)) at.pos (at-shut c.pos q w.at (omega (arith, p.0.on)) p.1.0.last p.0.within few (omega (arith, p.0.kept.long)) hj);
+                at = subst (λ (m : ℕ). At X t n J d.pos d.takes I (shut m w.state)) at.pos (at_shut c.pos q w.at (omega (arith, p.0.on)) p.1.0.last p.0.within few (omega (arith, p.0.kept.long)) hj);
                 left = v.0.there;
                 right = w.there;
                 counts = w.counts;
@@ -236,10 +236,10 @@ module _ (X t : List ℕ) (n : ℕ) (K : List ℕ) (c : Cursor) where
         ),
       )
 
-  pub row-broken : {L : List ℕ} (k j q : ℕ) (d : Cursor) → testAt t K n (isKind 20) c.pos ≡ true → RowCells X t n K L (onward c) (record { cur = d; count = k; kept = j; shut = false; right = q })
+  pub row-broken : {L : List ℕ} (k j q : ℕ) (d : Cursor) → test_at t K n (is_kind 20) c.pos ≡ true → RowCells X t n K L (onward c) (record { cur = d; count = k; kept = j; shut = false; right = q })
       → MatrixRow X t n K L c (record { cur = d; count = k; kept = j; shut = false; right = q })
   row-broken k j q d h p =
-      let b : c.pos < n = test_below t K n (isKind 20) c.pos h in (
+      let b : c.pos < n = test_below t K n (is_kind 20) c.pos h in (
         record { within = p.0.within; on = omega (arith, p.0.on); depth = p.0.depth; kept = p.0.kept },
         λ I s at.
             let v = took-any at.given at.pos b in
@@ -252,14 +252,14 @@ module _ (X t : List ℕ) (n : ℕ) (K : List ℕ) (c : Cursor) where
       )
 
   -- by the flag
-  pub row-met : {L J : List ℕ} (g : Cells) → n ≤ 4096 → recordWords n ≤ length K → testAt t K n (isKind 20) c.pos ≡ true → RowCells X t n K L (onward c) g → g.shut ≡ true → J ≡ withCloser L c.pos (n - g.right) → MatrixRow X t n K J c g
+  pub row-met : {L J : List ℕ} (g : Cells) → n ≤ 4096 → record_words n ≤ length K → test_at t K n (is_kind 20) c.pos ≡ true → RowCells X t n K L (onward c) g → g.shut ≡ true → J ≡ with_closer L c.pos (n - g.right) → MatrixRow X t n K J c g
   row-met {L} {J} g few fit h p e hj = rw e (row-shut g.count g.kept g.right g.cur few fit h (rw e at p) hj)
 
-  pub row-unmet : {L : List ℕ} (g : Cells) → testAt t K n (isKind 20) c.pos ≡ true → RowCells X t n K L (onward c) g → g.shut ≡ false → MatrixRow X t n K L c g
+  pub row-unmet : {L : List ℕ} (g : Cells) → test_at t K n (is_kind 20) c.pos ≡ true → RowCells X t n K L (onward c) g → g.shut ≡ false → MatrixRow X t n K L c g
   row-unmet {L} g h p e = rw e (row-broken g.count g.kept g.right g.cur h (rw e at p))
 
-  pub row-none : testAt t K n (isKind 20) c.pos ≡ false → c.pos ≤ n → MatrixRow X t n K K c (record { cur = passing n c; count = 0; kept = 0; shut = false; right = 0 })
-  unfolding nextMatrixRow
+  pub row-none : test_at t K n (is_kind 20) c.pos ≡ false → c.pos ≤ n → MatrixRow X t n K K c (record { cur = passing n c; count = 0; kept = 0; shut = false; right = 0 })
+  unfolding next_matrix_row
   row-none h k = (
     record { within = passing-within n c k; on = omega (arith, passing-on n c); depth = passing-depth n c; kept = kept_refl K },
     λ I s at. go I s at (ltb c.pos n) refl,
@@ -269,7 +269,7 @@ module _ (X t : List ℕ) (n : ℕ) (K : List ℕ) (c : Cursor) where
       go I s at true eq =
           let b : c.pos < n = ltb-true c.pos n eq in
           let v = took-any at.given at.pos b in
-          rw (passing-in n c b) (record { state = tick s; runs = bind _ _ s (at_here s) ∙ bind _ _ s v.1 ∙ if-false _ _ _ (kind-is token.OpenBracket false v.0.row b h) ∙ ret _ _; at = at_tick at })
+          rw (passing-in n c b) (record { state = tick s; runs = bind _ _ s (at_here s) ∙ bind _ _ s v.1 ∙ if_false _ _ _ (kind-is token.OpenBracket false v.0.row b h) ∙ ret _ _; at = at_tick at })
       go I s at false eq =
           let b : n ≤ c.pos = ltb-false c.pos n eq in
           rw (passing-out n c b) (record { state = s; runs = bind _ _ s (at_here s) ∙ bind _ _ s (end-any at.given at.pos b) ∙ ret _ _; at = at })

@@ -12,18 +12,18 @@ use lib.ListN.{length, get_or, set, length-set}
 use lib.Seq.{get_or-set_same, get_or-set_other}
 use Rattle.reading.specs.Entries.{Entry}
 use Rattle.reading.specs.Reading.{State, Mark, slot, advance}
-use Rattle.records.specs.Record.{recordWords, marksOf, closerOf, withCloser}
-use Rattle.stores.proofs.Stores.{closer-kept, closer-same, closer-other, closer-of-marks, marks-of-closer, marks-kept, marks-length}
-use Rattle.lookahead.specs.Tests.{testAt}
+use Rattle.records.specs.Record.{record_words, marks_of, closer_of, with_closer}
+use Rattle.stores.proofs.Stores.{closer-kept, closer-same, closer-other, closer-of_marks, marks-of_closer, marks-kept, marks-length}
+use Rattle.lookahead.specs.Tests.{test_at}
 use Rattle.lookahead.specs.Takes.{looked}
-use Rattle.marks.specs.Marks.{withMark}
-use Rattle.closers_notes.specs.Notes.{gaveUp}
+use Rattle.marks.specs.Marks.{with_mark}
+use Rattle.closers_notes.specs.Notes.{gave_up}
 use Rattle.closers_notes.proofs.Notes.{cleared-kept, cleared-marks, cleared-below, cleared-inside, cleared-behind}
 use Rattle.reading_words.specs.Meet as words
 use Rattle.reading_words.specs.Meet.{Input, Stands, Marks}
 use Rattle.reading_words.proofs.Kit as steps
 use Rattle.reading_words.proofs.Kit.{Same, tick, shut, given-kept}
-use Rattle.reading_words.proofs.Attempts.{markNumber, marked, mark_set}
+use Rattle.reading_words.proofs.Attempts.{mark_number, marked, mark_set}
 use Rattle.closers_pass.specs.Meet.{Closed, At}
 
 -- without the closers
@@ -41,7 +41,7 @@ module _ {X t : List ℕ} {n : ℕ} {K : List ℕ} {I : Input} {s : State} where
       record { given = b.given; marks = b.marks; noted = a.noted; closed = closed_on a.closed (omega arith); pos = b.pos; takes = b.takes }
 
 module _ {X t : List ℕ} {n : ℕ} {K : List ℕ} {I : Input} {s : State} {p u : ℕ} {ok : Entry → Bool} (f : ℕ → Bool) (a : At X t n K p u I s) (same : Same ok f) where
-  pub took : testAt t K n f p ≡ true → (q : Stands t K I.es p) × (advance I.text I.es ok s ≡ (some q.entry, tick s))
+  pub took : test_at t K n f p ≡ true → (q : Stands t K I.es p) × (advance I.text I.es ok s ≡ (some q.entry, tick s))
   took h = steps.took f (bare a) same h
 
   pub record Passed : Type 0 where
@@ -49,7 +49,7 @@ module _ {X t : List ℕ} {n : ℕ} {K : List ℕ} {I : Input} {s : State} {p u 
     pub runs : advance I.text I.es ok s ≡ (none, state)
     pub at : At X t n K p (looked n p u) I state
 
-  pub passed : testAt t K n f p ≡ false → Passed
+  pub passed : test_at t K n f p ≡ false → Passed
   passed h =
       let q = steps.passed f (bare a) same h in
       let z : s.pos ≡ q.state.pos = sym a.pos ∙ q.at.pos in
@@ -67,12 +67,12 @@ module _ {X t : List ℕ} {n : ℕ} {K : List ℕ} {I : Input} {s : State} {p u 
       }
 
 -- what the code's words are after a closer is noted
-pub at-shut : {X t : List ℕ} {n : ℕ} {K L : List ℕ} {I : Input} {s : State} {p u : ℕ} (i k : ℕ) → At X t n K p u I s → i < p → p ≡ k + 1 → p ≤ n → n ≤ 4096 → recordWords n ≤ length K → L ≡ withCloser K i (n - k) → At X t n L p u I (shut i s)
-at-shut {n = n} {K = K} {s = s} {p = p} i k a l h b few fit hl =
+pub at_shut : {X t : List ℕ} {n : ℕ} {K L : List ℕ} {I : Input} {s : State} {p u : ℕ} (i k : ℕ) → At X t n K p u I s → i < p → p ≡ k + 1 → p ≤ n → n ≤ 4096 → record_words n ≤ length K → L ≡ with_closer K i (n - k) → At X t n L p u I (shut i s)
+at_shut {n = n} {K = K} {s = s} {p = p} i k a l h b few fit hl =
     let z : s.pos - 1 ≡ k = omega (arith, a.pos) in
     rw (hl, z) (record {
       given = given-kept (closer-kept K i (n - k)) a.given;
-      marks = record { held = a.marks.held; words = λ j r. marks-of-closer K i (n - k) j ∙ a.marks.words j r };
+      marks = record { held = a.marks.held; words = λ j r. marks-of_closer K i (n - k) j ∙ a.marks.words j r };
       noted = record { words = λ j r. own j r (ℕ_discrete j i) };
       closed = record {
         size = length-set s.closers i k ∙ a.closed.size;
@@ -86,7 +86,7 @@ at-shut {n = n} {K = K} {s = s} {p = p} i k a l h b few fit hl =
     set_here : get_or (set s.closers i k) i n ≡ k
     set_here = get_or-set_same s.closers i k n (omega (arith, a.closed.size))
 
-    own : (j : ℕ) → j < n → Dec (j ≡ i) → closerOf (withCloser K i (n - k)) j ≡ n - get_or (set s.closers i k) j n
+    own : (j : ℕ) → j < n → Dec (j ≡ i) → closer_of (with_closer K i (n - k)) j ≡ n - get_or (set s.closers i k) j n
     own j r (yes e) = rw (e, set_here) (closer-same K i (n - k) (omega arith) (omega arith))
     own j r (no d) = closer-other K i (n - k) j d ∙ a.noted.words j r ∙ sym (rw (get_or-set_other s.closers i j k n d))
 
@@ -95,10 +95,10 @@ at-shut {n = n} {K = K} {s = s} {p = p} i k a l h b few fit hl =
     most j (no d) = rw (get_or-set_other s.closers i j k n d) (a.closed.few j)
 
 -- what they are after an attempt is given back: v is the state that it came to, from s
-pub at-lost : {X t : List ℕ} {n : ℕ} {K L K₀ : List ℕ} {I : Input} {s v : State} {p u p₀ u₀ : ℕ} (m : Mark) (i : ℕ) → At X t n K p u I v → At X t n K₀ p₀ u₀ I s → i < n → recordWords n ≤ length K
+pub at_lost : {X t : List ℕ} {n : ℕ} {K L K₀ : List ℕ} {I : Input} {s v : State} {p u p₀ u₀ : ℕ} (m : Mark) (i : ℕ) → At X t n K p u I v → At X t n K₀ p₀ u₀ I s → i < n → record_words n ≤ length K
     → ((j : ℕ) → j < s.pos → get_or v.closers j n ≡ get_or s.closers j n)
-    → L ≡ gaveUp i (markNumber m) p₀ p K → At X t n L p₀ u I (record { pos = s.pos; takes = v.takes; marks = set v.marks (slot m i) true; closers = s.closers })
-at-lost {n = n} {K = K} {s = s} {v = v} {p = p} {p₀ = p₀} m i a a₀ h fit low g =
+    → L ≡ gave_up i (mark_number m) p₀ p K → At X t n L p₀ u I (record { pos = s.pos; takes = v.takes; marks = set v.marks (slot m i) true; closers = s.closers })
+at_lost {n = n} {K = K} {s = s} {v = v} {p = p} {p₀ = p₀} m i a a₀ h fit low g =
     rw g (record {
       given = given-kept (cleared-kept (p - p₀) p₀ (marked K m i)) (given-kept (marks-kept K i _) a.given);
       marks = record { held = q.held; words = λ j l. cleared-marks (p - p₀) p₀ (marked K m i) j ∙ q.words j l };
@@ -114,17 +114,17 @@ at-lost {n = n} {K = K} {s = s} {v = v} {p = p} {p₀ = p₀} m i a a₀ h fit l
     q : Marks n (marked K m i) (set v.marks (slot m i) true)
     q = mark_set m i a.marks h (omega arith)
 
-    before : (j : ℕ) → j < n → closerOf (marked K m i) j ≡ n - get_or v.closers j n
-    before j l = closer-of-marks K i _ j ∙ a.noted.words j l
+    before : (j : ℕ) → j < n → closer_of (marked K m i) j ≡ n - get_or v.closers j n
+    before j l = closer-of_marks K i _ j ∙ a.noted.words j l
 
-    go : (j : ℕ) → j < n → (b : Bool) → ltb j p₀ ≡ b → (c : Bool) → ltb j p ≡ c → closerOf (gaveUp i (markNumber m) p₀ p K) j ≡ n - get_or s.closers j n
+    go : (j : ℕ) → j < n → (b : Bool) → ltb j p₀ ≡ b → (c : Bool) → ltb j p ≡ c → closer_of (gave_up i (mark_number m) p₀ p K) j ≡ n - get_or s.closers j n
     go j l true e c d =
         let y : j < p₀ = ltb-true j p₀ e in
         cleared-below (p - p₀) p₀ (marked K m i) j y ∙ before j l ∙ rw (low j (omega (arith, a₀.pos)))
     go j l false e true d =
         let y : p₀ ≤ j = ltb-false j p₀ e in
         let z : j < p = ltb-true j p d in
-        cleared-inside (p - p₀) p₀ (marked K m i) j y (omega arith) (omega (arith, marks-length K i (withMark (marksOf K i) (markNumber m)))) ∙ sym (rw (a₀.closed.free j (omega (arith, a₀.pos))) (none_left n))
+        cleared-inside (p - p₀) p₀ (marked K m i) j y (omega arith) (omega (arith, marks-length K i (with_mark (marks_of K i) (mark_number m)))) ∙ sym (rw (a₀.closed.free j (omega (arith, a₀.pos))) (none_left n))
     go j l false e false d =
         let y : p₀ ≤ j = ltb-false j p₀ e in
         let z : p ≤ j = ltb-false j p d in

@@ -5,22 +5,22 @@ use mathlib.Core.Bool.{false}
 use mathlib.Core.List.{List, ◌++◌}
 use native.Mathlib.Omega.{arith}
 use lib.ListN.{length, replicate, get_or-replicate}
-use Rattle.tokens.specs.Table.{tokenList, countOthers}
+use Rattle.tokens.specs.Table.{token_list, count_others}
 use Rattle.tree.specs.Tree.{nowhere}
 use Rattle.bounds.proofs.Theorems.{entries-count}
-use Rattle.entries.specs.Prepared.{workWords}
+use Rattle.entries.specs.Prepared.{work_words}
 use Rattle.reading_words.specs.Meet.{Marks}
 use Rattle.reading_words.proofs.Records as records
 use Rattle.closers_pass.specs.Top.{Blank}
 
 pub blank-records : (text table : List ℕ) (count : ℕ) (few : count ≤ 4096) (words : 3 * count ≤ length table) (K rest : List ℕ)
-    → K ≡ workWords (tokenList count table) ++ rest → Blank (countOthers (tokenList count table)) K
+    → K ≡ work_words (token_list count table) ++ rest → Blank (count_others (token_list count table)) K
 blank-records text table count few words K rest work =
-    let n = countOthers (tokenList count table) in
+    let n = count_others (token_list count table) in
     let z : n - n ≡ 0 = omega arith in
     record {
       marks =
-          subst (λ (m : ℕ). Marks n K (replicate (3 * m) false)) (entries-count nowhere (tokenList count table))
+          subst (λ (m : ℕ). Marks n K (replicate (3 * m) false)) (entries-count nowhere (token_list count table))
           (records.blank text table count few words K rest work);
-      noted = record { words = λ i h. records.no-closer text table count few words K rest work i h ∙ sym (rw (get_or-replicate n i n n h) z) };
+      noted = record { words = λ i h. records.no_closer text table count few words K rest work i h ∙ sym (rw (get_or-replicate n i n n h) z) };
     }

@@ -11,11 +11,11 @@ use borrow.Author.Tests.{ne_eqb, eq-eqb}
 use Rattle.tokens.specs.declared.token.Token.TheVariants as token
 use Rattle.tree.specs.Tree.{Nodes, count}
 use Rattle.reading.specs.Entries.{is}
-use Rattle.reading.specs.Reading.{State, is_at, moreRows, nextMatrixRows, alike}
+use Rattle.reading.specs.Reading.{State, is_at, more_rows, next_matrix_rows, alike}
 use Rattle.reading.specs.Reading as reading
-use Rattle.lookahead.specs.Tests.{testAt, isKind}
+use Rattle.lookahead.specs.Tests.{test_at, is_kind}
 use Rattle.lookahead.proofs.Testing.{test_below}
-use Rattle.rows.specs.Rows.{pair_at, roundAt}
+use Rattle.rows.specs.Rows.{pair_at, round_at}
 use Rattle.closers_pass.specs.declared.cursor.Cursor.{Cursor}
 use Rattle.closers_pass.specs.declared.cursor.Cells.{Cells}
 use Rattle.closers_pass.specs.declared.cursor.Others as code
@@ -23,9 +23,9 @@ use Rattle.reading_words.specs.Meet.{Input, readers, First, more_at}
 use Rattle.closers_pass.specs.Meet.{At, Moves, Each, onward}
 use Rattle.closers_pass.specs.Matrix.{Behind, MatrixRow, MoreRows, MatrixRows}
 use Rattle.stores.proofs.Stores.{kept_refl, kept_trans}
-use Rattle.reading_words.proofs.Kit.{bind, ret, if-true, if-false, tick}
+use Rattle.reading_words.proofs.Kit.{bind, ret, if_true, if_false, tick}
 use Rattle.closers_pass.proofs.Kit.{at_tick}
-use Rattle.reading_words.proofs.Steps.{alike-pair, brackets-are, is-at-is, pair_is, turn-broken, turn-differs, turn-done, turn_more, with_row, withRows, took-any}
+use Rattle.reading_words.proofs.Steps.{alike-pair, brackets-are, is_at_is, pair_is, turn-broken, turn-differs, turn-done, turn_more, with_row, with_rows, took-any}
 
 behind-snoc : (more : Bool) (acc : List Nodes) (r : Nodes) → Behind more acc → 1 ≤ count r → Behind true (acc ++ (r ∷ []))
 behind-snoc more [] r h k = k
@@ -37,7 +37,7 @@ pub record Along (X t : List ℕ) (n : ℕ) (L : List ℕ) (d : ℕ) (I : Input)
   pub left : ℕ
   pub acc : List Nodes
   pub state : State
-  pub whole : more_at d h I s ≡ withRows acc (moreRows I.text I.es true (readers d I) (suc left) h state)
+  pub whole : more_at d h I s ≡ with_rows acc (more_rows I.text I.es true (readers d I) (suc left) h state)
   pub enough : n - cur.pos ≤ left
   pub at : At X t n L cur.pos cur.takes I state
   pub behind : Behind more acc
@@ -53,12 +53,12 @@ module _ {X t : List ℕ} {n : ℕ} {K : List ℕ} (cols : ℕ) (round : Bool) (
     along = λ I s at h fst. record { left = length I.es; acc = []; state = s; whole = none_first (more_at c.depth h I s); enough = omega (arith, at.given.size); at = at; behind = tt };
   }
     where
-      none_first : (q : Option (List Nodes) × State) → q ≡ withRows [] q
+      none_first : (q : Option (List Nodes) × State) → q ≡ with_rows [] q
       none_first (none, u) = refl
       none_first (some m, u) = refl
 
   module _ {L : List ℕ} {cur : Cursor} {more : Bool} (i : Inv X t n K L cols round c cur more) where
-    pub rows-done : testAt t L n (isKind 3) cur.pos ≡ false → MoreRows X t n K L cols round c (record { cur = cur; done = true; more = more })
+    pub rows-done : test_at t L n (is_kind 3) cur.pos ≡ false → MoreRows X t n K L cols round c (record { cur = cur; done = true; more = more })
     rows-done k = (
       i.moves,
       λ I s at h fst.
@@ -66,18 +66,18 @@ module _ {X t : List ℕ} {n : ℕ} {K : List ℕ} (cols : ℕ) (round : Bool) (
           record {
             others = a.acc;
             state = a.state;
-            runs = a.whole ∙ ap (withRows a.acc) (turn-done I (readers c.depth I) a.left h a.state (ap (is_at I.text I.es (is token.Sep)) (sym a.at.pos) ∙ is-at-is token.Sep cur.pos a.at.given ∙ k)) ∙ ap (λ (w : List Nodes). (some w, a.state)) (append-nil a.acc);
+            runs = a.whole ∙ ap (with_rows a.acc) (turn-done I (readers c.depth I) a.left h a.state (ap (is_at I.text I.es (is token.Sep)) (sym a.at.pos) ∙ is_at_is token.Sep cur.pos a.at.given ∙ k)) ∙ ap (λ (w : List Nodes). (some w, a.state)) (append-nil a.acc);
             at = a.at;
             behind = a.behind;
           },
     )
 
-    module _ (J : List ℕ) (m j q : ℕ) (d : Cursor) (k : testAt t L n (isKind 3) cur.pos ≡ true) where
+    module _ (J : List ℕ) (m j q : ℕ) (d : Cursor) (k : test_at t L n (is_kind 3) cur.pos ≡ true) where
       sep-there : {I : Input} {s : State} → At X t n L cur.pos cur.takes I s → is_at I.text I.es (is token.Sep) s.pos ≡ true
-      sep-there {I} {s} a = ap (is_at I.text I.es (is token.Sep)) (sym a.pos) ∙ is-at-is token.Sep cur.pos a.given ∙ k
+      sep-there {I} {s} a = ap (is_at I.text I.es (is token.Sep)) (sym a.pos) ∙ is_at_is token.Sep cur.pos a.given ∙ k
 
       inside : cur.pos < n
-      inside = test_below t L n (isKind 3) cur.pos k
+      inside = test_below t L n (is_kind 3) cur.pos k
 
       broken : MatrixRow X t n L J (onward cur) (record { cur = d; count = m; kept = j; shut = false; right = q }) → MoreRows X t n K J cols round c (record { cur = d; done = false; more = more })
       broken p = (
@@ -88,7 +88,7 @@ module _ {X t : List ℕ} {n : ℕ} {K : List ℕ} (cols : ℕ) (round : Bool) (
             let q = rw i.moves.depth at (p.1 I (tick a.state) (at_tick a.at)) in
             record {
               state = q.state;
-              runs = a.whole ∙ ap (withRows a.acc) (turn-broken I (readers c.depth I) a.left h a.state (sep-there a.at) u.1 q.runs);
+              runs = a.whole ∙ ap (with_rows a.acc) (turn-broken I (readers c.depth I) a.left h a.state (sep-there a.at) u.1 q.runs);
               at = q.at;
             },
       )
@@ -107,7 +107,7 @@ module _ {X t : List ℕ} {n : ℕ} {K : List ℕ} (cols : ℕ) (round : Bool) (
               let w = rw i.moves.depth at (p.1.2 I (tick a.state) (at_tick a.at)) in
               record {
                 state = w.state;
-                runs = a.whole ∙ ap (withRows a.acc) (turn-differs I (readers c.depth I) a.left h a.state (sep-there a.at) u.1 w.runs (alike-row w.row w.at fst w.left w.right w.counts.number ∙ df));
+                runs = a.whole ∙ ap (with_rows a.acc) (turn-differs I (readers c.depth I) a.left h a.state (sep-there a.at) u.1 w.runs (alike-row w.row w.at fst w.left w.right w.counts.number ∙ df));
                 at = w.at;
               },
         )
@@ -121,14 +121,14 @@ module _ {X t : List ℕ} {n : ℕ} {K : List ℕ} (cols : ℕ) (round : Bool) (
               let w = rw i.moves.depth at (p.1.2 I (tick a.state) (at_tick a.at)) in
               let l1 : a.left ≡ suc (a.left - 1) = omega (arith, a.enough, inside) in
               let R = readers c.depth I in
-              let rest = moreRows I.text I.es true R a.left h w.state in
+              let rest = more_rows I.text I.es true R a.left h w.state in
               record {
                 left = a.left - 1;
                 acc = a.acc ++ (w.row.cells ∷ []);
                 state = w.state;
-                whole = a.whole ∙ ap (withRows a.acc) (turn_more I R a.left h a.state (sep-there a.at) u.1 w.runs (alike-row w.row w.at fst w.left w.right w.counts.number ∙ sm))
+                whole = a.whole ∙ ap (with_rows a.acc) (turn_more I R a.left h a.state (sep-there a.at) u.1 w.runs (alike-row w.row w.at fst w.left w.right w.counts.number ∙ sm))
                     ∙ with_row a.acc w.row.cells rest.0 rest.1
-                    ∙ ap (λ (m : ℕ). withRows (a.acc ++ (w.row.cells ∷ [])) (moreRows I.text I.es true R m h w.state)) l1;
+                    ∙ ap (λ (m : ℕ). with_rows (a.acc ++ (w.row.cells ∷ [])) (more_rows I.text I.es true R m h w.state)) l1;
                 enough = omega (arith, l1, a.enough, p.0.on);
                 at = w.at;
                 behind = behind-snoc more a.acc w.row.cells a.behind (omega (arith, p.1.0.some, w.counts.number));
@@ -136,7 +136,7 @@ module _ {X t : List ℕ} {n : ℕ} {K : List ℕ} (cols : ℕ) (round : Bool) (
         }
 
     -- by the flags
-    module _ (J : List ℕ) (g : Cells) (k : testAt t L n (isKind 3) cur.pos ≡ true) (p : MatrixRow X t n L J (onward cur) g) where
+    module _ (J : List ℕ) (g : Cells) (k : test_at t L n (is_kind 3) cur.pos ≡ true) (p : MatrixRow X t n L J (onward cur) g) where
       pub rows-broken : g.shut ≡ false → MoreRows X t n K J cols round c (record { cur = g.cur; done = false; more = more })
       rows-broken e = broken J g.count g.kept g.right g.cur k (rw e at p)
 
@@ -153,41 +153,41 @@ module _ {X t : List ℕ} {n : ℕ} {K : List ℕ} (cols : ℕ) (round : Bool) (
 -- all rows
 module _ (X t : List ℕ) (n : ℕ) (K L : List ℕ) (c : Cursor) (m j q : ℕ) (d : Cursor) where
   broken-first : MatrixRow X t n K L c (record { cur = d; count = m; kept = j; shut = false; right = q }) → MatrixRows X t n K L c (record { cur = d; done = false; more = false; cols = m; kept = j })
-  unfolding nextMatrixRows
+  unfolding next_matrix_rows
   broken-first p = (p.0, λ I s at. let w = p.1 I s at in record { state = w.state; runs = bind _ _ s w.runs ∙ ret _ _; at = w.at })
 
   module _ (p : MatrixRow X t n K L c (record { cur = d; count = m; kept = j; shut = true; right = q })) where
-    differs-first : pair_at X t L (roundAt X t L c.pos) c.pos q ≡ false → MatrixRows X t n K L c (record { cur = d; done = false; more = false; cols = m; kept = j })
-    unfolding nextMatrixRows
-    differs-first df = (
+    differs_first : pair_at X t L (round_at X t L c.pos) c.pos q ≡ false → MatrixRows X t n K L c (record { cur = d; done = false; more = false; cols = m; kept = j })
+    unfolding next_matrix_rows
+    differs_first df = (
       p.0,
       λ I s at.
           let w = p.1.2 I s at in
-          record { state = w.state; runs = bind _ _ s w.runs ∙ if-false _ _ _ (brackets-are w.row w.at.given p.1.1 p.1.0.inside w.left w.right ∙ df) ∙ ret _ _; at = w.at },
+          record { state = w.state; runs = bind _ _ s w.runs ∙ if_false _ _ _ (brackets-are w.row w.at.given p.1.1 p.1.0.inside w.left w.right ∙ df) ∙ ret _ _; at = w.at },
     )
 
-    module _ (bk : pair_at X t L (roundAt X t L c.pos) c.pos q ≡ true) (J : List ℕ) (f : Cursor) (more : Bool) where
-      by-done : (b : Bool) → MoreRows X t n L J m (roundAt X t L c.pos) d (record { cur = f; done = b; more = more }) → MatrixRows X t n K J c (record { cur = f; done = b; more = more; cols = m; kept = j })
-      unfolding nextMatrixRows
-      by-done false g = (
+    module _ (bk : pair_at X t L (round_at X t L c.pos) c.pos q ≡ true) (J : List ℕ) (f : Cursor) (more : Bool) where
+      by_done : (b : Bool) → MoreRows X t n L J m (round_at X t L c.pos) d (record { cur = f; done = b; more = more }) → MatrixRows X t n K J c (record { cur = f; done = b; more = more; cols = m; kept = j })
+      unfolding next_matrix_rows
+      by_done false g = (
         record { within = g.0.within; on = omega (arith, p.0.on, g.0.on); depth = g.0.depth ∙ p.0.depth; kept = kept_trans p.0.kept g.0.kept },
         λ I s at.
             let w = p.1.2 I s at in
-            let v = rw p.0.depth at (g.1 I w.state w.at w.row (record { pair = pair_is (roundAt X t L c.pos) w.row w.at.given p.1.1 p.1.0.inside w.left w.right ∙ bk; number = w.counts.number })) in
-            record { state = v.state; runs = bind _ _ s w.runs ∙ if-true _ _ _ (brackets-are w.row w.at.given p.1.1 p.1.0.inside w.left w.right ∙ bk) ∙ bind _ _ _ v.runs ∙ ret _ _; at = v.at },
+            let v = rw p.0.depth at (g.1 I w.state w.at w.row (record { pair = pair_is (round_at X t L c.pos) w.row w.at.given p.1.1 p.1.0.inside w.left w.right ∙ bk; number = w.counts.number })) in
+            record { state = v.state; runs = bind _ _ s w.runs ∙ if_true _ _ _ (brackets-are w.row w.at.given p.1.1 p.1.0.inside w.left w.right ∙ bk) ∙ bind _ _ _ v.runs ∙ ret _ _; at = v.at },
       )
-      by-done true g = (
+      by_done true g = (
         record { within = g.0.within; on = omega (arith, p.0.on, g.0.on); depth = g.0.depth ∙ p.0.depth; kept = kept_trans p.0.kept g.0.kept },
         (
           p.1.0.some,
           p.1.1,
           λ I s at.
               let w = p.1.2 I s at in
-              let v = rw p.0.depth at (g.1 I w.state w.at w.row (record { pair = pair_is (roundAt X t L c.pos) w.row w.at.given p.1.1 p.1.0.inside w.left w.right ∙ bk; number = w.counts.number })) in
+              let v = rw p.0.depth at (g.1 I w.state w.at w.row (record { pair = pair_is (round_at X t L c.pos) w.row w.at.given p.1.1 p.1.0.inside w.left w.right ∙ bk; number = w.counts.number })) in
               record {
                 rows = record { head = w.row; others = v.others };
                 state = v.state;
-                runs = bind _ _ s w.runs ∙ if-true _ _ _ (brackets-are w.row w.at.given p.1.1 p.1.0.inside w.left w.right ∙ bk) ∙ bind _ _ _ v.runs ∙ ret _ _;
+                runs = bind _ _ s w.runs ∙ if_true _ _ _ (brackets-are w.row w.at.given p.1.1 p.1.0.inside w.left w.right ∙ bk) ∙ bind _ _ _ v.runs ∙ ret _ _;
                 at = v.at;
                 left = w.left;
                 counts = w.counts;
@@ -200,8 +200,8 @@ module _ (X t : List ℕ) (n : ℕ) (K L : List ℕ) (c : Cursor) (g : Cells) (p
   pub matrix-broken : g.shut ≡ false → MatrixRows X t n K L c (record { cur = g.cur; done = false; more = false; cols = g.count; kept = g.kept })
   matrix-broken e = broken-first X t n K L c g.count g.kept g.right g.cur (rw e at p)
 
-  pub matrix-differs : g.shut ≡ true → pair_at X t L (roundAt X t L c.pos) c.pos g.right ≡ false → MatrixRows X t n K L c (record { cur = g.cur; done = false; more = false; cols = g.count; kept = g.kept })
-  matrix-differs e df = differs-first X t n K L c g.count g.kept g.right g.cur (rw e at p) df
+  pub matrix-differs : g.shut ≡ true → pair_at X t L (round_at X t L c.pos) c.pos g.right ≡ false → MatrixRows X t n K L c (record { cur = g.cur; done = false; more = false; cols = g.count; kept = g.kept })
+  matrix-differs e df = differs_first X t n K L c g.count g.kept g.right g.cur (rw e at p) df
 
-  pub matrix-more : (J : List ℕ) (h : code.Others) → g.shut ≡ true → pair_at X t L (roundAt X t L c.pos) c.pos g.right ≡ true → MoreRows X t n L J g.count (roundAt X t L c.pos) g.cur h → MatrixRows X t n K J c (record { cur = h.cur; done = h.done; more = h.more; cols = g.count; kept = g.kept })
-  matrix-more J h e bk p2 = by-done X t n K L c g.count g.kept g.right g.cur (rw e at p) bk J h.cur h.more h.done p2
+  pub matrix-more : (J : List ℕ) (h : code.Others) → g.shut ≡ true → pair_at X t L (round_at X t L c.pos) c.pos g.right ≡ true → MoreRows X t n L J g.count (round_at X t L c.pos) g.cur h → MatrixRows X t n K J c (record { cur = h.cur; done = h.done; more = h.more; cols = g.count; kept = g.kept })
+  matrix-more J h e bk p2 = by_done X t n K L c g.count g.kept g.right g.cur (rw e at p) bk J h.cur h.more h.done p2

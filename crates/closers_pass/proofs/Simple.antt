@@ -9,17 +9,17 @@ use Rattle.tokens.specs.declared.token.Token.TheVariants as token
 use Rattle.tree.specs.Tree.{Script, Head, Prefix, Node, node, Nodes, end, ◌▸◌, ◌⧺◌, one}
 use Rattle.reading.specs.Stop.{Stop}
 use Rattle.reading.specs.Entries.{Entry}
-use Rattle.reading.specs.Reading.{State, M, argument, begun, nextSimple, nextScript, nextScriptFunc, nextIntermediate, orMissing, orMissingPart, endsOperand, endsFirst, endsSecond, look, isUnscripted}
-use Rattle.lookahead.specs.Tests.{testAt, isKind, marksKind, headsKind, beginsKind}
+use Rattle.reading.specs.Reading.{State, M, argument, begun, next_simple, next_script, next_script_func, next_intermediate, or_missing, or_missing_part, ends_operand, ends_first, ends_second, look, is_unscripted}
+use Rattle.lookahead.specs.Tests.{test_at, is_kind, marks_kind, heads_kind, begins_kind}
 use Rattle.lookahead.proofs.Testing.{test_below}
 use Rattle.closers_pass.specs.declared.cursor.Cursor.{Cursor}
 use Rattle.closers_pass.specs.declared.cursor.Part.{Part}
 use Rattle.closers_pass.specs.declared.cursor.Scripted as code
 use Rattle.tokens.specs.Refusals.{bit}
-use Rattle.reading_words.specs.Meet.{Input, readers, stopOf}
-use Rattle.closers_pass.specs.Meet.{is_some, endsOf, barOf, line_of, linePart, scripts, Simple, ScriptFunc, Term, Intermediate, Scripts, Headed, Begun, onward, seen, inner, atDepth, nothingAt, operationAt, part_at}
+use Rattle.reading_words.specs.Meet.{Input, readers, stop_of}
+use Rattle.closers_pass.specs.Meet.{is_some, ends_of, bar_of, line_of, line_part, scripts, Simple, ScriptFunc, Term, Intermediate, Scripts, Headed, Begun, onward, seen, inner, at_depth, nothing_at, operation_at, part_at}
 use Rattle.stores.proofs.Stores.{kept_refl, kept_trans}
-use Rattle.reading_words.proofs.Kit.{bind, ret, at_here, if-true, if-false, tick, row_of, same-is, same-marks, same-heads, same-begins, kind-is, level-simple, deep-simple, deep-scriptFunc}
+use Rattle.reading_words.proofs.Kit.{bind, ret, at_here, if_true, if_false, tick, row_of, same-is, same-marks, same-heads, same-begins, kind-is, level-simple, deep-simple, deep-script_func}
 use Rattle.closers_pass.proofs.Kit.{at_tick, took, passed}
 use Rattle.reading_words.proofs.Steps.{script-runs}
 
@@ -45,47 +45,47 @@ runs_as {u = u} h k = h ∙ ap (λ x. (x, u)) k
 
 -- too deep
 module _ {X t : List ℕ} {n : ℕ} {K : List ℕ} (stop sg : Bool) {c : Cursor} (h : 256 ≤ c.depth) (k : c.pos ≤ n) where
-  pub simple-deep : Simple X t n K K stop sg c (nothingAt c)
+  pub simple-deep : Simple X t n K K stop sg c (nothing_at c)
   simple-deep = record {
     moves = record { within = k; on = omega arith; depth = refl; kept = kept_refl K };
     stays = λ h. refl;
-    means = λ I s at. record { answer = none; state = s; runs = ap (λ (f : Stop → Bool → M (Option Node)). f (stopOf stop) sg s) (deep-simple I c.depth h) ∙ ret _ _; at = at; besides = record { some = refl; ends = refl; bar = refl } };
+    means = λ I s at. record { answer = none; state = s; runs = ap (λ (f : Stop → Bool → M (Option Node)). f (stop_of stop) sg s) (deep-simple I c.depth h) ∙ ret _ _; at = at; besides = record { some = refl; ends = refl; bar = refl } };
   }
 
-  pub script-deep : ScriptFunc X t n K K stop sg c (nothingAt c)
+  pub script-deep : ScriptFunc X t n K K stop sg c (nothing_at c)
   script-deep = record {
     moves = record { within = k; on = omega arith; depth = refl; kept = kept_refl K };
     stays = λ h. refl;
-    means = λ I s at. record { answer = none; state = s; runs = ap (λ (f : Stop → Bool → M (Option Node)). f (stopOf stop) sg s) (deep-scriptFunc I c.depth h) ∙ ret _ _; at = at; besides = record { some = refl; ends = refl; bar = refl } };
+    means = λ I s at. record { answer = none; state = s; runs = ap (λ (f : Stop → Bool → M (Option Node)). f (stop_of stop) sg s) (deep-script_func I c.depth h) ∙ ret _ _; at = at; besides = record { some = refl; ends = refl; bar = refl } };
   }
 
 -- a simple expression
 module _ {X t : List ℕ} {n : ℕ} {K : List ℕ} (stop sg : Bool) {c : Cursor} (deep : c.depth < 256) where
-  pub simple-nothing : testAt t K n (beginsKind stop) c.pos ≡ false → c.pos ≤ n → Simple X t n K K stop sg c (nothingAt (seen n c))
-  unfolding nextSimple
+  pub simple-nothing : test_at t K n (begins_kind stop) c.pos ≡ false → c.pos ≤ n → Simple X t n K K stop sg c (nothing_at (seen n c))
+  unfolding next_simple
   simple-nothing h k = record {
     moves = record { within = k; on = omega arith; depth = refl; kept = kept_refl K };
     stays = λ h. refl;
     means = λ I s at.
-        let r = passed (beginsKind stop) at (same-begins stop) h in
-        record { answer = none; state = r.state; runs = ap (λ (f : Stop → Bool → M (Option Node)). f (stopOf stop) sg s) (level-simple I c.depth deep) ∙ bind _ _ s (at_here s) ∙ bind _ _ _ r.runs ∙ ret _ _; at = r.at; besides = record { some = refl; ends = refl; bar = refl } };
+        let r = passed (begins_kind stop) at (same-begins stop) h in
+        record { answer = none; state = r.state; runs = ap (λ (f : Stop → Bool → M (Option Node)). f (stop_of stop) sg s) (level-simple I c.depth deep) ∙ bind _ _ s (at_here s) ∙ bind _ _ _ r.runs ∙ ret _ _; at = r.at; besides = record { some = refl; ends = refl; bar = refl } };
   }
 
-  pub simple-begun : {L : List ℕ} {g : Part} → testAt t K n (beginsKind stop) c.pos ≡ true → Begun X t n K L c.pos stop sg (inner (onward c)) g → Simple X t n K L stop sg c (part_at c.depth g)
-  unfolding nextSimple
+  pub simple-begun : {L : List ℕ} {g : Part} → test_at t K n (begins_kind stop) c.pos ≡ true → Begun X t n K L c.pos stop sg (inner (onward c)) g → Simple X t n K L stop sg c (part_at c.depth g)
+  unfolding next_simple
   simple-begun {L} {g} h p =
       let z : bit g.some ≡ 1 = ap bit p.0 in
       record {
         moves = record { within = p.1.moves.within; on = omega (arith, p.1.moves.on); depth = refl; kept = p.1.moves.kept };
         stays = λ f. no_false (sym p.0 ∙ f);
         means = λ I s at.
-            let r = took (beginsKind stop) at (same-begins stop) h in
+            let r = took (begins_kind stop) at (same-begins stop) h in
             let q = p.1.means I (tick s) (at_tick at) r.0.entry r.0.there in
             record {
               answer = q.answer;
               state = q.state;
-              runs = ap (λ (f : Stop → Bool → M (Option Node)). f (stopOf stop) sg s) (level-simple I c.depth deep) ∙ bind _ _ s (at_here s) ∙ bind _ _ _ r.1
-                  ∙ ap (λ (i : ℕ). begun I.text I.es true (readers (c.depth + 1) I) r.0.entry.token r.0.entry i (stopOf stop) sg (tick s)) (sym at.pos) ∙ q.runs;
+              runs = ap (λ (f : Stop → Bool → M (Option Node)). f (stop_of stop) sg s) (level-simple I c.depth deep) ∙ bind _ _ s (at_here s) ∙ bind _ _ _ r.1
+                  ∙ ap (λ (i : ℕ). begun I.text I.es true (readers (c.depth + 1) I) r.0.entry.token r.0.entry i (stop_of stop) sg (tick s)) (sym at.pos) ∙ q.runs;
               at = q.at;
               besides = record { some = q.besides.some; ends = q.besides.ends; bar = q.besides.bar };
             };
@@ -93,83 +93,83 @@ module _ {X t : List ℕ} {n : ℕ} {K : List ℕ} (stop sg : Bool) {c : Cursor}
 
 -- the scripts
 module _ {X t : List ℕ} {n : ℕ} {K : List ℕ} {c : Cursor} where
-  pub scripts-none : testAt t K n marksKind c.pos ≡ false → c.pos ≤ n → Scripts X t n K K c (record { cur = seen n c; some = false })
-  unfolding nextScript
+  pub scripts-none : test_at t K n marks_kind c.pos ≡ false → c.pos ≤ n → Scripts X t n K K c (record { cur = seen n c; some = false })
+  unfolding next_script
   scripts-none h k = record {
     moves = record { within = k; on = omega arith; depth = refl; kept = kept_refl K };
-    means = λ I s at. let r = passed marksKind at same-marks h in record { answer = (Script.none, end); state = r.state; runs = bind _ _ s r.runs ∙ ret _ _; at = r.at; besides = refl };
+    means = λ I s at. let r = passed marks_kind at same-marks h in record { answer = (Script.none, end); state = r.state; runs = bind _ _ s r.runs ∙ ret _ _; at = r.at; besides = refl };
   }
 
-  module _ {L : List ℕ} {g : Part} (h : testAt t K n marksKind c.pos ≡ true) (p : Simple X t n K L false true (onward c) g) where
-    pub scripts-super : testAt t K n (isKind 1) c.pos ≡ true → Scripts X t n K L c (record { cur = g.cur; some = true })
-    unfolding nextScript argument
+  module _ {L : List ℕ} {g : Part} (h : test_at t K n marks_kind c.pos ≡ true) (p : Simple X t n K L false true (onward c) g) where
+    pub scripts-super : test_at t K n (is_kind 1) c.pos ≡ true → Scripts X t n K L c (record { cur = g.cur; some = true })
+    unfolding next_script argument
     scripts-super k =
-        let b : c.pos < n = test_below t K n marksKind c.pos h in
+        let b : c.pos < n = test_below t K n marks_kind c.pos h in
         record {
           moves = record { within = p.moves.within; on = omega (arith, p.moves.on); depth = p.moves.depth; kept = p.moves.kept };
           means = λ I s at.
-              let r = took marksKind at same-marks h in
+              let r = took marks_kind at same-marks h in
               let q = p.means I (tick s) (at_tick at) in
-              record { answer = (Script.super, orMissing q.answer ▸ end); state = q.state; runs = bind _ _ s r.1 ∙ if-true _ _ _ (kind-is token.Super true r.0.row b k) ∙ bind _ _ _ (bind _ _ _ q.runs ∙ ret _ _) ∙ ret _ _; at = q.at; besides = refl };
+              record { answer = (Script.super, or_missing q.answer ▸ end); state = q.state; runs = bind _ _ s r.1 ∙ if_true _ _ _ (kind-is token.Super true r.0.row b k) ∙ bind _ _ _ (bind _ _ _ q.runs ∙ ret _ _) ∙ ret _ _; at = q.at; besides = refl };
         }
 
-    module _ (k : testAt t K n (isKind 1) c.pos ≡ false) where
-      pub scripts-sub : testAt t L n (isKind 1) g.cur.pos ≡ false → Scripts X t n K L c (record { cur = seen n g.cur; some = true })
-      unfolding nextScript argument
+    module _ (k : test_at t K n (is_kind 1) c.pos ≡ false) where
+      pub scripts-sub : test_at t L n (is_kind 1) g.cur.pos ≡ false → Scripts X t n K L c (record { cur = seen n g.cur; some = true })
+      unfolding next_script argument
       scripts-sub k2 =
-          let b : c.pos < n = test_below t K n marksKind c.pos h in
+          let b : c.pos < n = test_below t K n marks_kind c.pos h in
           record {
             moves = record { within = p.moves.within; on = omega (arith, p.moves.on); depth = p.moves.depth; kept = p.moves.kept };
             means = λ I s at.
-                let r = took marksKind at same-marks h in
+                let r = took marks_kind at same-marks h in
                 let q = p.means I (tick s) (at_tick at) in
-                let u = passed (isKind 1) q.at (same-is token.Super) k2 in
-                record { answer = (Script.sub, orMissing q.answer ▸ end); state = u.state; runs = bind _ _ s r.1 ∙ if-false _ _ _ (kind-is token.Super false r.0.row b k) ∙ bind _ _ _ (bind _ _ _ q.runs ∙ ret _ _) ∙ bind _ _ _ u.runs ∙ ret _ _; at = u.at; besides = refl };
+                let u = passed (is_kind 1) q.at (same-is token.Super) k2 in
+                record { answer = (Script.sub, or_missing q.answer ▸ end); state = u.state; runs = bind _ _ s r.1 ∙ if_false _ _ _ (kind-is token.Super false r.0.row b k) ∙ bind _ _ _ (bind _ _ _ q.runs ∙ ret _ _) ∙ bind _ _ _ u.runs ∙ ret _ _; at = u.at; besides = refl };
           }
 
-      pub scripts-both : {J : List ℕ} {j : Part} → testAt t L n (isKind 1) g.cur.pos ≡ true → Simple X t n L J false true (onward g.cur) j → Scripts X t n K J c (record { cur = j.cur; some = true })
-      unfolding nextScript argument
+      pub scripts-both : {J : List ℕ} {j : Part} → test_at t L n (is_kind 1) g.cur.pos ≡ true → Simple X t n L J false true (onward g.cur) j → Scripts X t n K J c (record { cur = j.cur; some = true })
+      unfolding next_script argument
       scripts-both {J} {j} k2 p2 =
-          let b : c.pos < n = test_below t K n marksKind c.pos h in
-          let b2 : g.cur.pos < n = test_below t L n (isKind 1) g.cur.pos k2 in
+          let b : c.pos < n = test_below t K n marks_kind c.pos h in
+          let b2 : g.cur.pos < n = test_below t L n (is_kind 1) g.cur.pos k2 in
           record {
             moves = record { within = p2.moves.within; on = omega (arith, p.moves.on, p2.moves.on); depth = p2.moves.depth ∙ p.moves.depth; kept = kept_trans p.moves.kept p2.moves.kept };
             means = λ I s at.
-                let r = took marksKind at same-marks h in
+                let r = took marks_kind at same-marks h in
                 let q = p.means I (tick s) (at_tick at) in
-                let u = took (isKind 1) q.at (same-is token.Super) k2 in
+                let u = took (is_kind 1) q.at (same-is token.Super) k2 in
                 let q2 = rw p.moves.depth at (p2.means I (tick q.state) (at_tick q.at)) in
                 record {
-                  answer = (Script.subsuper, orMissing q.answer ▸ orMissing q2.answer ▸ end);
+                  answer = (Script.subsuper, or_missing q.answer ▸ or_missing q2.answer ▸ end);
                   state = q2.state;
-                  runs = bind _ _ s r.1 ∙ if-false _ _ _ (kind-is token.Super false r.0.row b k) ∙ bind _ _ _ (bind _ _ _ q.runs ∙ ret _ _) ∙ bind _ _ _ u.1 ∙ bind _ _ _ (bind _ _ _ q2.runs ∙ ret _ _) ∙ ret _ _;
+                  runs = bind _ _ s r.1 ∙ if_false _ _ _ (kind-is token.Super false r.0.row b k) ∙ bind _ _ _ (bind _ _ _ q.runs ∙ ret _ _) ∙ bind _ _ _ u.1 ∙ bind _ _ _ (bind _ _ _ q2.runs ∙ ret _ _) ∙ ret _ _;
                   at = q2.at;
                   besides = refl;
                 };
           }
 
 -- a simple expression and its scripts
-unscripted-is : (sc : Script) (b : Bool) → cond (scripts sc) false b ≡ (isUnscripted (Head.simple sc) && b)
-unfolding isUnscripted
+unscripted-is : (sc : Script) (b : Bool) → cond (scripts sc) false b ≡ (is_unscripted (Head.simple sc) && b)
+unfolding is_unscripted
 unscripted-is Script.none b = refl
 unscripted-is Script.sub b = refl
 unscripted-is Script.super b = refl
 unscripted-is Script.subsuper b = refl
 
 module _ {X t : List ℕ} {n : ℕ} {K L : List ℕ} (stop sg : Bool) {c : Cursor} {g : Part} (p : Simple X t n K L stop sg c g) where
-  pub term-nothing : g.some ≡ false → Term X t n K L stop sg c g
-  term-nothing h = record {
+  pub term_nothing : g.some ≡ false → Term X t n K L stop sg c g
+  term_nothing h = record {
     moves = p.moves;
     stays = p.stays;
     means = λ I s at.
         let q = p.means I s at in
         let z = lack q.answer (sym h ∙ q.besides.some) in
-        record { answer = none; state = q.state; runs = bind _ _ s (runs_as q.runs z) ∙ ret _ _; at = q.at; besides = record { some = h; ends = q.besides.ends ∙ ap endsOf z; bar = q.besides.bar ∙ ap (barOf I) z } };
+        record { answer = none; state = q.state; runs = bind _ _ s (runs_as q.runs z) ∙ ret _ _; at = q.at; besides = record { some = h; ends = q.besides.ends ∙ ap ends_of z; bar = q.besides.bar ∙ ap (bar_of I) z } };
   }
 
-  pub term-scripted : {J : List ℕ} {m : code.Scripted} → g.some ≡ true → Scripts X t n L J g.cur m → Term X t n K J stop sg c (record { cur = m.cur; some = true; ends = g.ends; bar = cond m.some false g.bar })
-  unfolding endsOperand look endsFirst
-  term-scripted {J} {m} h p2 =
+  pub term_scripted : {J : List ℕ} {m : code.Scripted} → g.some ≡ true → Scripts X t n L J g.cur m → Term X t n K J stop sg c (record { cur = m.cur; some = true; ends = g.ends; bar = cond m.some false g.bar })
+  unfolding ends_operand look ends_first
+  term_scripted {J} {m} h p2 =
       let w : bit g.some ≡ 1 = ap bit h in
       record {
         moves = record { within = p2.moves.within; on = omega (arith, p.moves.on, p2.moves.on); depth = p2.moves.depth ∙ p.moves.depth; kept = kept_trans p.moves.kept p2.moves.kept };
@@ -183,92 +183,92 @@ module _ {X t : List ℕ} {n : ℕ} {K L : List ℕ} (stop sg : Bool) {c : Curso
               state = q2.state;
               runs = bind _ _ s (runs_as q.runs z.is) ∙ bind _ _ _ q2.runs ∙ ret _ _;
               at = q2.at;
-              besides = record { some = refl; ends = q.besides.ends ∙ ap endsOf z.is; bar = ap (λ (b : Bool). cond b false g.bar) q2.besides ∙ ap (cond (scripts q2.answer.0) false) (q.besides.bar ∙ ap (barOf I) z.is) ∙ unscripted-is q2.answer.0 _ };
+              besides = record { some = refl; ends = q.besides.ends ∙ ap ends_of z.is; bar = ap (λ (b : Bool). cond b false g.bar) q2.besides ∙ ap (cond (scripts q2.answer.0) false) (q.besides.bar ∙ ap (bar_of I) z.is) ∙ unscripted-is q2.answer.0 _ };
             };
       }
 
 module _ {X t : List ℕ} {n : ℕ} {K L : List ℕ} (stop sg : Bool) {c : Cursor} (deep : c.depth < 256) where
-  pub script-term : {g : Part} → testAt t K n (headsKind sg) c.pos ≡ false → Term X t n K L stop sg (inner (seen n c)) g → ScriptFunc X t n K L stop sg c (part_at c.depth g)
-  unfolding nextScriptFunc
+  pub script-term : {g : Part} → test_at t K n (heads_kind sg) c.pos ≡ false → Term X t n K L stop sg (inner (seen n c)) g → ScriptFunc X t n K L stop sg c (part_at c.depth g)
+  unfolding next_script_func
   script-term {g} h p = record {
     moves = record { within = p.moves.within; on = p.moves.on; depth = refl; kept = p.moves.kept };
     stays = p.stays;
     means = λ I s at.
-        let r = passed (headsKind sg) at (same-heads sg) h in
+        let r = passed (heads_kind sg) at (same-heads sg) h in
         let q = p.means I r.state r.at in
         record { answer = q.answer; state = q.state; runs = script-runs c.depth stop sg deep I s (bind _ _ s r.runs ∙ q.runs); at = q.at; besides = record { some = q.besides.some; ends = q.besides.ends; bar = q.besides.bar } };
   }
 
-  pub script-headed : {d : Cursor} → testAt t K n (headsKind sg) c.pos ≡ true → Headed X t n K L c.pos stop (inner (onward c)) d → ScriptFunc X t n K L stop sg c (operationAt (atDepth c.depth d))
-  unfolding nextScriptFunc
+  pub script-headed : {d : Cursor} → test_at t K n (heads_kind sg) c.pos ≡ true → Headed X t n K L c.pos stop (inner (onward c)) d → ScriptFunc X t n K L stop sg c (operation_at (at_depth c.depth d))
+  unfolding next_script_func
   script-headed {d} h p = record {
     moves = record { within = p.moves.within; on = omega (arith, p.moves.on); depth = refl; kept = p.moves.kept };
     stays = λ f. no_false f;
     means = λ I s at.
-        let r = took (headsKind sg) at (same-heads sg) h in
+        let r = took (heads_kind sg) at (same-heads sg) h in
         let q = p.means I (tick s) (at_tick at) r.0.entry r.0.there in
         record { answer = q.answer; state = q.state; runs = script-runs c.depth stop sg deep I s (bind _ _ s r.1 ∙ q.runs); at = q.at; besides = record { some = q.besides.0; ends = q.besides.1; bar = q.besides.2 } };
   }
 
 -- what a head has behind it
-line-func : (I : Input) (en : Entry) (sc : Script) (l : Nodes) → false ≡ linePart I (node (Head.func en.span sc) l)
-unfolding isUnscripted
+line-func : (I : Input) (en : Entry) (sc : Script) (l : Nodes) → false ≡ line_part I (node (Head.func en.span sc) l)
+unfolding is_unscripted
 line-func I en sc end = refl
 line-func I en sc (x ▸ l) = refl
 
 module _ {X t : List ℕ} {n : ℕ} {K L : List ℕ} (i : ℕ) (stop : Bool) {c : Cursor} (inside : i < n) where
-  pub headed-func : {J : List ℕ} {g : code.Scripted} {j : Part} → testAt t K n (isKind 17) i ≡ true → Scripts X t n K L c g → ScriptFunc X t n L J false true g.cur j → Headed X t n K J i stop c j.cur
-  unfolding endsOperand look
+  pub headed-func : {J : List ℕ} {g : code.Scripted} {j : Part} → test_at t K n (is_kind 17) i ≡ true → Scripts X t n K L c g → ScriptFunc X t n L J false true g.cur j → Headed X t n K J i stop c j.cur
+  unfolding ends_operand look
   headed-func {J} {g} {j} h p p2 = record {
     moves = record { within = p2.moves.within; on = omega (arith, p.moves.on, p2.moves.on); depth = p2.moves.depth ∙ p.moves.depth; kept = kept_trans p.moves.kept p2.moves.kept };
     means = λ I s at en there.
         let q = p.means I s at in
         let q2 = rw p.moves.depth at (p2.means I q.state q.at) in
         record {
-          answer = some (node (Head.func en.span q.answer.0) (q.answer.1 ⧺ (orMissingPart q2.answer ▸ end)));
+          answer = some (node (Head.func en.span q.answer.0) (q.answer.1 ⧺ (or_missing_part q2.answer ▸ end)));
           state = q2.state;
-          runs = if-true _ _ _ (kind-is token.Function true (row_of at.given inside there) inside h) ∙ bind _ _ s q.runs ∙ bind _ _ _ q2.runs ∙ ret _ _;
+          runs = if_true _ _ _ (kind-is token.Function true (row_of at.given inside there) inside h) ∙ bind _ _ s q.runs ∙ bind _ _ _ q2.runs ∙ ret _ _;
           at = q2.at;
-          besides = (refl, refl, line-func I en q.answer.0 (q.answer.1 ⧺ (orMissingPart q2.answer ▸ end)));
+          besides = (refl, refl, line-func I en q.answer.0 (q.answer.1 ⧺ (or_missing_part q2.answer ▸ end)));
         };
   }
 
-  pub headed-sign : {j : Part} → testAt t K n (isKind 17) i ≡ false → ScriptFunc X t n K L stop true c j → Headed X t n K L i stop c j.cur
-  unfolding endsOperand look isUnscripted
+  pub headed-sign : {j : Part} → test_at t K n (is_kind 17) i ≡ false → ScriptFunc X t n K L stop true c j → Headed X t n K L i stop c j.cur
+  unfolding ends_operand look is_unscripted
   headed-sign {j} h p = record {
     moves = record { within = p.moves.within; on = omega (arith, p.moves.on); depth = p.moves.depth; kept = p.moves.kept };
     means = λ I s at en there.
         let q = p.means I s at in
         record {
-          answer = some (one (Head.prefix Prefix.signed en.span) (orMissingPart q.answer));
+          answer = some (one (Head.prefix Prefix.signed en.span) (or_missing_part q.answer));
           state = q.state;
-          runs = if-false _ _ _ (kind-is token.Function false (row_of at.given inside there) inside h) ∙ bind _ _ s q.runs ∙ ret _ _;
+          runs = if_false _ _ _ (kind-is token.Function false (row_of at.given inside there) inside h) ∙ bind _ _ s q.runs ∙ ret _ _;
           at = q.at;
           besides = (refl, refl, refl);
         };
   }
 
 -- items
-ends-part : (a : Option Node) → endsOf a ≡ endsOperand (orMissingPart a)
-unfolding endsOperand look endsFirst
+ends-part : (a : Option Node) → ends_of a ≡ ends_operand (or_missing_part a)
+unfolding ends_operand look ends_first
 ends-part none = refl
 ends-part (some x) = refl
 
 module _ {X t : List ℕ} {n : ℕ} {K L : List ℕ} (stop sg : Bool) {c : Cursor} {g : Part} (p : ScriptFunc X t n K L stop sg c g) where
   pub item-nothing : g.some ≡ false → Intermediate X t n K L stop sg c g
-  unfolding nextIntermediate
+  unfolding next_intermediate
   item-nothing h = record {
     moves = p.moves;
     stays = p.stays;
     means = λ I s at.
         let q = p.means I s at in
         let z = lack q.answer (sym h ∙ q.besides.some) in
-        record { answer = none; state = q.state; runs = bind _ _ s (runs_as q.runs z) ∙ ret _ _; at = q.at; besides = record { some = h; ends = q.besides.ends ∙ ap endsOf z; bar = q.besides.bar ∙ ap (line_of I) z } };
+        record { answer = none; state = q.state; runs = bind _ _ s (runs_as q.runs z) ∙ ret _ _; at = q.at; besides = record { some = h; ends = q.besides.ends ∙ ap ends_of z; bar = q.besides.bar ∙ ap (line_of I) z } };
   }
 
   module _ (h : g.some ≡ true) where
-    pub item-plain : testAt t L n (isKind 0) g.cur.pos ≡ false → Intermediate X t n K L stop sg c (record { cur = seen n g.cur; some = true; ends = g.ends; bar = g.bar })
-    unfolding nextIntermediate
+    pub item-plain : test_at t L n (is_kind 0) g.cur.pos ≡ false → Intermediate X t n K L stop sg c (record { cur = seen n g.cur; some = true; ends = g.ends; bar = g.bar })
+    unfolding next_intermediate
     item-plain k =
         let w : bit g.some ≡ 1 = ap bit h in
         record {
@@ -277,12 +277,12 @@ module _ {X t : List ℕ} {n : ℕ} {K L : List ℕ} (stop sg : Bool) {c : Curso
           means = λ I s at.
               let q = p.means I s at in
               let z = got q.answer (sym h ∙ q.besides.some) in
-              let r = passed (isKind 0) q.at (same-is token.Frac) k in
-              record { answer = some z.node; state = r.state; runs = bind _ _ s (runs_as q.runs z.is) ∙ bind _ _ _ r.runs ∙ ret _ _; at = r.at; besides = record { some = refl; ends = q.besides.ends ∙ ap endsOf z.is; bar = q.besides.bar ∙ ap (line_of I) z.is } };
+              let r = passed (is_kind 0) q.at (same-is token.Frac) k in
+              record { answer = some z.node; state = r.state; runs = bind _ _ s (runs_as q.runs z.is) ∙ bind _ _ _ r.runs ∙ ret _ _; at = r.at; besides = record { some = refl; ends = q.besides.ends ∙ ap ends_of z.is; bar = q.besides.bar ∙ ap (line_of I) z.is } };
         }
 
-    pub item-over : {J : List ℕ} {j : Part} → testAt t L n (isKind 0) g.cur.pos ≡ true → ScriptFunc X t n L J false true (onward g.cur) j → Intermediate X t n K J stop sg c (record { cur = j.cur; some = true; ends = j.ends; bar = false })
-    unfolding nextIntermediate endsOperand look endsFirst endsSecond isUnscripted
+    pub item-over : {J : List ℕ} {j : Part} → test_at t L n (is_kind 0) g.cur.pos ≡ true → ScriptFunc X t n L J false true (onward g.cur) j → Intermediate X t n K J stop sg c (record { cur = j.cur; some = true; ends = j.ends; bar = false })
+    unfolding next_intermediate ends_operand look ends_first ends_second is_unscripted
     item-over {J} {j} k p2 =
         let w : bit g.some ≡ 1 = ap bit h in
         record {
@@ -291,10 +291,10 @@ module _ {X t : List ℕ} {n : ℕ} {K L : List ℕ} (stop sg : Bool) {c : Curso
           means = λ I s at.
               let q = p.means I s at in
               let z = got q.answer (sym h ∙ q.besides.some) in
-              let r = took (isKind 0) q.at (same-is token.Frac) k in
+              let r = took (is_kind 0) q.at (same-is token.Frac) k in
               let q2 = rw p.moves.depth at (p2.means I (tick q.state) (at_tick q.at)) in
               record {
-                answer = some (node Head.frac (z.node ▸ orMissingPart q2.answer ▸ end));
+                answer = some (node Head.frac (z.node ▸ or_missing_part q2.answer ▸ end));
                 state = q2.state;
                 runs = bind _ _ s (runs_as q.runs z.is) ∙ bind _ _ _ r.1 ∙ bind _ _ _ q2.runs ∙ ret _ _;
                 at = q2.at;

@@ -4,18 +4,18 @@ use Rattle.std.proofs.Math.Option.{Option, none, some}
 use Rattle.std.proofs.Math.ListN.{get_elem?}
 use Rattle.tree.specs.Tree.{Nodes, count}
 use Rattle.reading.specs.Entries.{Entry}
-use Rattle.reading.specs.Reading.{State, M, Row, Rows, keptCols, lineCells}
+use Rattle.reading.specs.Reading.{State, M, Row, Rows, kept_cols, line_cells}
 use Rattle.closers_pass.specs.declared.cursor.Cursor.{Cursor}
 use Rattle.closers_pass.specs.declared.cursor.Cells.{Cells}
 use Rattle.closers_pass.specs.declared.cursor.Others as code
 use Rattle.closers_pass.specs.declared.cursor.Rows as rows
-use Rattle.reading_words.specs.Meet.{Input, cellsAt, row_at, more_at, rows_at, First}
+use Rattle.reading_words.specs.Meet.{Input, cells_at, row_at, more_at, rows_at, First}
 use Rattle.closers_pass.specs.Meet.{At, Each, Moves}
 
 -- the cells of a row, and how many are no lines
 pub record Counts (I : Input) (count' kept : ℕ) (l : Nodes) : Type 0 where
   pub number : count' ≡ count l
-  pub kept' : kept ≡ keptCols (lineCells I.text I.es l)
+  pub kept' : kept ≡ kept_cols (line_cells I.text I.es l)
 
 -- the rows behind the first
 abbrev pub Behind : Bool → List Nodes → Type 0
@@ -46,8 +46,8 @@ module _ (X t : List ℕ) (n : ℕ) where
     pub last : d.pos ≡ q + 1
 
   abbrev pub RowCells' : List ℕ → List ℕ → Cursor → ℕ → ℕ → ℕ → Cursor → Bool → Type 0
-  RowCells' K L c q k j d true = Ended k q d × Each X t n K c (λ I s. HasCells L (cellsAt c.depth I) I s q k j d)
-  RowCells' K L c q k j d false = Each X t n K c (λ I s. Fails L (cellsAt c.depth I) I s d)
+  RowCells' K L c q k j d true = Ended k q d × Each X t n K c (λ I s. HasCells L (cells_at c.depth I) I s q k j d)
+  RowCells' K L c q k j d false = Each X t n K c (λ I s. Fails L (cells_at c.depth I) I s d)
 
   abbrev pub RowCells : List ℕ → List ℕ → Cursor → Cells → Type 0
   RowCells K L c g = Moves 0 n K L c g.cur × RowCells' K L c g.right g.count g.kept g.cur g.shut

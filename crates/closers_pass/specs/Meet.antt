@@ -5,22 +5,22 @@ use Rattle.std.proofs.Math.Option.{Option, none, some}
 use Rattle.std.proofs.Math.ListN.{get_elem?}
 use Rattle.tree.specs.Tree.{Script, Head, Node, node, Nodes, end, ◌▸◌}
 use Rattle.reading.specs.Entries.{Entry}
-use Rattle.reading.specs.Reading.{State, M, Scripted, nextOpenGroup, tryMatrix, begun, endsOperand, prefixes, isBarSymbol, isUnscripted, isColumnLine}
+use Rattle.reading.specs.Reading.{State, M, Scripted, next_open_group, try_matrix, begun, ends_operand, prefixes, is_bar_symbol, is_unscripted, is_column_line}
 use Rattle.closers_pass.specs.declared.cursor.Cursor.{Cursor}
 use Rattle.closers_pass.specs.declared.cursor.Part.{Part}
 use Rattle.closers_pass.specs.declared.cursor.Scripted as code
 use Rattle.closers_pass.specs.declared.cursor.Items.{Items}
 use Rattle.closers_pass.specs.declared.cursor.Tried.{Tried}
-use Rattle.records.specs.Record.{recordWords, closerOf, kind_of, Kept}
+use Rattle.records.specs.Record.{record_words, closer_of, kind_of, Kept}
 use Rattle.lookahead.specs.Takes.{taken, looked}
-use Rattle.leaves.specs.Leaves.{leafEnds, leafBar}
-use Rattle.brackets.specs.Brackets.{barAt}
+use Rattle.leaves.specs.Leaves.{leaf_ends, leaf_bar}
+use Rattle.brackets.specs.Brackets.{bar_at}
 use Rattle.tokens.specs.Refusals.{bit}
-use Rattle.reading_words.specs.Meet.{Input, stopOf, Given, Marks, readers, lastAfter, is_none, Until, simpleAt, scriptFuncAt, intermediateAt, scriptAt, itemsFrom, termAt, headedAt, barsAt, bracketAt}
+use Rattle.reading_words.specs.Meet.{Input, stop_of, Given, Marks, readers, last_after, is_none, Until, simple_at, script_func_at, intermediate_at, script_at, items_from, term_at, headed_at, bars_at, bracket_at}
 
 -- The closers in the work words are these.
 pub record Noted (n : ℕ) (K c : List ℕ) : Type 0 where
-  pub words : (i : ℕ) → i < n → closerOf K i ≡ n - get_or c i n
+  pub words : (i : ℕ) → i < n → closer_of K i ≡ n - get_or c i n
 
 -- The closers so far: none behind the position p.
 pub record Closed (n p : ℕ) (c : List ℕ) : Type 0 where
@@ -40,7 +40,7 @@ pub record At (X t : List ℕ) (n : ℕ) (K : List ℕ) (p u : ℕ) (I : Input) 
 -- What each call needs.
 pub record Ready (n : ℕ) (K : List ℕ) (c : Cursor) : Type 0 where
   pub few : n ≤ 4096
-  pub fit : recordWords n ≤ length K
+  pub fit : record_words n ≤ length K
   pub here : c.pos ≤ n
 
 -- The numbers of an answer: from c to d, `gain` tokens on at least.
@@ -56,31 +56,31 @@ abbrev pub is_some : Option Node → Bool
 is_some none = false
 is_some (some x) = true
 
-abbrev pub endsOf : Option Node → Bool
-endsOf none = false
-endsOf (some x) = endsOperand x
+abbrev pub ends_of : Option Node → Bool
+ends_of none = false
+ends_of (some x) = ends_operand x
 
-abbrev pub barOf : Input → Option Node → Bool
-barOf I none = false
-barOf I (some x) = isBarSymbol I.text I.es x
+abbrev pub bar_of : Input → Option Node → Bool
+bar_of I none = false
+bar_of I (some x) = is_bar_symbol I.text I.es x
 
-abbrev pub linePart : Input → Node → Bool
-linePart I (node h end) = false
-linePart I (node h (x ▸ l)) = isUnscripted h && isBarSymbol I.text I.es x
+abbrev pub line_part : Input → Node → Bool
+line_part I (node h end) = false
+line_part I (node h (x ▸ l)) = is_unscripted h && is_bar_symbol I.text I.es x
 
 abbrev pub line_of : Input → Option Node → Bool
 line_of I none = false
-line_of I (some x) = linePart I x
+line_of I (some x) = line_part I x
 
 pub record Says (bars : Option Node → Bool) (g : Part) (a : Option Node) : Type 0 where
   pub some : g.some ≡ is_some a
-  pub ends : g.ends ≡ endsOf a
+  pub ends : g.ends ≡ ends_of a
   pub bar : g.bar ≡ bars a
 
 -- there is an item
-abbrev pub isMore : Nodes → Bool
-isMore end = false
-isMore (x ▸ l) = true
+abbrev pub is_more : Nodes → Bool
+is_more end = false
+is_more (x ▸ l) = true
 
 -- there is a script
 abbrev pub scripts : Script → Bool
@@ -122,58 +122,58 @@ module _ (X t : List ℕ) (n : ℕ) where
 
   -- The readers' contracts.
   abbrev pub Simple : List ℕ → List ℕ → Bool → Bool → Cursor → Part → Type 0
-  Simple K L stop sg c g = Found K L (simpleAt c.depth stop sg) barOf c g
+  Simple K L stop sg c g = Found K L (simple_at c.depth stop sg) bar_of c g
 
   abbrev pub ScriptFunc : List ℕ → List ℕ → Bool → Bool → Cursor → Part → Type 0
-  ScriptFunc K L stop sg c g = Found K L (scriptFuncAt c.depth stop sg) line_of c g
+  ScriptFunc K L stop sg c g = Found K L (script_func_at c.depth stop sg) line_of c g
 
   abbrev pub Term : List ℕ → List ℕ → Bool → Bool → Cursor → Part → Type 0
-  Term K L stop sg c g = Found K L (termAt c.depth stop sg) line_of c g
+  Term K L stop sg c g = Found K L (term_at c.depth stop sg) line_of c g
 
   abbrev pub Intermediate : List ℕ → List ℕ → Bool → Bool → Cursor → Part → Type 0
-  Intermediate K L stop sg c g = Found K L (intermediateAt c.depth stop sg) line_of c g
+  Intermediate K L stop sg c g = Found K L (intermediate_at c.depth stop sg) line_of c g
 
   abbrev pub Scripts : List ℕ → List ℕ → Cursor → code.Scripted → Type 0
-  Scripts K L c g = Gave K L 0 (scriptAt c.depth) (λ I q. g.some ≡ scripts q.0) c g.cur
+  Scripts K L c g = Gave K L 0 (script_at c.depth) (λ I q. g.some ≡ scripts q.0) c g.cur
 
   -- The items behind the item `before`, if there is one, in turns enough: the code knows of it whether it is there, and whether a
   -- sign behind it prefixes.
   pub record Listed (I : Input) (before : Option Node) (g : Items) (l : Nodes) : Type 0 where
-    pub some : g.some ≡ isMore l
-    pub line : is_none before ≡ true → g.line ≡ isColumnLine I.text I.es (node Head.cell l)
-    pub sign : g.sign ≡ prefixes (lastAfter before l)
+    pub some : g.some ≡ is_more l
+    pub line : is_none before ≡ true → g.line ≡ is_column_line I.text I.es (node Head.cell l)
+    pub sign : g.sign ≡ prefixes (last_after before l)
 
   pub record Intermediates (K L : List ℕ) (u : ℕ) (stop first sign : Bool) (c : Cursor) (g : Items) : Type 0 where
     pub moves : Moves 0 n K L c g.cur
-    pub met : g.some ≡ true → g.met ≡ barAt X t L n u g.cur.pos
-    pub means : Each K c (λ I s. (f : ℕ) → n - c.pos ≤ f → (until : Option Entry) → Until n I u until → (before : Option Node) → first ≡ is_none before → sign ≡ prefixes before → Gives L (itemsFrom c.depth f until stop before I) (Listed I before g) I s g.cur)
+    pub met : g.some ≡ true → g.met ≡ bar_at X t L n u g.cur.pos
+    pub means : Each K c (λ I s. (f : ℕ) → n - c.pos ≤ f → (until : Option Entry) → Until n I u until → (before : Option Node) → first ≡ is_none before → sign ≡ prefixes before → Gives L (items_from c.depth f until stop before I) (Listed I before g) I s g.cur)
 
   abbrev pub Headed : List ℕ → List ℕ → ℕ → Bool → Cursor → Cursor → Type 0
-  Headed K L i stop c d = Began K L i (headedAt c.depth stop) (λ I a. (true ≡ is_some a) × (true ≡ endsOf a) × (false ≡ line_of I a)) c d
+  Headed K L i stop c d = Began K L i (headed_at c.depth stop) (λ I a. (true ≡ is_some a) × (true ≡ ends_of a) × (false ≡ line_of I a)) c d
 
   abbrev pub Begun : List ℕ → List ℕ → ℕ → Bool → Bool → Cursor → Part → Type 0
-  Begun K L i stop sg c g = (g.some ≡ true) × Began K L i (λ I en. begun I.text I.es true (readers c.depth I) en.token en i (stopOf stop) sg) (λ I. Says (barOf I) g) c g.cur
+  Begun K L i stop sg c g = (g.some ≡ true) × Began K L i (λ I en. begun I.text I.es true (readers c.depth I) en.token en i (stop_of stop) sg) (λ I. Says (bar_of I) g) c g.cur
 
   -- a group, a matrix or a bar
   pub record Bracketed (I : Input) (g : Part) (x : Node) : Type 0 where
-    pub ends : g.ends ≡ endsOperand x
-    pub bar : g.bar ≡ isBarSymbol I.text I.es x
+    pub ends : g.ends ≡ ends_operand x
+    pub bar : g.bar ≡ is_bar_symbol I.text I.es x
 
   pub record Grouped (I : Input) (x : Node) : Type 0 where
-    pub ends : true ≡ endsOperand x
-    pub bar : false ≡ isBarSymbol I.text I.es x
+    pub ends : true ≡ ends_operand x
+    pub bar : false ≡ is_bar_symbol I.text I.es x
 
   abbrev pub OpenGroup : List ℕ → List ℕ → ℕ → Cursor → Cursor → Type 0
-  OpenGroup K L i c d = Began K L i (λ I en. nextOpenGroup I.text I.es true (readers c.depth I) en i) Grouped c d
+  OpenGroup K L i c d = Began K L i (λ I en. next_open_group I.text I.es true (readers c.depth I) en i) Grouped c d
 
   abbrev pub Bracket : List ℕ → List ℕ → ℕ → ℕ → Bool → Cursor → Part → Type 0
-  Bracket K L i k stop c g = (g.some ≡ true) × Began K L i (bracketAt (eqb k 20) c.depth stop i) (λ I. Bracketed I g) c g.cur
+  Bracket K L i k stop c g = (g.some ≡ true) × Began K L i (bracket_at (eqb k 20) c.depth stop i) (λ I. Bracketed I g) c g.cur
 
   abbrev pub TryMatrix : List ℕ → List ℕ → ℕ → Cursor → Tried → Type 0
-  TryMatrix K L i c g = Began K L i (λ I en. tryMatrix I.text I.es true (readers c.depth I) en i) (λ I a. (g.made ≡ is_some a) × ((x : Node) → a ≡ some x → Grouped I x)) c g.cur
+  TryMatrix K L i c g = Began K L i (λ I en. try_matrix I.text I.es true (readers c.depth I) en i) (λ I a. (g.made ≡ is_some a) × ((x : Node) → a ≡ some x → Grouped I x)) c g.cur
 
   abbrev pub Bars : List ℕ → List ℕ → ℕ → Bool → Cursor → Part → Type 0
-  Bars K L i stop c g = (g.some ≡ true) × Began K L i (barsAt c.depth stop i) (λ I. Bracketed I g) c g.cur
+  Bars K L i stop c g = (g.some ≡ true) × Began K L i (bars_at c.depth stop i) (λ I. Bracketed I g) c g.cur
 
 -- The cursor's moves.
 abbrev pub onward : Cursor → Cursor
@@ -188,28 +188,28 @@ passing n c = cond (ltb c.pos n) (onward c) c
 abbrev pub inner : Cursor → Cursor
 inner c = record { pos = c.pos; depth = c.depth + 1; takes = c.takes }
 
-abbrev pub atDepth : ℕ → Cursor → Cursor
-atDepth d c = record { pos = c.pos; depth = d; takes = c.takes }
+abbrev pub at_depth : ℕ → Cursor → Cursor
+at_depth d c = record { pos = c.pos; depth = d; takes = c.takes }
 
 abbrev pub rewound : ℕ → Cursor → Cursor
 rewound p c = record { pos = p; depth = c.depth; takes = c.takes }
 
 -- Answers.
-abbrev pub nothingAt : Cursor → Part
-nothingAt c = record { cur = c; some = false; ends = false; bar = false }
+abbrev pub nothing_at : Cursor → Part
+nothing_at c = record { cur = c; some = false; ends = false; bar = false }
 
-abbrev pub operationAt : Cursor → Part
-operationAt c = record { cur = c; some = true; ends = true; bar = false }
+abbrev pub operation_at : Cursor → Part
+operation_at c = record { cur = c; some = true; ends = true; bar = false }
 
 abbrev pub part_at : ℕ → Part → Part
-part_at d g = record { cur = atDepth d g.cur; some = g.some; ends = g.ends; bar = g.bar }
+part_at d g = record { cur = at_depth d g.cur; some = g.some; ends = g.ends; bar = g.bar }
 
 -- an item that is the leaf at the cursor alone
-abbrev pub plainPart : List ℕ → List ℕ → List ℕ → ℕ → Cursor → Part
-plainPart X t K n c =
+abbrev pub plain_part : List ℕ → List ℕ → List ℕ → ℕ → Cursor → Part
+plain_part X t K n c =
     record {
       cur = seen n (seen n (onward (seen n c)));
       some = true;
-      ends = leafEnds (kind_of t K c.pos);
-      bar = leafBar X t K c.pos (kind_of t K c.pos);
+      ends = leaf_ends (kind_of t K c.pos);
+      bar = leaf_bar X t K c.pos (kind_of t K c.pos);
     }

@@ -1,6 +1,6 @@
 -- The whole reading by the bracket pass: its takes, marks and closers.
 use Rattle.std.specs.Prelude.{ℕ, ◌*◌, ◌%◌, ◌^◌, ◌≡◌, List, true, false, replicate}
-use Rattle.reading.specs.Reading.{State, parseEntries}
+use Rattle.reading.specs.Reading.{State, parse_entries}
 use Rattle.records.specs.Record.{Kept}
 use Rattle.reading_words.specs.Meet.{Input, Given, Marks}
 use Rattle.closers_pass.specs.Meet.{Noted}
@@ -19,4 +19,4 @@ pub record Passed (n : ℕ) (L : List ℕ) (takes : ℕ) (r : State) : Type 0 wh
 -- The pass over n records: of any input that they stand for it leaves the whole reading's marks and closers.
 pub record Paired (X t : List ℕ) (n : ℕ) (K L : List ℕ) (takes : ℕ) : Type 0 where
   pub kept : Kept K L
-  pub means : (I : Input) → Given X t n K I → Blank n K → Passed n L takes (parseEntries I.text I.es true).1
+  pub means : (I : Input) → Given X t n K I → Blank n K → Passed n L takes (parse_entries I.text I.es true).1

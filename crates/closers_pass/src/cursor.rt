@@ -1,6 +1,6 @@
 // Where a reader stands, and what readers answer.
 ghost use Rattle.std.specs.Prelude.{◌≡◌, true, false, ◌≤◌, ◌<◌};
-ghost use Rattle.closers_pass.specs.Meet.{onward, seen, passing, inner, atDepth, rewound, nothingAt, operationAt, part_at};
+ghost use Rattle.closers_pass.specs.Meet.{onward, seen, passing, inner, at_depth, rewound, nothing_at, operation_at, part_at};
 
 use lookahead::takes::{count_look, count_take};
 
@@ -62,7 +62,7 @@ impl Cursor {
 
     // Back in the reader of that depth.
     pub(crate) fn at_depth(self, depth: u16) -> Cursor
-        ensures { result ≡ atDepth depth self }
+        ensures { result ≡ at_depth depth self }
     {
         Cursor {
             pos: self.pos,
@@ -94,7 +94,7 @@ pub(crate) struct Part {
 
 // None was there.
 pub(crate) fn nothing(c: Cursor) -> Part
-    ensures { result ≡ nothingAt c }
+    ensures { result ≡ nothing_at c }
 {
     Part {
         cur: c,
@@ -106,7 +106,7 @@ pub(crate) fn nothing(c: Cursor) -> Part
 
 // An operation with its arguments, or a group.
 pub(crate) fn operation(c: Cursor) -> Part
-    ensures { result ≡ operationAt c }
+    ensures { result ≡ operation_at c }
 {
     Part {
         cur: c,

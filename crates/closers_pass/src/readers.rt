@@ -1,7 +1,7 @@
 // The readers of the Rust's parse.rs, without a tree. They call one another back; 256 less the cursor's depth falls.
 ghost use Rattle.std.specs.Prelude.{◌≡◌, true, false, ◌<◌};
 ghost use Rattle.records.specs.Record.{kind_of};
-ghost use Rattle.lookahead.specs.Tests.{testAt, beginsKind, opening};
+ghost use Rattle.lookahead.specs.Tests.{test_at, begins_kind, opening};
 ghost use Rattle.closers_pass.specs.Meet.{Ready, Simple, ScriptFunc, Intermediate, Scripts, Intermediates, Headed, Begun, OpenGroup, Bracket, TryMatrix, Bars, Term};
 ghost use Rattle.closers_pass.specs.Matrix.{RowCells, MatrixRow, MoreRows, MatrixRows};
 
@@ -502,7 +502,7 @@ fn other(
     k: u32,
 ) -> Part
     requires ready { Ready n work.old c }
-    requires i_value { testAt tok.now work.old n (beginsKind stop) i ≡ true }
+    requires i_value { test_at tok.now work.old n (begins_kind stop) i ≡ true }
     requires i_lt_pos { i < c.pos }
     requires k_value { k ≡ kind_of tok.now work.old i }
     requires k_value_2 { opening k ≡ false }
@@ -536,7 +536,7 @@ fn begun(
     i: usize,
 ) -> Part
     requires ready { Ready n work.old c }
-    requires i_value { testAt tok.now work.old n (beginsKind stop) i ≡ true }
+    requires i_value { test_at tok.now work.old n (begins_kind stop) i ≡ true }
     requires i_lt_pos { i < c.pos }
     ensures { Begun text.now tok.now n work.old work.new i stop sign c result }
 {

@@ -1,7 +1,7 @@
 // Small choices of the readers.
 ghost use Rattle.std.specs.Prelude.{◌≡◌, true, false, cond, ◌≤◌, ◌<◌, ◌+◌};
-ghost use Rattle.leaves.specs.Leaves.{leafEnds, leafBar};
-ghost use Rattle.closers_pass.specs.Meet.{seen, nothingAt, plainPart};
+ghost use Rattle.leaves.specs.Leaves.{leaf_ends, leaf_bar};
+ghost use Rattle.closers_pass.specs.Meet.{seen, nothing_at, plain_part};
 
 use crate::cursor::{Cursor, Part, nothing};
 use leaves::{leaf_bar, leaf_ends};
@@ -23,7 +23,7 @@ pub(crate) fn unless(a: bool, b: bool) -> bool
 
 // The leaf of the entry i, of kind k.
 pub(crate) fn leaf(text: &[u8], tok: &[u32], work: &[u32], c: Cursor, i: usize, k: u32) -> Part
-    ensures { result ≡ record { cur = c; some = true; ends = leafEnds k; bar = leafBar text.now tok.now work.now i k } }
+    ensures { result ≡ record { cur = c; some = true; ends = leaf_ends k; bar = leaf_bar text.now tok.now work.now i k } }
 {
     Part {
         cur: c,
@@ -37,7 +37,7 @@ pub(crate) fn leaf(text: &[u8], tok: &[u32], work: &[u32], c: Cursor, i: usize, 
 // the leaf, and look for a script and for a fraction.
 pub(crate) fn plain_item(text: &[u8], tok: &[u32], work: &[u32], n: usize, c: Cursor) -> Part
     requires { c.pos < 4096 }
-    ensures { result ≡ plainPart text.now tok.now work.now n c }
+    ensures { result ≡ plain_part text.now tok.now work.now n c }
 {
     let i = c.pos as usize;
     leaf(
@@ -52,7 +52,7 @@ pub(crate) fn plain_item(text: &[u8], tok: &[u32], work: &[u32], n: usize, c: Cu
 
 // No item, after the two looks of the readers above a leaf.
 pub(crate) fn no_item(n: usize, c: Cursor) -> Part
-    ensures { result ≡ nothingAt (seen n (seen n c)) }
+    ensures { result ≡ nothing_at (seen n (seen n c)) }
 {
     nothing(c.look(n).look(n))
 }

@@ -1,9 +1,9 @@
 // The whole reading, without a tree.
 ghost use Rattle.std.specs.Prelude.{◌||◌, ◌≡◌, ◌≤◌, length};
-ghost use Rattle.records.specs.Record.{recordWords};
-ghost use Rattle.brackets.specs.Brackets.{hasAttempts};
+ghost use Rattle.records.specs.Record.{record_words};
+ghost use Rattle.brackets.specs.Brackets.{has_attempts};
 ghost use Rattle.closers_pass.specs.Top.{Paired};
-ghost use Rattle.closers_pass.specs.Call.{pairedList};
+ghost use Rattle.closers_pass.specs.Call.{paired_list};
 
 use crate::cursor::Cursor;
 use crate::readers::extend;
@@ -30,7 +30,7 @@ pub enum Pass {
 // The takes of the whole reading, round 2^32; its marks and closers are left in the records.
 fn read_all(text: &[u8], tok: &[u32], n: usize, work: &mut [u32]) -> u32
     requires n_bound { n ≤ 4096 }
-    requires n_in_bounds { recordWords n ≤ length work.old }
+    requires n_in_bounds { record_words n ≤ length work.old }
     ensures { Paired text.now tok.now n work.old work.new result }
 {
     let mut cur = Cursor {
@@ -62,7 +62,7 @@ fn read_all(text: &[u8], tok: &[u32], n: usize, work: &mut [u32]) -> u32
 
 // Whether the pass is to go over the records: if it is asked for, or an attempt may be made.
 fn is_wanted(text: &[u8], tok: &[u32], work: &[u32], n: usize, always: bool) -> bool
-    ensures { result ≡ (always || hasAttempts text.now tok.now work.now n) }
+    ensures { result ≡ (always || has_attempts text.now tok.now work.now n) }
 {
     if always {
         return true;
@@ -72,7 +72,7 @@ fn is_wanted(text: &[u8], tok: &[u32], work: &[u32], n: usize, always: bool) -> 
 
 // The records of a list of `count` tokens, and the pass over them: `always`, or where it has something to decide.
 pub fn pair_list(text: &[u8], table: &[u32], count: usize, always: bool, work: &mut [u32]) -> Pass
-    ensures { (result, work.new) ≡ pairedList text.now table.now count always work.old }
+    ensures { (result, work.new) ≡ paired_list text.now table.now count always work.old }
 {
     match prepare(table, count, work) {
         Prepared::Refused(k) => Pass::Refused(k),

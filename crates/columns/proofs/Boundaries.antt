@@ -8,7 +8,7 @@ use native.Mathlib.Numerals.{add-one}
 use lib.ListN.{length, drop, get_or, set, length-drop, length-set, length-map, get_or-map, drop_of_length-le}
 use lib.Seq.{length-take-le, drop-cons, get_or-take, get_or-drop, drop-set-lt, get_or-set_other}
 use lib.Dec.{eqb}
-use Rattle.reading.specs.Reading.{keptCols, columnLines}
+use Rattle.reading.specs.Reading.{kept_cols, column_lines}
 use Rattle.tokens.specs.Refusals.{bit}
 use Rattle.columns.specs.Steps.{Wrote, flags, bits, Lines}
 use Rattle.columns.proofs.Buffer.{Same, seq, wrote_none, wrote_one}
@@ -17,15 +17,15 @@ pub one-most : (b : Bool) → cond b 1 0 ≤ 1
 one-most true = omega arith
 one-most false = omega arith
 
-kept_cons : (b : Bool) (l : List Bool) → keptCols (b ∷ l) ≡ cond (eqb (bit b) 0) 1 0 + keptCols l
-unfolding keptCols
+kept_cons : (b : Bool) (l : List Bool) → kept_cols (b ∷ l) ≡ cond (eqb (bit b) 0) 1 0 + kept_cols l
+unfolding kept_cols
 kept_cons true l = omega arith
 kept_cons false l = omega arith
 
-lines_cons : (n : ℕ) (b : Bool) (l : List Bool) → columnLines n (b ∷ l) ≡ cond (eqb (bit b) 0) (columnLines (n + 1) l) (n ∷ columnLines n l)
-unfolding columnLines
+lines_cons : (n : ℕ) (b : Bool) (l : List Bool) → column_lines n (b ∷ l) ≡ cond (eqb (bit b) 0) (column_lines (n + 1) l) (n ∷ column_lines n l)
+unfolding column_lines
 lines_cons n true l = refl
-lines_cons n false l = ap (λ (k : ℕ). columnLines k l) (sym (add-one n))
+lines_cons n false l = ap (λ (k : ℕ). column_lines k l) (sym (add-one n))
 
 module _ (x : List ℕ) (e cols : ℕ) (room : e + cols ≤ length x) (m : List Bool) (p : flags e cols x ≡ bits m) where
   pub mask-long : length m ≡ cols
@@ -41,33 +41,33 @@ module _ (x : List ℕ) (e cols : ℕ) (room : e + cols ≤ length x) (m : List 
   mask-none k q = drop_of_length-le m {i = k} (omega (arith, mask-long))
 
   pub count-more : (k n w v : ℕ) → k < cols → w ≡ get_or x (e + k) 0 → v ≡ cond (eqb w 0) 1 0
-      → n + keptCols (drop k m) ≡ keptCols m → n + v + keptCols (drop (k + 1) m) ≡ keptCols m
+      → n + kept_cols (drop k m) ≡ kept_cols m → n + v + kept_cols (drop (k + 1) m) ≡ kept_cols m
   count-more k n w v q u s h =
-      let f : keptCols (drop k m) ≡ cond (eqb w 0) 1 0 + keptCols (drop (k + 1) m) =
-      ap keptCols (mask-cons k q) ∙ rw (u, flag_at k q) (kept_cons (get_or m k false) (drop (k + 1) m)) in
+      let f : kept_cols (drop k m) ≡ cond (eqb w 0) 1 0 + kept_cols (drop (k + 1) m) =
+      ap kept_cols (mask-cons k q) ∙ rw (u, flag_at k q) (kept_cons (get_or m k false) (drop (k + 1) m)) in
       omega arith
 
-  pub count-done : (k n : ℕ) → cols ≤ k → n + keptCols (drop k m) ≡ keptCols m → n ≡ keptCols m
-  unfolding keptCols
-  count-done k n q h = let f : keptCols (drop k m) ≡ 0 = ap keptCols (mask-none k q) in omega arith
+  pub count-done : (k n : ℕ) → cols ≤ k → n + kept_cols (drop k m) ≡ kept_cols m → n ≡ kept_cols m
+  unfolding kept_cols
+  count-done k n q h = let f : kept_cols (drop k m) ≡ 0 = ap kept_cols (mask-none k q) in omega arith
 
   -- the next boundary, if the column's flag is z
   lines_next : (k n : ℕ) (z : Bool) → k < cols → eqb (get_or x (e + k) 0) 0 ≡ z
-      → columnLines n (drop k m) ≡ cond z (columnLines (n + 1) (drop (k + 1) m)) (n ∷ columnLines n (drop (k + 1) m))
+      → column_lines n (drop k m) ≡ cond z (column_lines (n + 1) (drop (k + 1) m)) (n ∷ column_lines n (drop (k + 1) m))
   lines_next k n z q u =
-      ap (columnLines n) (mask-cons k q)
+      ap (column_lines n) (mask-cons k q)
       ∙ lines_cons n (get_or m k false) (drop (k + 1) m)
-      ∙ ap (λ (t : Bool). cond t (columnLines (n + 1) (drop (k + 1) m)) (n ∷ columnLines n (drop (k + 1) m))) (ap (λ (w : ℕ). eqb w 0) (sym (flag_at k q)) ∙ u)
+      ∙ ap (λ (t : Bool). cond t (column_lines (n + 1) (drop (k + 1) m)) (n ∷ column_lines n (drop (k + 1) m))) (ap (λ (w : ℕ). eqb w 0) (sym (flag_at k q)) ∙ u)
 
-  lines_none : (k n : ℕ) → cols ≤ k → columnLines n (drop k m) ≡ []
-  unfolding columnLines
-  lines_none k n q = ap (columnLines n) (mask-none k q)
+  lines_none : (k n : ℕ) → cols ≤ k → column_lines n (drop k m) ≡ []
+  unfolding column_lines
+  lines_none k n q = ap (column_lines n) (mask-none k q)
 
 -- the boundaries of the first k columns are written
 pub record Written (x : List ℕ) (to : ℕ) (y : List ℕ) (out b k : ℕ) (m : List Bool) : Type 0 where
   pub done : List ℕ
   pub wrote : Wrote x to y out done
-  pub same : done ++ columnLines b (drop k m) ≡ columnLines 0 m
+  pub same : done ++ column_lines b (drop k m) ≡ column_lines 0 m
 
 pub record Putting (x : List ℕ) (to e cols : ℕ) (y : List ℕ) (out b k : ℕ) : Type 0 where
   pub long : length y ≡ length x
@@ -115,7 +115,7 @@ module _ {x y : List ℕ} {to e cols out b k : ℕ} (room : e + cols ≤ length 
         record {
           done = w.done ++ (b ∷ []);
           wrote = seq w.wrote (wrote_one y out b (omega (arith, p.most, p.long)));
-          same = append_assoc w.done (b ∷ []) (columnLines b (drop (k + 1) m)) ∙ ap (λ (r : List ℕ). w.done ++ r) (sym (lines_next x e cols room m f k b false q u)) ∙ w.same;
+          same = append_assoc w.done (b ∷ []) (column_lines b (drop (k + 1) m)) ∙ ap (λ (r : List ℕ). w.done ++ r) (sym (lines_next x e cols room m f k b false q u)) ∙ w.same;
         };
   }
 
@@ -130,6 +130,6 @@ module _ {x y : List ℕ} {to e cols out b k : ℕ} (room : e + cols ≤ length 
     after = p.past;
     gives = λ m f.
         let w : Written x to y out b k m = p.gives m f in
-        let d : w.done ≡ columnLines 0 m = sym (append-nil w.done) ∙ ap (λ (r : List ℕ). w.done ++ r) (sym (lines_none x e cols room m f k b q)) ∙ w.same in
+        let d : w.done ≡ column_lines 0 m = sym (append-nil w.done) ∙ ap (λ (r : List ℕ). w.done ++ r) (sym (lines_none x e cols room m f k b q)) ∙ w.same in
         rw d at w.wrote;
   }

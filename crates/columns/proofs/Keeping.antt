@@ -7,23 +7,23 @@ use native.Mathlib.Omega.{arith}
 use lib.ListN.{length, take, drop, get_or, length-append, length-drop}
 use lib.Seq.{paste, drop-paste, length-paste}
 use lib.Dec.{eqb}
-use Rattle.columns.specs.Columns.{cellLen, cellsEnd, cellsFrom, otherCells, joinWords, next}
+use Rattle.columns.specs.Columns.{cell_len, cells_end, cells_from, other_cells, join_words, next}
 use Rattle.tokens.specs.Refusals.{bit}
 use Rattle.columns.specs.Steps.{Wrote, flags, bits, CellsStand, KeptCells}
 use Rattle.columns.proofs.Buffer.{same_drop, drop_more, seq, wrote_none, wrote-moved}
 use Rattle.columns.proofs.Cells.{cells-le, next-below}
 use Rattle.columns.proofs.Boundaries.{flag_at, one-most}
 
-join_one : (ws : List (List ℕ)) (w : List ℕ) → joinWords (ws ++ (w ∷ [])) ≡ joinWords ws ++ w
-unfolding joinWords
+join_one : (ws : List (List ℕ)) (w : List ℕ) → join_words (ws ++ (w ∷ [])) ≡ join_words ws ++ w
+unfolding join_words
 join_one [] w = append-nil w
-join_one (v ∷ ws) w = ap (λ (r : List ℕ). v ++ r) (join_one ws w) ∙ sym (append_assoc v (joinWords ws) w)
+join_one (v ∷ ws) w = ap (λ (r : List ℕ). v ++ r) (join_one ws w) ∙ sym (append_assoc v (join_words ws) w)
 
 -- the cells of the columns before are read and those kept stand up to `to`; `left` cells stand from `at` on, the first in the column j
 pub record Upto (x : List ℕ) (from cells cols : ℕ) (y : List ℕ) (at to c j left : ℕ) (m : List Bool) : Type 0 where
   pub done : List (List ℕ)
-  pub wrote : Wrote x from y to (joinWords done)
-  pub same : done ++ otherCells cols m j (cellsFrom x at left) ≡ otherCells cols m 0 (cellsFrom x from cells)
+  pub wrote : Wrote x from y to (join_words done)
+  pub same : done ++ other_cells cols m j (cells_from x at left) ≡ other_cells cols m 0 (cells_from x from cells)
   pub counted : c ≡ length done
 
 -- the words were x and are y; i cells are read, c kept
@@ -34,7 +34,7 @@ pub record Keeping (x : List ℕ) (from e cells cols : ℕ) (y : List ℕ) (at t
   pub col : j < cols
   pub left : ℕ
   pub sum : i + left ≡ cells
-  pub chain : cellsEnd x at left ≡ e
+  pub chain : cells_end x at left ≡ e
   pub rest : drop at y ≡ drop at x
   pub gives : (m : List Bool) → flags e cols x ≡ bits m → Upto x from cells cols y at to c j left m
 
@@ -57,18 +57,18 @@ module _ (y : List ℕ) (to at n : ℕ) (t : to ≤ at) (h : at + n ≤ length y
 
 -- the next cell, whose column is kept or not
 module _ {x : List ℕ} {from cells cols : ℕ} {y : List ℕ} {at to c j left : ℕ} {m : List Bool} (u : Upto x from cells cols y at to c j (suc left) m)
-    (t : to ≤ at) (fit : at + cellLen x at ≤ length y) (rest : drop at y ≡ drop at x) where
+    (t : to ≤ at) (fit : at + cell_len x at ≤ length y) (rest : drop at y ≡ drop at x) where
   abbrev n : ℕ
-  n = cellLen x at
+  n = cell_len x at
 
   abbrev this : List ℕ
   this = take n (drop at x)
 
   abbrev others : List (List ℕ)
-  others = otherCells cols m (next cols j) (cellsFrom x (at + n) left)
+  others = other_cells cols m (next cols j) (cells_from x (at + n) left)
 
-  cell_same : (z : Bool) → eqb (bit (get_or m j false)) 0 ≡ z → u.done ++ cond z (this ∷ others) others ≡ otherCells cols m 0 (cellsFrom x from cells)
-  unfolding otherCells cellsFrom
+  cell_same : (z : Bool) → eqb (bit (get_or m j false)) 0 ≡ z → u.done ++ cond z (this ∷ others) others ≡ other_cells cols m 0 (cells_from x from cells)
+  unfolding other_cells cells_from
   cell_same z g =
       ap (λ (l : List (List ℕ)). u.done ++ l) (sym (flag-pick (get_or m j false) others (this ∷ others) ∙ ap (λ (b : Bool). cond b (this ∷ others) others) g)) ∙ u.same
 
@@ -76,7 +76,7 @@ module _ {x : List ℕ} {from cells cols : ℕ} {y : List ℕ} {at to c j left :
       → Upto x from cells cols (cond z (paste y to (drop at y) n) y) (at + n) (cond z (to + n) to) (c + cond z 1 0) (next cols j) left m
   upto-cell true g = record {
     done = u.done ++ (this ∷ []);
-    wrote = rw (join_one u.done this) (subst (λ (r : List ℕ). Wrote x from (paste y to (drop at y) n) (to + n) (joinWords u.done ++ take n r)) rest (seq u.wrote (wrote-moved y to at n t fit)));
+    wrote = rw (join_one u.done this) (subst (λ (r : List ℕ). Wrote x from (paste y to (drop at y) n) (to + n) (join_words u.done ++ take n r)) rest (seq u.wrote (wrote-moved y to at n t fit)));
     same = append_assoc u.done (this ∷ []) others ∙ cell_same true g;
     counted = omega (arith, u.counted, length-append u.done (this ∷ []));
   }
@@ -84,7 +84,7 @@ module _ {x : List ℕ} {from cells cols : ℕ} {y : List ℕ} {at to c j left :
 
 module _ {x : List ℕ} {from e cells cols : ℕ} (ready : CellsStand x from e cells cols) where
   pub keeping_none : Keeping x from e cells cols x from from 0 0 0
-  unfolding joinWords
+  unfolding join_words
   keeping_none = record {
     long = refl;
     behind = omega arith;
@@ -98,29 +98,29 @@ module _ {x : List ℕ} {from e cells cols : ℕ} (ready : CellsStand x from e c
   }
 
   module _ {y : List ℕ} {at to c j i : ℕ} (p : Keeping x from e cells cols y at to c j i) where
-    pub keeping-len : cellLen y at ≡ cellLen x at
-    keeping-len = ap (λ (w : ℕ). 6 + w) (same_drop x y at (at + 4) (at + 5) p.rest (omega arith) (at + 4) (omega arith) (omega arith))
+    pub keeping_len : cell_len y at ≡ cell_len x at
+    keeping_len = ap (λ (w : ℕ). 6 + w) (same_drop x y at (at + 4) (at + 5) p.rest (omega arith) (at + 4) (omega arith) (omega arith))
 
-    pub keeping-fits : i < cells → at + cellLen y at ≤ e
-    unfolding cellsEnd
-    keeping-fits h = go p.left p.sum p.chain
+    pub keeping_fits : i < cells → at + cell_len y at ≤ e
+    unfolding cells_end
+    keeping_fits h = go p.left p.sum p.chain
       where
-        go : (l : ℕ) → i + l ≡ cells → cellsEnd x at l ≡ e → at + cellLen y at ≤ e
+        go : (l : ℕ) → i + l ≡ cells → cells_end x at l ≡ e → at + cell_len y at ≤ e
         go zero s d = absurd (omega arith)
-        go (suc l) s d = omega (arith, cells-le x l (at + cellLen x at), keeping-len)
+        go (suc l) s d = omega (arith, cells-le x l (at + cell_len x at), keeping_len)
 
-    keeping_step : (z : Bool) (l : ℕ) → i + suc l ≡ cells → cellsEnd x at (suc l) ≡ e → ((m : List Bool) → flags e cols x ≡ bits m → Upto x from cells cols y at to c j (suc l) m)
+    keeping_step : (z : Bool) (l : ℕ) → i + suc l ≡ cells → cells_end x at (suc l) ≡ e → ((m : List Bool) → flags e cols x ≡ bits m → Upto x from cells cols y at to c j (suc l) m)
         → i < cells → eqb (get_or y (e + j) 0) 0 ≡ z
-        → let n = cellLen x at in Keeping x from e cells cols (cond z (paste y to (drop at y) n) y) (at + n) (cond z (to + n) to) (c + cond z 1 0) (next cols j) (i + 1)
-    unfolding cellsEnd
+        → let n = cell_len x at in Keeping x from e cells cols (cond z (paste y to (drop at y) n) y) (at + n) (cond z (to + n) to) (c + cond z 1 0) (next cols j) (i + 1)
+    unfolding cells_end
     keeping_step z l s d gives h f =
-        let n : ℕ = cellLen x at in
+        let n : ℕ = cell_len x at in
         let y' : List ℕ = cond z (paste y to (drop at y) n) y in
-        let fits : at + n ≤ e = omega (arith, keeping-fits h, keeping-len) in
+        let fits : at + n ≤ e = omega (arith, keeping_fits h, keeping_len) in
         let inside : at + n ≤ length y = omega (arith, p.long, ready.room) in
         record {
           long = long-pick y to at n p.behind inside z ∙ p.long;
-          behind = to-pick z;
+          behind = to_pick z;
           most = omega (arith, p.most, one-most z);
           col = next-below cols j p.col;
           left = l;
@@ -132,24 +132,24 @@ module _ {x : List ℕ} {from e cells cols : ℕ} (ready : CellsStand x from e c
               upto-cell (gives m g) p.behind inside p.rest z (rw b at f);
         }
       where
-        to-pick : (z : Bool) → cond z (to + cellLen x at) to ≤ at + cellLen x at
-        to-pick true = omega (arith, p.behind)
-        to-pick false = omega (arith, p.behind)
+        to_pick : (z : Bool) → cond z (to + cell_len x at) to ≤ at + cell_len x at
+        to_pick true = omega (arith, p.behind)
+        to_pick false = omega (arith, p.behind)
 
-    pub keeping-more : {y' : List ℕ} {to' v j' n w : ℕ} → i < cells → n ≡ cellLen y at → w ≡ get_or y (e + j) 0
+    pub keeping_more : {y' : List ℕ} {to' v j' n w : ℕ} → i < cells → n ≡ cell_len y at → w ≡ get_or y (e + j) 0
         → to' ≡ cond (eqb w 0) (to + n) to → y' ≡ cond (eqb w 0) (paste y to (drop at y) n) y → v ≡ cond (eqb w 0) 1 0 → j' ≡ next cols j
         → Keeping x from e cells cols y' (at + n) to' (c + v) j' (i + 1)
-    keeping-more {y'} {to'} {v} {j'} {n} {w} h u f a b g k = go p.left p.sum p.chain p.gives
+    keeping_more {y'} {to'} {v} {j'} {n} {w} h u f a b g k = go p.left p.sum p.chain p.gives
       where
-        go : (l : ℕ) → i + l ≡ cells → cellsEnd x at l ≡ e → ((m : List Bool) → flags e cols x ≡ bits m → Upto x from cells cols y at to c j l m) → Keeping x from e cells cols y' (at + n) to' (c + v) j' (i + 1)
+        go : (l : ℕ) → i + l ≡ cells → cells_end x at l ≡ e → ((m : List Bool) → flags e cols x ≡ bits m → Upto x from cells cols y at to c j l m) → Keeping x from e cells cols y' (at + n) to' (c + v) j' (i + 1)
         go zero s d o = absurd (omega arith)
-        go (suc l) s d o = rw (a, b, g, k, u, keeping-len) (keeping_step (eqb w 0) l s d o h (ap (λ (q : ℕ). eqb q 0) (sym f)))
+        go (suc l) s d o = rw (a, b, g, k, u, keeping_len) (keeping_step (eqb w 0) l s d o h (ap (λ (q : ℕ). eqb q 0) (sym f)))
 
-    pub keeping-done : cells ≤ i → KeptCells x from e cells cols y (record { end = to; cells = c })
-    unfolding cellsEnd cellsFrom otherCells
-    keeping-done h = go p.left p.sum p.chain p.gives
+    pub keeping_done : cells ≤ i → KeptCells x from e cells cols y (record { end = to; cells = c })
+    unfolding cells_end cells_from other_cells
+    keeping_done h = go p.left p.sum p.chain p.gives
       where
-        go : (l : ℕ) → i + l ≡ cells → cellsEnd x at l ≡ e → ((m : List Bool) → flags e cols x ≡ bits m → Upto x from cells cols y at to c j l m) → KeptCells x from e cells cols y (record { end = to; cells = c })
+        go : (l : ℕ) → i + l ≡ cells → cells_end x at l ≡ e → ((m : List Bool) → flags e cols x ≡ bits m → Upto x from cells cols y at to c j l m) → KeptCells x from e cells cols y (record { end = to; cells = c })
         go (suc l) s d o = absurd (omega arith)
         go zero s d o = record {
           within = omega (arith, p.behind);

@@ -7,9 +7,9 @@ use native.Mathlib.Omega.{arith}
 use lib.Dec.{eqb}
 use borrow.Author.Tests.{ne_eqb}
 use Rattle.tree.specs.Tree.{Script, Head, Atom, Prefix, Node, node, Nodes, end, ◌▸◌, count}
-use Rattle.tree.specs.Words.{atomKind, prefixKind, encode, encodes, encodeItem, encodeItems}
+use Rattle.tree.specs.Words.{atom_kind, prefix_kind, encode, encodes, encode_item, encode_items}
 use Rattle.reading.specs.Entries.{Entry}
-use Rattle.reading.specs.Reading.{text_of, is_byte, isUnscripted, isBarSymbol, isColumnLine}
+use Rattle.reading.specs.Reading.{text_of, is_byte, is_unscripted, is_bar_symbol, is_column_line}
 use Rattle.columns.specs.Columns.{is_line}
 
 module _ (X : List ℕ) (es : List Entry) where
@@ -17,13 +17,13 @@ module _ (X : List ℕ) (es : List Entry) where
   unfolding is_line encode
   two_items x y l = rw (ne_eqb (suc (suc (count l))) 1 (λ e. omega arith)) refl
 
-  other_item : (h : Head) (m : Nodes) → isUnscripted h ≡ false → false ≡ isColumnLine X es (node Head.cell (node h m ▸ end))
-  unfolding isColumnLine
+  other_item : (h : Head) (m : Nodes) → is_unscripted h ≡ false → false ≡ is_column_line X es (node Head.cell (node h m ▸ end))
+  unfolding is_column_line
   other_item h end e = refl
   other_item h (x ▸ m) e = rw e refl
 
   -- neither kind is a simple's, nor a prefix's a symbol's
-  atom-kind : (a : Atom) → eqb (atomKind a) 13 ≡ false
+  atom-kind : (a : Atom) → eqb (atom_kind a) 13 ≡ false
   atom-kind Atom.number = refl
   atom-kind Atom.text = refl
   atom-kind Atom.ident = refl
@@ -32,15 +32,15 @@ module _ (X : List ℕ) (es : List Entry) where
   atom-kind Atom.space = refl
   atom-kind (Atom.symbol c) = refl
 
-  prefix-kind : (p : Prefix) → (eqb (prefixKind p) 13 ≡ false) × (eqb (prefixKind p) 7 ≡ false)
+  prefix-kind : (p : Prefix) → (eqb (prefix_kind p) 13 ≡ false) × (eqb (prefix_kind p) 7 ≡ false)
   prefix-kind Prefix.signed = (refl, refl)
   prefix-kind Prefix.ssigned = (refl, refl)
   prefix-kind Prefix.unary = (refl, refl)
   prefix-kind Prefix.sfunc = (refl, refl)
   prefix-kind Prefix.binary = (refl, refl)
 
-  pub line-cell : (l : Nodes) → is_line X (encode (node Head.cell l)) ≡ isColumnLine X es (node Head.cell l)
-  unfolding is_line encodeItems encodeItem encodes encode isColumnLine isBarSymbol isUnscripted is_byte text_of
+  pub line-cell : (l : Nodes) → is_line X (encode (node Head.cell l)) ≡ is_column_line X es (node Head.cell l)
+  unfolding is_line encode_items encode_item encodes encode is_column_line is_bar_symbol is_unscripted is_byte text_of
   line-cell end = refl
   line-cell (node Head.missing m ▸ end) = other_item Head.missing m refl
   line-cell (node (Head.atom a sp) m ▸ end) = rw (atom-kind a) (other_item (Head.atom a sp) m refl)

@@ -8,11 +8,11 @@ use lib.ListN.{length, take, drop, set, replicate, length-replicate, length-set}
 use lib.Seq.{paste, take_all, length-paste, drop-paste, take-set-le, take-set-lt, drop-set-add, drop-set-lt}
 use lib.Dec.{eqb, leb}
 use borrow.Author.Tests.{leb-true, leb-false, ne_eqb, eqb-true}
-use Rattle.columns.specs.Columns.{cellLen, cellsEnd, cellsFrom, is_line, onlyLines, next, mask}
+use Rattle.columns.specs.Columns.{cell_len, cells_end, cells_from, is_line, only_lines, next, mask}
 use Rattle.tokens.specs.Refusals.{bit}
 use Rattle.columns.specs.Steps.{flags, bits, Beside, Marked}
 use Rattle.columns.proofs.Buffer.{Same, same-take, front-paste, part-paste, part_same}
-use Rattle.columns.proofs.Cells.{cells-le, from-same, ends_same, next-below}
+use Rattle.columns.proofs.Cells.{cells-le, from_same, ends_same, next-below}
 
 bits-set : (m : List Bool) (j : ℕ) → bits (set m j false) ≡ set (bits m) j 0
 bits-set [] j = refl
@@ -47,53 +47,53 @@ pub record Marking (X x : List ℕ) (from e cells cols : ℕ) (y : List ℕ) (at
   pub col : j < cols
   pub left : ℕ
   pub sum : i + left ≡ cells
-  pub chain : cellsEnd x at left ≡ cellsEnd x from cells
+  pub chain : cells_end x at left ≡ cells_end x from cells
   pub sofar : List Bool
   pub flag : flags e cols y ≡ bits sofar
-  pub same : onlyLines X cols sofar j (cellsFrom x at left) ≡ mask X x from e cells cols
+  pub same : only_lines X cols sofar j (cells_from x at left) ≡ mask X x from e cells cols
 
 module _ {X x y : List ℕ} {from e cells cols at j i n : ℕ} (room : e ≤ length x) (m : Marking X x from e cells cols y at j i) (h : i < cells)
-    (fit : n ≡ cond (leb (at + cellLen y at) e) (cellLen y at) 0) where
+    (fit : n ≡ cond (leb (at + cell_len y at) e) (cell_len y at) 0) where
   -- the next cell passes e
-  pub marking-broken : n ≡ 0 → false ≡ eqb (cellsEnd x from cells) e
-  unfolding cellsEnd
-  marking-broken z = sym (ne_eqb (cellsEnd x from cells) e (go m.left m.sum m.chain (leb (at + cellLen y at) e) refl fit))
+  pub marking-broken : n ≡ 0 → false ≡ eqb (cells_end x from cells) e
+  unfolding cells_end
+  marking-broken z = sym (ne_eqb (cells_end x from cells) e (go m.left m.sum m.chain (leb (at + cell_len y at) e) refl fit))
     where
-      past : (b : Bool) → leb (at + 6) e ≡ b → e < at + cellLen y at → e < at + cellLen x at
+      past : (b : Bool) → leb (at + 6) e ≡ b → e < at + cell_len y at → e < at + cell_len x at
       past true q p = omega (arith, same-take x y at e m.beside.front (at + 4) (omega arith) (omega (arith, leb-true (at + 6) e q)))
       past false q p = omega (arith, leb-false (at + 6) e q)
 
-      go : (l : ℕ) → i + l ≡ cells → cellsEnd x at l ≡ cellsEnd x from cells → (b : Bool) → leb (at + cellLen y at) e ≡ b → n ≡ cond b (cellLen y at) 0 → cellsEnd x from cells ≡ e → ⊥
+      go : (l : ℕ) → i + l ≡ cells → cells_end x at l ≡ cells_end x from cells → (b : Bool) → leb (at + cell_len y at) e ≡ b → n ≡ cond b (cell_len y at) 0 → cells_end x from cells ≡ e → ⊥
       go zero s c b p q r = omega arith
       go (suc l) s c true p q r = omega arith
-      go (suc l) s c false p q r = omega (arith, cells-le x l (at + cellLen x at), past (leb (at + 6) e) refl (leb-false (at + cellLen y at) e p))
+      go (suc l) s c false p q r = omega (arith, cells-le x l (at + cell_len x at), past (leb (at + 6) e) refl (leb-false (at + cell_len y at) e p))
 
-  fits : (n ≡ 0 → ⊥) → (n ≡ cellLen y at) × (at + cellLen y at ≤ e)
-  fits z = go (leb (at + cellLen y at) e) refl fit
+  fits : (n ≡ 0 → ⊥) → (n ≡ cell_len y at) × (at + cell_len y at ≤ e)
+  fits z = go (leb (at + cell_len y at) e) refl fit
     where
-      go : (b : Bool) → leb (at + cellLen y at) e ≡ b → n ≡ cond b (cellLen y at) 0 → (n ≡ cellLen y at) × (at + cellLen y at ≤ e)
-      go true p q = (q, leb-true (at + cellLen y at) e p)
+      go : (b : Bool) → leb (at + cell_len y at) e ≡ b → n ≡ cond b (cell_len y at) 0 → (n ≡ cell_len y at) × (at + cell_len y at ≤ e)
+      go true p q = (q, leb-true (at + cell_len y at) e p)
       go false p q = absurd (z q)
 
   pub marking-end : (n ≡ 0 → ⊥) → at + n ≤ e
   marking-end z = let f = fits z in omega (arith, f.0, f.1)
 
-  pub marking-fits : (n ≡ 0 → ⊥) → at + cellLen y at ≤ length y
+  pub marking-fits : (n ≡ 0 → ⊥) → at + cell_len y at ≤ length y
   marking-fits z = omega (arith, (fits z).1, m.beside.long)
 
-  pub marking-more : {y' : List ℕ} {t : Bool} {j' : ℕ} → (n ≡ 0 → ⊥) → t ≡ is_line X (take (cellLen y at) (drop at y)) → y' ≡ cond t y (set y (e + j) 0) → j' ≡ next cols j
+  pub marking-more : {y' : List ℕ} {t : Bool} {j' : ℕ} → (n ≡ 0 → ⊥) → t ≡ is_line X (take (cell_len y at) (drop at y)) → y' ≡ cond t y (set y (e + j) 0) → j' ≡ next cols j
       → Marking X x from e cells cols y' (at + n) j' (i + 1)
-  unfolding cellsEnd cellsFrom onlyLines
+  unfolding cells_end cells_from only_lines
   marking-more {y'} {t} {j'} z u g c =
       let f = fits z in
       let s : Same x y at e = same-take x y at e m.beside.front in
-      let k : cellLen y at ≡ cellLen x at = ap (λ (w : ℕ). 6 + w) (s (at + 4) (omega arith) (omega (arith, f.1))) in
-      let w : take (cellLen x at) (drop at y) ≡ take (cellLen x at) (drop at x) = part_same x y at (cellLen x at) (omega (arith, f.1)) m.beside.long (λ i p q. s i p (omega (arith, f.1))) in
-      let v : t ≡ is_line X (take (cellLen x at) (drop at x)) = u ∙ ap (λ (o : ℕ). is_line X (take o (drop at y))) k ∙ ap (is_line X) w in
+      let k : cell_len y at ≡ cell_len x at = ap (λ (w : ℕ). 6 + w) (s (at + 4) (omega arith) (omega (arith, f.1))) in
+      let w : take (cell_len x at) (drop at y) ≡ take (cell_len x at) (drop at x) = part_same x y at (cell_len x at) (omega (arith, f.1)) m.beside.long (λ i p q. s i p (omega (arith, f.1))) in
+      let v : t ≡ is_line X (take (cell_len x at) (drop at x)) = u ∙ ap (λ (o : ℕ). is_line X (take o (drop at y))) k ∙ ap (is_line X) w in
       go m.left m.sum m.chain m.same (f.0 ∙ k) v
     where
-      go : (l : ℕ) → i + l ≡ cells → cellsEnd x at l ≡ cellsEnd x from cells → onlyLines X cols m.sofar j (cellsFrom x at l) ≡ mask X x from e cells cols
-          → n ≡ cellLen x at → t ≡ is_line X (take (cellLen x at) (drop at x)) → Marking X x from e cells cols y' (at + n) j' (i + 1)
+      go : (l : ℕ) → i + l ≡ cells → cells_end x at l ≡ cells_end x from cells → only_lines X cols m.sofar j (cells_from x at l) ≡ mask X x from e cells cols
+          → n ≡ cell_len x at → t ≡ is_line X (take (cell_len x at) (drop at x)) → Marking X x from e cells cols y' (at + n) j' (i + 1)
       go zero s d o k v = absurd (omega arith)
       go (suc l) s d o k v = rw (k, c) (record {
         beside = beside_trans m.beside (rw g (beside-mark t y e cols j m.col));
@@ -107,8 +107,8 @@ module _ {X x y : List ℕ} {from e cells cols at j i n : ℕ} (room : e ≤ len
       })
 
 -- before the first cell the flags are ones
-ones-flags : (x : List ℕ) (e cols : ℕ) → e + cols ≤ length x → flags e cols (paste x e (replicate cols 1) cols) ≡ bits (replicate cols true)
-ones-flags x e cols h =
+ones_flags : (x : List ℕ) (e cols : ℕ) → e + cols ≤ length x → flags e cols (paste x e (replicate cols 1) cols) ≡ bits (replicate cols true)
+ones_flags x e cols h =
     let n : length {A = ℕ} (replicate cols 1) ≡ cols = length-replicate {A = ℕ} cols 1 in
     part-paste x e (replicate cols 1) cols (omega arith) (omega arith) ∙ take_all cols (replicate cols 1) (omega arith) ∙ sym (bits-ones cols)
 
@@ -122,7 +122,7 @@ module _ (X x y : List ℕ) (from e cells cols : ℕ) (room : e + cols ≤ lengt
     sum = omega arith;
     chain = refl;
     sofar = replicate cols true;
-    flag = ap (flags e cols) ones ∙ ones-flags x e cols room;
+    flag = ap (flags e cols) ones ∙ ones_flags x e cols room;
     same = refl;
   }
 
@@ -136,7 +136,7 @@ module _ (X x y : List ℕ) (from e cells cols : ℕ) (room : e + cols ≤ lengt
       })
 
   -- what is told of the words with ones for flags holds of those before
-  marked : {z : List ℕ} {r : Bool} → Beside y e cols z → r ≡ eqb (cellsEnd y from cells) e → (r ≡ true → flags e cols z ≡ bits (mask X y from e cells cols))
+  marked : {z : List ℕ} {r : Bool} → Beside y e cols z → r ≡ eqb (cells_end y from cells) e → (r ≡ true → flags e cols z ≡ bits (mask X y from e cells cols))
       → Marked X x from e cells cols z r
   unfolding mask
   marked {z} b t f =
@@ -146,19 +146,19 @@ module _ (X x y : List ℕ) (from e cells cols : ℕ) (room : e + cols ≤ lengt
         beside = beside_trans beside-ones b;
         tells = told;
         flag = λ g.
-            let c : cellsFrom y from cells ≡ cellsFrom x from cells = from-same x y e cells from s (omega arith) beside-ones.long (eqb-true (cellsEnd x from cells) e (sym told ∙ g)) in
-            f g ∙ ap (λ (ws : List (List ℕ)). bits (onlyLines X cols (replicate cols true) 0 ws)) c;
+            let c : cells_from y from cells ≡ cells_from x from cells = from_same x y e cells from s (omega arith) beside-ones.long (eqb-true (cells_end x from cells) e (sym told ∙ g)) in
+            f g ∙ ap (λ (ws : List (List ℕ)). bits (only_lines X cols (replicate cols true) 0 ws)) c;
       }
 
-  pub marked-broken : {z : List ℕ} {at j i n : ℕ} → Marking X y from e cells cols z at j i → i < cells → n ≡ cond (leb (at + cellLen z at) e) (cellLen z at) 0 → n ≡ 0
+  pub marked-broken : {z : List ℕ} {at j i n : ℕ} → Marking X y from e cells cols z at j i → i < cells → n ≡ cond (leb (at + cell_len z at) e) (cell_len z at) 0 → n ≡ 0
       → Marked X x from e cells cols z false
   marked-broken m h f o = marked m.beside (marking-broken (omega (arith, beside-ones.long)) m h f o) (λ g. absurd (let q : ◌≡◌ {A = ℕ} 0 1 = cc in omega arith))
 
   pub marked-done : {z : List ℕ} {at j i : ℕ} {r : Bool} → Marking X y from e cells cols z at j i → cells ≤ i → r ≡ eqb at e → Marked X x from e cells cols z r
-  unfolding cellsEnd cellsFrom onlyLines
+  unfolding cells_end cells_from only_lines
   marked-done {z} {at} {j} {i} {r} m h q = go m.left m.sum m.chain m.same
     where
-      go : (l : ℕ) → i + l ≡ cells → cellsEnd y at l ≡ cellsEnd y from cells → onlyLines X cols m.sofar j (cellsFrom y at l) ≡ mask X y from e cells cols
+      go : (l : ℕ) → i + l ≡ cells → cells_end y at l ≡ cells_end y from cells → only_lines X cols m.sofar j (cells_from y at l) ≡ mask X y from e cells cols
           → Marked X x from e cells cols z r
       go zero s d o = marked m.beside (q ∙ ap (λ (k : ℕ). eqb k e) d) (λ g. m.flag ∙ ap bits o)
       go (suc l) s d o = absurd (omega arith)

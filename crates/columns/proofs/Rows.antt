@@ -8,24 +8,24 @@ use lib.ListN.{length, take, drop, get_or, set, replicate, length-append, get_or
 use lib.Seq.{take-take, take_at, get_or-take, get_or-append-add}
 use lib.Dec.{eqb}
 use Rattle.tree.specs.Tree.{Head, node, Nodes, end, ◌▸◌, ◌⧺◌, count}
-use Rattle.tree.specs.Words.{encode, encodes, encodeItems}
+use Rattle.tree.specs.Words.{encode, encodes, encode_items}
 use Rattle.reading.specs.Entries.{Entry}
-use Rattle.reading.specs.Reading.{Rows, isColumnLine, joinRows, keptCols, columnLines, keepCells, lineCols, splitColumnLines}
-use Rattle.columns.specs.Columns.{cellLen, cellsEnd, cellsFrom, areCells, next, onlyLines, otherCells, joinWords, mask, left, isSplit, splitWords, splitOf}
+use Rattle.reading.specs.Reading.{Rows, is_column_line, join_rows, kept_cols, column_lines, keep_cells, line_cols, split_column_lines}
+use Rattle.columns.specs.Columns.{cell_len, cells_end, cells_from, are_cells, next, only_lines, other_cells, join_words, mask, left, is_split, split_words, split_of}
 use Rattle.columns.specs.Rows.{Cells, none, cell, Grid, row, joined, MatrixOf}
 use Rattle.columns.proofs.Buffer.{part-is}
 use Rattle.columns.proofs.Cells.{cells-le}
 use Rattle.columns.proofs.Shape.{cells-parts, room-parts}
 use Rattle.columns.proofs.Lines.{line-cell}
-use Rattle.columns.proofs.Grids.{cells_count, marks, marks-all, cols-long, keep, keep-rows}
+use Rattle.columns.proofs.Grids.{cells_count, marks, marks-all, cols_long, keep, keep-rows}
 
 -- the words of nodes, one by one
 words_of : Nodes → List (List ℕ)
 words_of end = []
 words_of (x ▸ l) = encode x ∷ words_of l
 
-words-join : (l : Nodes) → joinWords (words_of l) ≡ encodes l
-unfolding words_of joinWords encodes
+words-join : (l : Nodes) → join_words (words_of l) ≡ encodes l
+unfolding words_of join_words encodes
 words-join end = refl
 words-join (x ▸ l) = ap (λ (w : List ℕ). encode x ++ w) (words-join l)
 
@@ -35,15 +35,15 @@ words_long end = refl
 words_long (x ▸ l) = ap suc (words_long l)
 
 -- cell by cell, the words tell what the nodes tell
-only-is : (X : List ℕ) (es : List Entry) (cols : ℕ) {n : ℕ} {l : Nodes} → Cells n l → (m : List Bool) (j : ℕ) → onlyLines X cols m j (words_of l) ≡ marks X es cols m j l
-unfolding onlyLines words_of marks
+only-is : (X : List ℕ) (es : List Entry) (cols : ℕ) {n : ℕ} {l : Nodes} → Cells n l → (m : List Bool) (j : ℕ) → only_lines X cols m j (words_of l) ≡ marks X es cols m j l
+unfolding only_lines words_of marks
 only-is X es cols none m j = refl
 only-is X es cols (cell {l} {m = r} c) m j =
-    ap (λ (b : Bool). onlyLines X cols (cond b m (set m j false)) (next cols j) (words_of r)) (line-cell X es l)
-    ∙ only-is X es cols c (cond (isColumnLine X es (node Head.cell l)) m (set m j false)) (next cols j)
+    ap (λ (b : Bool). only_lines X cols (cond b m (set m j false)) (next cols j) (words_of r)) (line-cell X es l)
+    ∙ only-is X es cols c (cond (is_column_line X es (node Head.cell l)) m (set m j false)) (next cols j)
 
-other-is : (cols : ℕ) (m : List Bool) (j : ℕ) (l : Nodes) → otherCells cols m j (words_of l) ≡ words_of (keep cols m j l)
-unfolding otherCells words_of keep
+other-is : (cols : ℕ) (m : List Bool) (j : ℕ) (l : Nodes) → other_cells cols m j (words_of l) ≡ words_of (keep cols m j l)
+unfolding other_cells words_of keep
 other-is cols m j end = refl
 other-is cols m j (x ▸ l) =
     ap (λ (r : List (List ℕ)). cond (get_or m j false) r (encode x ∷ r)) (other-is cols m (next cols j) l) ∙ one (get_or m j false) (keep cols m (next cols j) l)
@@ -58,19 +58,19 @@ record Holds (x : List ℕ) (at e : ℕ) (w : List ℕ) : Type 0 where
   words : (k : ℕ) → k < length w → get_or x (at + k) 0 ≡ get_or w k 0
 
 module _ {x : List ℕ} {at e : ℕ} (u v : List ℕ) (h : Holds x at e (u ++ v)) where
-  holds-left : Holds x at (at + length u) u
-  holds-left = record { upto = refl; words = λ k q. h.words k (simp length-append (omega arith)) ∙ get_or-append u v 0 k q }
+  holds_left : Holds x at (at + length u) u
+  holds_left = record { upto = refl; words = λ k q. h.words k (simp length-append (omega arith)) ∙ get_or-append u v 0 k q }
 
-  holds-right : Holds x (at + length u) e v
-  holds-right = record {
+  holds_right : Holds x (at + length u) e v
+  holds_right = record {
     upto = omega (arith, h.upto, length-append u v);
     words = λ k q.
         let a : at + length u + k ≡ at + (length u + k) = omega arith in
         rw a (h.words (length u + k) (simp length-append (omega arith)) ∙ get_or-append-add u v k 0);
   }
 
-holds-all : {x w : List ℕ} {at e : ℕ} (p : List ℕ) → length p ≡ at → e ≡ at + length w → take e x ≡ p ++ w → Holds x at e w
-holds-all {x} {w} {at} {e} p l u b = record {
+holds_all : {x w : List ℕ} {at e : ℕ} (p : List ℕ) → length p ≡ at → e ≡ at + length w → take e x ≡ p ++ w → Holds x at e w
+holds_all {x} {w} {at} {e} p l u b = record {
   upto = sym u;
   words = λ k q.
       sym (get_or-take e x (at + k) 0 (omega arith))
@@ -80,21 +80,21 @@ holds-all {x} {w} {at} {e} p l u b = record {
 }
 
 -- a cell's length is in its header
-cell-size : {x : List ℕ} {at e : ℕ} (l : Nodes) → Holds x at e (encode (node Head.cell l)) → cellLen x at ≡ length (encode (node Head.cell l))
+cell-size : {x : List ℕ} {at e : ℕ} (l : Nodes) → Holds x at e (encode (node Head.cell l)) → cell_len x at ≡ length (encode (node Head.cell l))
 unfolding encode
-cell-size l h = omega (arith, h.words 4 (omega arith), length-append (encodeItems l) [])
+cell-size l h = omega (arith, h.words 4 (omega arith), length-append (encode_items l) [])
 
 -- the cells that the headers tell are those that stand there
-cells_are : {x : List ℕ} {at e n : ℕ} {l : Nodes} → Cells n l → Holds x at e (encodes l) → e ≤ length x → (k : ℕ) → cellsEnd x at k ≡ e → (cellsFrom x at k ≡ words_of l) × (n ≡ k)
-unfolding cellsEnd cellsFrom words_of encodes encode
+cells_are : {x : List ℕ} {at e n : ℕ} {l : Nodes} → Cells n l → Holds x at e (encodes l) → e ≤ length x → (k : ℕ) → cells_end x at k ≡ e → (cells_from x at k ≡ words_of l) × (n ≡ k)
+unfolding cells_end cells_from words_of encodes encode
 cells_are none h f zero c = (refl, refl)
-cells_are {x} {at} none h f (suc k) c = absurd (omega (arith, h.upto, cells-le x k (at + cellLen x at)))
+cells_are {x} {at} none h f (suc k) c = absurd (omega (arith, h.upto, cells-le x k (at + cell_len x at)))
 cells_are (cell r) h f zero c = absurd (omega (arith, h.upto))
 cells_are {x} {at} {e} (cell {l} {m} r) h f (suc k) c =
     let w : List ℕ = encode (node Head.cell l) in
-    let head : Holds x at (at + length w) w = holds-left w (encodes m) h in
-    let rest : Holds x (at + length w) e (encodes m) = holds-right w (encodes m) h in
-    let s : cellLen x at ≡ length w = cell-size l head in
+    let head : Holds x at (at + length w) w = holds_left w (encodes m) h in
+    let rest : Holds x (at + length w) e (encodes m) = holds_right w (encodes m) h in
+    let s : cell_len x at ≡ length w = cell-size l head in
     let this : take (length w) (drop at x) ≡ w = part-is x at (length w) w (omega (arith, rest.upto)) refl head.words in
     let next = cells_are r rest f k (rw s at c) in
     (rw (s, this, next.0) refl, ap suc next.1)
@@ -109,7 +109,7 @@ some-join none s = s
 some-join (cell r) s = let t = some-join r s in record { size = suc t.size; all = cell t.all }
 
 some-grid : {cols : ℕ} {rs : List Nodes} → Grid cols rs → Some (joined rs)
-unfolding joinRows
+unfolding join_rows
 some-grid none = record { size = zero; all = none }
 some-grid (row c g) = some-join c (some-grid g)
 
@@ -119,7 +119,7 @@ width (row c g) = cells_count c
 abbrev rows_of : Rows → List Nodes
 rows_of rows = rows.head.cells ∷ rows.others
 
-module _ (X x : List ℕ) (from e cells cols : ℕ) (are : areCells x from e cells cols ≡ true) (es : List Entry) (rows : Rows) (grid : Grid cols (rows_of rows))
+module _ (X x : List ℕ) (from e cells cols : ℕ) (are : are_cells x from e cells cols ≡ true) (es : List Entry) (rows : Rows) (grid : Grid cols (rows_of rows))
     (p : List ℕ) (before : length p ≡ from) (upto : e ≡ from + length (encodes (joined (rows_of rows)))) (body : take e x ≡ p ++ encodes (joined (rows_of rows))) where
   room : (0 < cols) × (cols ≤ 4096) × (e + cols ≤ length x)
   room = room-parts (length x) e cols (cells-parts x from e cells cols are).0
@@ -127,50 +127,50 @@ module _ (X x : List ℕ) (from e cells cols : ℕ) (are : areCells x from e cel
   cells-all : Some (joined (rows_of rows))
   cells-all = some-grid grid
 
-  stand : (cellsFrom x from cells ≡ words_of (joined (rows_of rows))) × (cells-all.size ≡ cells)
-  stand = cells_are cells-all.all (holds-all p before upto body) (omega (arith, room.2)) cells (cells-parts x from e cells cols are).1
+  stand : (cells_from x from cells ≡ words_of (joined (rows_of rows))) × (cells-all.size ≡ cells)
+  stand = cells_are cells-all.all (holds_all p before upto body) (omega (arith, room.2)) cells (cells-parts x from e cells cols are).1
 
   many : count (joined (rows_of rows)) ≡ cells
   many = cells_count cells-all.all ∙ stand.1
 
   lines : List Bool
-  lines = lineCols X es rows.head.cells rows.others
+  lines = line_cols X es rows.head.cells rows.others
 
   mask_is : mask X x from e cells cols ≡ lines
   unfolding mask lines
   mask_is =
-      ap (onlyLines X cols (replicate cols true) 0) stand.0
+      ap (only_lines X cols (replicate cols true) 0) stand.0
       ∙ only-is X es cols cells-all.all (replicate cols true) 0
       ∙ marks-all X es rows.head.cells rows.others room.0 grid
 
   abbrev kept : Nodes
-  kept = joinRows (keepCells lines) (rows_of rows)
+  kept = join_rows (keep_cells lines) (rows_of rows)
 
   left_is : left X x from e cells cols ≡ words_of kept
   unfolding left lines
   left_is = rw (mask_is, stand.0) (other-is cols lines 0 (joined (rows_of rows)) ∙ ap words_of (keep-rows lines room.0 lines_long grid))
     where
       lines_long : length lines ≡ cols
-      lines_long = cols-long X es rows.head.cells rows.others grid
+      lines_long = cols_long X es rows.head.cells rows.others grid
 
   front : take from x ≡ p
   front = sym (take-take from e x (omega arith)) ∙ ap (take from) body ∙ take_at p (encodes (joined (rows_of rows))) from before
 
-  test : {t : Bool} → (eqb (keptCols lines) 0 || eqb (keptCols lines) cols) ≡ t → isSplit X x from e cells cols ≡ not t
-  unfolding isSplit
+  test : {t : Bool} → (eqb (kept_cols lines) 0 || eqb (kept_cols lines) cols) ≡ t → is_split X x from e cells cols ≡ not t
+  unfolding is_split
   test t = rw (are, mask_is, t) refl
 
-  count-test : {t : Bool} → (eqb (keptCols lines) 0 || eqb (keptCols lines) cols) ≡ t → (eqb (keptCols lines) 0 || eqb (keptCols lines) (count rows.head.cells)) ≡ t
+  count-test : {t : Bool} → (eqb (kept_cols lines) 0 || eqb (kept_cols lines) cols) ≡ t → (eqb (kept_cols lines) 0 || eqb (kept_cols lines) (count rows.head.cells)) ≡ t
   count-test t = rw (width grid) t
 
-  pub split_rows : MatrixOf (splitColumnLines X es rows) p (splitWords X x from e cells cols) (splitOf X x from e cells cols)
-  unfolding splitColumnLines splitWords splitOf lines
-  split_rows = go (eqb (keptCols lines) 0 || eqb (keptCols lines) cols) refl
+  pub split_rows : MatrixOf (split_column_lines X es rows) p (split_words X x from e cells cols) (split_of X x from e cells cols)
+  unfolding split_column_lines split_words split_of lines
+  split_rows = go (eqb (kept_cols lines) 0 || eqb (kept_cols lines) cols) refl
     where
-      go : (t : Bool) → (eqb (keptCols lines) 0 || eqb (keptCols lines) cols) ≡ t
-          → MatrixOf (splitColumnLines X es rows) p (splitWords X x from e cells cols) (splitOf X x from e cells cols)
+      go : (t : Bool) → (eqb (kept_cols lines) 0 || eqb (kept_cols lines) cols) ≡ t
+          → MatrixOf (split_column_lines X es rows) p (split_words X x from e cells cols) (split_of X x from e cells cols)
       go true t =
-          rw (test t, count-test t, splitColumnLines) (record {
+          rw (test t, count-test t, split_column_lines) (record {
             cells = joined (rows_of rows);
             lines = [];
             made = λ a b. ap (λ (c : ℕ). node (Head.matrix a b c []) (joined (rows_of rows))) (width grid);
@@ -181,13 +181,13 @@ module _ (X x : List ℕ) (from e cells cols : ℕ) (are : areCells x from e cel
             body = rw append-nil body;
           })
       go false t =
-          rw (test t, count-test t, splitColumnLines) (record {
+          rw (test t, count-test t, split_column_lines) (record {
             cells = kept;
-            lines = columnLines 0 lines;
-            made = λ a b. ap (λ (c : ℕ). node (Head.matrix a b c (columnLines 0 lines)) kept) (ap keptCols (sym mask_is));
+            lines = column_lines 0 lines;
+            made = λ a b. ap (λ (c : ℕ). node (Head.matrix a b c (column_lines 0 lines)) kept) (ap kept_cols (sym mask_is));
             size = sym (words_long kept) ∙ ap length (sym left_is);
             kept = sym (words_long kept) ∙ ap length (sym left_is);
-            bars = ap (λ (m : List Bool). length (columnLines 0 m)) (sym mask_is);
+            bars = ap (λ (m : List Bool). length (column_lines 0 m)) (sym mask_is);
             upto = rw (left_is, mask_is, words-join kept, length-append) (omega (arith, before));
             body = rw (front, left_is, mask_is, words-join kept) refl;
           })

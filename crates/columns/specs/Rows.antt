@@ -3,7 +3,7 @@ use Rattle.std.specs.Prelude.{ℕ, zero, suc, ◌+◌, ◌≤◌, ◌≡◌, Lis
 use Rattle.tokens.specs.Lexeme.{Span}
 use Rattle.tree.specs.Tree.{Head, Node, node, Nodes, end, ◌▸◌, count}
 use Rattle.tree.specs.Words.{encodes}
-use Rattle.reading.specs.Reading.{joinRows}
+use Rattle.reading.specs.Reading.{join_rows}
 use Rattle.columns.specs.declared.Split.{Split}
 
 -- n nodes, each a cell
@@ -18,7 +18,7 @@ pub data Grid (cols : ℕ) : List Nodes → Type 0 where
 
 -- the cells of the rows, one after another
 abbrev pub joined : List Nodes → Nodes
-joined rs = joinRows (λ l. l) rs
+joined rs = join_rows (λ l. l) rs
 
 -- The words are p and then the cells and the lines of the matrix t, and r has its numbers.
 pub record MatrixOf (t : (Span → Span → Node) × ℕ) (p words : List ℕ) (r : Split) : Type 0 where
@@ -36,6 +36,6 @@ pub record Bounds (x : List ℕ) (from end cells cols : ℕ) (words : List ℕ) 
   pub front : take from words ≡ take from x
   pub on : from ≤ r.end
   pub within : r.end ≤ end + cols
-  pub mostCols : r.cols ≤ cols
-  pub mostCells : r.cells ≤ cells
-  pub mostLines : r.lines ≤ cols
+  pub most_cols : r.cols ≤ cols
+  pub most_cells : r.cells ≤ cells
+  pub most_lines : r.lines ≤ cols

@@ -1,7 +1,7 @@
 // A flag for each column, past the cells: 1 for a column whose every cell is a column line, else 0.
 ghost use Rattle.std.specs.Prelude.{◌≡◌, true, cond, ◌+◌, ◌≤◌, ◌<◌, length, set, replicate, eqb};
 ghost use Rattle.std.proofs.Math.Seq.{paste};
-ghost use Rattle.columns.specs.Columns.{next, hasRoom};
+ghost use Rattle.columns.specs.Columns.{next, has_room};
 ghost use Rattle.columns.specs.Steps.{Marked, Counted, KeptCount, Lines};
 
 use crate::line::{cell_within, is_column_line, word};
@@ -88,7 +88,7 @@ fn kept_columns(tree: &[u32], end: usize, cols: usize) -> usize
 
 // Whether there are columns, at most 4,096, and past `end` a word for each.
 pub(crate) fn has_room(len: usize, end: usize, cols: usize) -> bool
-    ensures { result ≡ hasRoom len end cols }
+    ensures { result ≡ has_room len end cols }
 {
     if cols == 0 {
         false
@@ -108,7 +108,7 @@ pub(crate) fn count_kept(
     cells: usize,
     cols: usize,
 ) -> usize
-    requires { hasRoom (length tree.old) end cols ≡ true }
+    requires { has_room (length tree.old) end cols ≡ true }
     ensures { KeptCount text.now tree.old from end cells cols tree.new result }
 {
     if mark_columns(text, tree, from, end, cells, cols) {

@@ -4,7 +4,7 @@ mod line;
 mod moves;
 
 ghost use Rattle.std.specs.Prelude.{◌≡◌, true, ◌||◌, ◌+◌, length, take, drop, eqb};
-ghost use Rattle.columns.specs.Columns.{hasRoom, splitOf, splitWords, splitTree};
+ghost use Rattle.columns.specs.Columns.{has_room, split_of, split_words, split_tree};
 
 use crate::flags::{count_kept, fill, has_room, put_lines};
 use crate::moves::keep_cells;
@@ -34,9 +34,9 @@ fn split_cells(
     cells: usize,
     cols: usize,
 ) -> Split
-    requires { hasRoom (length tree.old) end cols ≡ true }
-    ensures value { result ≡ splitOf text.now tree.old from end cells cols }
-    ensures tree_after { take result.end tree.new ≡ splitWords text.now tree.old from end cells cols }
+    requires { has_room (length tree.old) end cols ≡ true }
+    ensures value { result ≡ split_of text.now tree.old from end cells cols }
+    ensures tree_after { take result.end tree.new ≡ split_words text.now tree.old from end cells cols }
     ensures tree_unchanged { drop (end + cols) tree.new ≡ drop (end + cols) tree.old }
 {
     let kept = count_kept(text, tree, from, end, cells, cols);
@@ -71,8 +71,8 @@ pub fn split_column_lines(
     cells: usize,
     cols: usize,
 ) -> Split
-    ensures value { result ≡ splitOf text.now tree.old from end cells cols }
-    ensures tree_after { tree.new ≡ splitTree text.now tree.old from end cells cols }
+    ensures value { result ≡ split_of text.now tree.old from end cells cols }
+    ensures tree_after { tree.new ≡ split_tree text.now tree.old from end cells cols }
 {
     if has_room(tree.len(), end, cols) {
         let split = split_cells(text, tree, from, end, cells, cols);

@@ -1,6 +1,6 @@
 // Cells by their words: their lengths, and which are column lines.
 ghost use Rattle.std.specs.Prelude.{cond, ◌≡◌, ◌+◌, ◌≤◌, ◌<◌, length, get_or, take, drop, leb};
-ghost use Rattle.columns.specs.Columns.{cellLen, loneSymbol, is_line};
+ghost use Rattle.columns.specs.Columns.{cell_len, lone_symbol, is_line};
 
 use buffer::fits;
 use spans::is_span_byte;
@@ -16,7 +16,7 @@ pub(crate) fn word(tree: &[u32], at: usize, k: usize) -> u32
 
 pub(crate) fn cell_len(tree: &[u32], at: usize) -> usize
     requires { at + 4 < length tree.now }
-    ensures { result ≡ cellLen tree.now at }
+    ensures { result ≡ cell_len tree.now at }
 {
     6 + word(tree, at, 4) as usize
 }
@@ -24,7 +24,7 @@ pub(crate) fn cell_len(tree: &[u32], at: usize) -> usize
 // The length of the cell at `at`, or 0 if it passes `end`.
 pub(crate) fn cell_within(tree: &[u32], at: usize, end: usize) -> usize
     requires { end ≤ length tree.now }
-    ensures { result ≡ cond (leb (at + cellLen tree.now at) end) (cellLen tree.now at) 0 }
+    ensures { result ≡ cond (leb (at + cell_len tree.now at) end) (cell_len tree.now at) 0 }
 {
     if fits(end, at, 6) {
         let n = cell_len(tree, at);
@@ -36,15 +36,15 @@ pub(crate) fn cell_within(tree: &[u32], at: usize, end: usize) -> usize
 
 // One item, no fraction; a simple without script; in it a symbol.
 fn is_lone_symbol(items: u32, frac: u32, kind: u32, script: u32, below: u32) -> bool
-    ensures { result ≡ loneSymbol items frac kind script below }
+    ensures { result ≡ lone_symbol items frac kind script below }
 {
     items == 1 && (frac == 0 && (kind == NODE_SIMPLE && (script == 0 && below == NODE_SYMBOL)))
 }
 
 // is_column_line, of the cell at `at`. With fewer than 10 words below its header it has no text.
 pub(crate) fn is_column_line(text: &[u8], tree: &[u32], at: usize) -> bool
-    requires { at + cellLen tree.now at ≤ length tree.now }
-    ensures { result ≡ is_line text.now (take (cellLen tree.now at) (drop at tree.now)) }
+    requires { at + cell_len tree.now at ≤ length tree.now }
+    ensures { result ≡ is_line text.now (take (cell_len tree.now at) (drop at tree.now)) }
 {
     if word(tree, at, 4) < 10 {
         false

@@ -7,12 +7,12 @@ use lib.Dec.{ltb}
 use lib.ListN.{length, drop}
 use native.Mathlib.Omega.{arith}
 use borrow.Author.Tests.{lt-ltb, le-ltb, ltb-false}
-use Rattle.tokens.proofs.Cases.{by-lt, apart}
-use Rattle.tokens.specs.Table.{tokenList, countOthers}
-use Rattle.records.specs.Record.{recordWords}
+use Rattle.tokens.proofs.Cases.{by_lt, apart}
+use Rattle.tokens.specs.Table.{token_list, count_others}
+use Rattle.records.specs.Record.{record_words}
 use Rattle.entries.specs.declared.Prepared.{Prepared}
 use Rattle.entries.specs.declared.Prepared.TheVariants.{Entries, Refused}
-use Rattle.entries.specs.Prepared.{workWords, prepared}
+use Rattle.entries.specs.Prepared.{work_words, prepared}
 use Rattle.entries.proofs.Filling.{length-work}
 
 module _ (count : ℕ) (table work : List ℕ) where
@@ -20,8 +20,8 @@ module _ (count : ℕ) (table work : List ℕ) where
   unfolding prepared
   many h = rw (prepared, lt-ltb 4096 count h)
 
-  pub enough : ltb (length work) (recordWords (countOthers (tokenList count table) + 1)) ≡ false → recordWords (countOthers (tokenList count table)) ≤ length work
-  enough w = let z = ltb-false (length work) (recordWords (countOthers (tokenList count table) + 1)) w in omega (arith, z)
+  pub enough : ltb (length work) (record_words (count_others (token_list count table) + 1)) ≡ false → record_words (count_others (token_list count table)) ≤ length work
+  enough w = let z = ltb-false (length work) (record_words (count_others (token_list count table) + 1)) w in omega (arith, z)
 
   module _ (h : count ≤ 4096) where
     pub short-table : length table < 3 * count → (Refused 3, work) ≡ prepared table count work
@@ -29,12 +29,12 @@ module _ (count : ℕ) (table work : List ℕ) where
     short-table t = rw (prepared, le-ltb 4096 count h, lt-ltb (length table) (3 * count) t)
 
     module _ (t : 3 * count ≤ length table) where
-      pub short-work : ltb (length work) (recordWords (countOthers (tokenList count table) + 1)) ≡ true → (Refused 8, work) ≡ prepared table count work
+      pub short-work : ltb (length work) (record_words (count_others (token_list count table) + 1)) ≡ true → (Refused 8, work) ≡ prepared table count work
       unfolding prepared
       short-work w = rw (prepared, le-ltb 4096 count h, le-ltb (length table) (3 * count) t, w)
 
-      pub ready : {n : ℕ} {after : List ℕ} → ltb (length work) (recordWords (countOthers (tokenList count table) + 1)) ≡ false → n ≡ countOthers (tokenList count table)
-          → after ≡ workWords (tokenList count table) ++ drop (recordWords (countOthers (tokenList count table))) work → (Entries n, after) ≡ prepared table count work
+      pub ready : {n : ℕ} {after : List ℕ} → ltb (length work) (record_words (count_others (token_list count table) + 1)) ≡ false → n ≡ count_others (token_list count table)
+          → after ≡ work_words (token_list count table) ++ drop (record_words (count_others (token_list count table))) work → (Entries n, after) ≡ prepared table count work
       unfolding prepared
       ready w e p = rw (prepared, le-ltb 4096 count h, le-ltb (length table) (3 * count) t, w, p, e)
 
@@ -42,10 +42,10 @@ module _ (count : ℕ) (table work : List ℕ) where
 pub record Made (table : List ℕ) (count : ℕ) (work : List ℕ) (n : ℕ) (K : List ℕ) : Type 0 where
   pub few : count ≤ 4096
   pub words : 3 * count ≤ length table
-  pub number : n ≡ countOthers (tokenList count table)
-  pub room : recordWords (countOthers (tokenList count table) + 1) ≤ length work
-  pub size : length (workWords (tokenList count table)) ≡ recordWords (countOthers (tokenList count table))
-  pub filled : K ≡ workWords (tokenList count table) ++ drop (recordWords (countOthers (tokenList count table))) work
+  pub number : n ≡ count_others (token_list count table)
+  pub room : record_words (count_others (token_list count table) + 1) ≤ length work
+  pub size : length (work_words (token_list count table)) ≡ record_words (count_others (token_list count table))
+  pub filled : K ≡ work_words (token_list count table) ++ drop (record_words (count_others (token_list count table))) work
 
 module _ (table : List ℕ) (count : ℕ) (work : List ℕ) (n : ℕ) (K : List ℕ) (c : (Entries n, K) ≡ prepared table count work) where
   -- no refusal
@@ -54,15 +54,15 @@ module _ (table : List ℕ) (count : ℕ) (work : List ℕ) (n : ℕ) (K : List 
 
   pub made : Made table count work n K
   made =
-      by-lt 4096 count
+      by_lt 4096 count
       (λ l. not_so 3 (many count table work l))
-      (λ h. by-lt (length table) (3 * count)
+      (λ h. by_lt (length table) (3 * count)
       (λ l. not_so 3 (short-table count table work h l))
-      (λ t. by-lt (length work) (recordWords (countOthers (tokenList count table) + 1))
+      (λ t. by_lt (length work) (record_words (count_others (token_list count table) + 1))
       (λ l. not_so 8 (short-work count table work h t (lt-ltb _ _ l)))
       (λ w.
       let p = c ∙ sym (ready count table work h t (le-ltb _ _ w) refl refl) in
-      record { few = h; words = t; number = number (ap (λ (x : Prepared × List ℕ). x.0) p); room = w; size = length-work (tokenList count table); filled = ap (λ (x : Prepared × List ℕ). x.1) p })))
+      record { few = h; words = t; number = number (ap (λ (x : Prepared × List ℕ). x.0) p); room = w; size = length-work (token_list count table); filled = ap (λ (x : Prepared × List ℕ). x.1) p })))
     where
       number : {m : ℕ} → Entries n ≡ Entries m → n ≡ m
       number p = cc

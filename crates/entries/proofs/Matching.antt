@@ -9,9 +9,9 @@ use native.Mathlib.Omega.{arith}
 use lib.Dec.{eqb}
 use borrow.Author.Tests.{eq-eqb, ne_eqb}
 use Rattle.tokens.specs.declared.token.Token.TheVariants as token
-use Rattle.reading.specs.Entries.{Entry, is, closeAfter, hasSep}
-use Rattle.tokens.proofs.Cases.{by-eq}
-use Rattle.entries.specs.Prepared.{closeFrom, ofBracket}
+use Rattle.reading.specs.Entries.{Entry, is, close_after, has_sep}
+use Rattle.tokens.proofs.Cases.{by_eq}
+use Rattle.entries.specs.Prepared.{close_from, of_bracket}
 use Rattle.entries.specs.Open.{Chain}
 
 -- The law over depth: what closes a bracket before e ∷ es, and the Sep in it, by what does so before es.
@@ -21,47 +21,47 @@ module _ (n : ℕ) (e : Entry) (es : List Entry) where
   one_on (some k) = omega arith
 
   module _ (o : is token.OpenBracket e ≡ true) where
-    pub close-opened : (d : ℕ) → closeFrom d n (e ∷ es) ≡ closeFrom (suc d) (suc n) es
-    unfolding closeFrom closeAfter
-    close-opened d = rw (closeFrom, closeAfter, o) (one_on (closeAfter (suc d) es))
+    pub close-opened : (d : ℕ) → close_from d n (e ∷ es) ≡ close_from (suc d) (suc n) es
+    unfolding close_from close_after
+    close-opened d = rw (close_from, close_after, o) (one_on (close_after (suc d) es))
 
-    pub sep-opened : (d : ℕ) → hasSep d (e ∷ es) ≡ hasSep (suc d) es
-    unfolding hasSep
-    sep-opened d = rw (hasSep, o)
+    pub sep-opened : (d : ℕ) → has_sep d (e ∷ es) ≡ has_sep (suc d) es
+    unfolding has_sep
+    sep-opened d = rw (has_sep, o)
 
   module _ (o : is token.OpenBracket e ≡ false) (c : is token.CloseBracket e ≡ true) where
-    pub close-closed : closeFrom zero n (e ∷ es) ≡ suc n
-    unfolding closeFrom closeAfter
-    close-closed = rw (closeFrom, closeAfter, o, c) (omega arith)
+    pub close-closed : close_from zero n (e ∷ es) ≡ suc n
+    unfolding close_from close_after
+    close-closed = rw (close_from, close_after, o, c) (omega arith)
 
-    pub close-inner : (d : ℕ) → closeFrom (suc d) n (e ∷ es) ≡ closeFrom d (suc n) es
-    unfolding closeFrom closeAfter
-    close-inner d = rw (closeFrom, closeAfter, o, c) (one_on (closeAfter d es))
+    pub close-inner : (d : ℕ) → close_from (suc d) n (e ∷ es) ≡ close_from d (suc n) es
+    unfolding close_from close_after
+    close-inner d = rw (close_from, close_after, o, c) (one_on (close_after d es))
 
-    pub sep-closed : hasSep zero (e ∷ es) ≡ false
-    unfolding hasSep
-    sep-closed = rw (hasSep, o, c)
+    pub sep-closed : has_sep zero (e ∷ es) ≡ false
+    unfolding has_sep
+    sep-closed = rw (has_sep, o, c)
 
-    pub sep-inner : (d : ℕ) → hasSep (suc d) (e ∷ es) ≡ hasSep d es
-    unfolding hasSep
-    sep-inner d = rw (hasSep, o, c)
+    pub sep-inner : (d : ℕ) → has_sep (suc d) (e ∷ es) ≡ has_sep d es
+    unfolding has_sep
+    sep-inner d = rw (has_sep, o, c)
 
   module _ (o : is token.OpenBracket e ≡ false) (c : is token.CloseBracket e ≡ false) where
-    pub close_other : (d : ℕ) → closeFrom d n (e ∷ es) ≡ closeFrom d (suc n) es
-    unfolding closeFrom closeAfter
-    close_other d = rw (closeFrom, closeAfter, o, c) (one_on (closeAfter d es))
+    pub close_other : (d : ℕ) → close_from d n (e ∷ es) ≡ close_from d (suc n) es
+    unfolding close_from close_after
+    close_other d = rw (close_from, close_after, o, c) (one_on (close_after d es))
 
-    pub sep-direct : is token.Sep e ≡ true → hasSep zero (e ∷ es) ≡ true
-    unfolding hasSep
-    sep-direct s = rw (hasSep, o, c, s)
+    pub sep-direct : is token.Sep e ≡ true → has_sep zero (e ∷ es) ≡ true
+    unfolding has_sep
+    sep-direct s = rw (has_sep, o, c, s)
 
-    pub sep-deeper : (d : ℕ) → hasSep (suc d) (e ∷ es) ≡ hasSep (suc d) es
-    unfolding hasSep
-    sep-deeper d = rw (hasSep, o, c, ne_eqb (suc d) 0 (λ z. omega arith), and-false)
+    pub sep-deeper : (d : ℕ) → has_sep (suc d) (e ∷ es) ≡ has_sep (suc d) es
+    unfolding has_sep
+    sep-deeper d = rw (has_sep, o, c, ne_eqb (suc d) 0 (λ z. omega arith), and-false)
 
-    pub sep-other : is token.Sep e ≡ false → (d : ℕ) → hasSep d (e ∷ es) ≡ hasSep d es
-    unfolding hasSep
-    sep-other s d = rw (hasSep, o, c, s)
+    pub sep-other : is token.Sep e ≡ false → (d : ℕ) → has_sep d (e ∷ es) ≡ has_sep d es
+    unfolding has_sep
+    sep-other s d = rw (has_sep, o, c, s)
 
 -- What the field of an entry comes to in the end: f of its depth, if its bracket is open, else itself.
 abbrev pub comes : (ℕ → ℕ → ℕ) → ℕ → List ℕ → ℕ → ℕ → ℕ
@@ -69,10 +69,10 @@ comes f d [] i w = w
 comes f d (s ∷ st) i w = cond (eqb i s) (f d w) (comes f (suc d) st i w)
 
 abbrev pub closing : ℕ → List Entry → ℕ → ℕ → ℕ
-closing n es d w = closeFrom d n es
+closing n es d w = close_from d n es
 
 abbrev pub parting : List Entry → ℕ → ℕ → ℕ
-parting es d w = cond (hasSep d es) 1 w
+parting es d w = cond (has_sep d es) 1 w
 
 module _ (f g : ℕ → ℕ → ℕ) (i w : ℕ) where
   -- the same from one depth further in, and one further out
@@ -94,11 +94,11 @@ pick_same false x = refl
 
 -- y is x but for v at b
 picked : (x y : ℕ → ℕ) (b i : ℕ) {v : ℕ} → y b ≡ v → ((i ≡ b → ⊥) → y i ≡ x i) → cond (eqb i b) v (x i) ≡ y i
-picked x y b i p q = by-eq i b (λ e. rw (eq-eqb i b e, e) (sym p)) (λ e. rw (ne_eqb i b e) (sym (q e)))
+picked x y b i p q = by_eq i b (λ e. rw (eq-eqb i b e, e) (sym p)) (λ e. rw (ne_eqb i b e) (sym (q e)))
 
 -- Every number below suc n is below n or n.
 pub up_to : (P : ℕ → Type 0) (n : ℕ) → ((i : ℕ) → i < n → P i) → P n → (i : ℕ) → i < suc n → P i
-up_to P n h p i l = by-eq i n (λ e. rw e p) (λ d. h i (omega arith))
+up_to P n h p i l = by_eq i n (λ e. rw e p) (λ d. h i (omega arith))
 
 -- the stack without its last bracket o
 pub record Popped (c : ℕ → ℕ) (b o : ℕ) (st : List ℕ) : Type 0 where
@@ -138,7 +138,7 @@ module _ {c : ℕ → ℕ} where
   pub comes-popped : (f g : ℕ → ℕ → ℕ) (i w : ℕ) {o top : ℕ} {st : List ℕ} → Chain c o st top → ((d : ℕ) → g d w ≡ f (suc d) w)
       → comes f 0 (o ∷ st) i w ≡ comes g 0 st i (cond (eqb i o) (f 0 w) w)
   comes-popped f g i w {o} {top} {st} p h =
-      by-eq i o
+      by_eq i o
       (λ e. rw (eq-eqb i o e) (sym (chain-out g 0 (f 0 w) p (omega arith))))
       (λ e. rw (ne_eqb i o e) (sym (comes-deeper g f i w h 0 st)))
 
@@ -165,10 +165,10 @@ module _ (fc fs c s : ℕ → ℕ) where
 
   -- One entry more, e, whose fields are what the definition says.
   module _ (n top : ℕ) (e : Entry) (es : List Entry) (m : Matching fc fs c s n top (e ∷ es))
-      (fcn : fc n ≡ ofBracket e (closeFrom zero (suc n) es)) (fsn : fs n ≡ ofBracket e (cond (hasSep zero es) 1 0)) (cn : c n ≡ 0) (sn : s n ≡ 0)
+      (fcn : fc n ≡ of_bracket e (close_from zero (suc n) es)) (fsn : fs n ≡ of_bracket e (cond (has_sep zero es) 1 0)) (cn : c n ≡ 0) (sn : s n ≡ 0)
     where
       pub opened : (c' : ℕ → ℕ) → is token.OpenBracket e ≡ true → ((i : ℕ) → i < n → c' i ≡ c i) → c' n ≡ top → Matching fc fs c' s (suc n) (suc n) es
-      unfolding ofBracket
+      unfolding of_bracket
       opened c' o hc t =
           record {
             stack = n ∷ m.stack;
@@ -183,11 +183,11 @@ module _ (fc fs c s : ℕ → ℕ) where
 
       module _ (o : is token.OpenBracket e ≡ false) where
         none-close : fc n ≡ 0
-        unfolding ofBracket
+        unfolding of_bracket
         none-close = fcn ∙ rw o
 
         none-sep : fs n ≡ 0
-        unfolding ofBracket
+        unfolding of_bracket
         none-sep = fsn ∙ rw o
 
         pub alone : top ≡ 0 → Matching fc fs c s (suc n) 0 es
@@ -240,8 +240,8 @@ module _ (fc fs c s : ℕ → ℕ) where
                     (λ i l.
                     m.sep i l
                     ∙ rw q.whole
-                    (by-eq i b
-                    (λ z. rw (eq-eqb i b z, sep-direct n e es o k p, z, sb) (sym (pick_same (hasSep 0 es) 1)))
+                    (by_eq i b
+                    (λ z. rw (eq-eqb i b z, sep-direct n e es o k p, z, sb) (sym (pick_same (has_sep 0 es) 1)))
                     (λ z. rw (ne_eqb i b z, so i (omega arith) z) (comes-inner (parting (e ∷ es)) (parting es) i (s i) (λ d. rw (sep-deeper n e es o k d)) 0 q.rest))))
                     (none-sep ∙ sym (so n (omega arith) (λ z. omega (arith, q.below)) ∙ sn) ∙ sym (chain-out (parting es) 0 (s' n) m.chain (omega arith)));
               }

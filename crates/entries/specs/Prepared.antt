@@ -4,10 +4,10 @@ use Rattle.std.proofs.Math.Option.{none, some}
 use Rattle.tokens.specs.declared.token.Token.TheVariants as token
 use Rattle.tokens.specs.Kinds.{number_of}
 use Rattle.tokens.specs.Lexeme.{Lexeme}
-use Rattle.tokens.specs.Table.{tokenList, countOthers}
+use Rattle.tokens.specs.Table.{token_list, count_others}
 use Rattle.tree.specs.Tree.{nowhere}
-use Rattle.reading.specs.Entries.{Entry, is, entries, closeAfter, hasSep}
-use Rattle.records.specs.Record.{recordWords, recordOf}
+use Rattle.reading.specs.Entries.{Entry, is, entries, close_after, has_sep}
+use Rattle.records.specs.Record.{record_words, record_of}
 use Rattle.entries.specs.declared.Prepared.{Prepared}
 use Rattle.entries.specs.declared.Prepared.TheVariants.{Entries, Refused}
 
@@ -19,22 +19,22 @@ places i (t ∷ ts) =
 
 -- the entry behind the CloseBracket that closes a bracket before es, `depth` others being closed before it, or 0; i is the
 -- number of the first of es
-unfoldable pub closeFrom : ℕ → ℕ → List Entry → ℕ
-closeFrom depth i es = elim (closeAfter depth es) [ none ↦ 0 | some k ↦ suc (i + k) ]
+unfoldable pub close_from : ℕ → ℕ → List Entry → ℕ
+close_from depth i es = elim (close_after depth es) [ none ↦ 0 | some k ↦ suc (i + k) ]
 
 -- what only an OpenBracket has
-unfoldable pub ofBracket : Entry → ℕ → ℕ
-ofBracket e w = cond (is token.OpenBracket e) w 0
+unfoldable pub of_bracket : Entry → ℕ → ℕ
+of_bracket e w = cond (is token.OpenBracket e) w 0
 
 -- the records of the entries from number i on, at these places
 unfoldable pub records : ℕ → List ℕ → List Entry → List ℕ
 records i [] es = []
 records i (p ∷ ps) [] = []
 records i (p ∷ ps) (e ∷ es) =
-    recordOf p (ofBracket e (closeFrom zero (suc i) es)) (ofBracket e (cond (hasSep zero es) 1 0)) (records (suc i) ps es)
+    record_of p (of_bracket e (close_from zero (suc i) es)) (of_bracket e (cond (has_sep zero es) 1 0)) (records (suc i) ps es)
 
-unfoldable pub workWords : List Lexeme → List ℕ
-workWords ts = records zero (places zero ts) (entries nowhere ts)
+unfoldable pub work_words : List Lexeme → List ℕ
+work_words ts = records zero (places zero ts) (entries nowhere ts)
 
 -- "3 more than 4,096 tokens claimed, or a table with fewer than three words for each"; "8 work too short": "Two words a
 -- token, 2 × (n + 1) in all". A refusal changes nothing; words past the records are unchanged.
@@ -46,10 +46,10 @@ prepared table count work =
           elim (ltb (length table) (3 * count)) [
             | true ↦ (Refused 3, work)
             | false ↦
-                let ts = tokenList count table in
-                elim (ltb (length work) (recordWords (countOthers ts + 1))) [
+                let ts = token_list count table in
+                elim (ltb (length work) (record_words (count_others ts + 1))) [
                   | true ↦ (Refused 8, work)
-                  | false ↦ (Entries (countOthers ts), workWords ts ++ drop (recordWords (countOthers ts)) work)
+                  | false ↦ (Entries (count_others ts), work_words ts ++ drop (record_words (count_others ts)) work)
                 ]
           ]
     ]

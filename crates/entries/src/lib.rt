@@ -1,9 +1,9 @@
 // Parser::new of parse.rs over lent words: a record for each token other than Space.
 ghost use Rattle.std.specs.Prelude.{◌≡◌, List, ℕ, ◌+◌, ◌*◌, ◌≤◌, ltb, length};
-ghost use Rattle.tokens.specs.Table.{tokenList, countOthers};
-ghost use Rattle.records.specs.Record.{recordWords, afterClose};
+ghost use Rattle.tokens.specs.Table.{token_list, count_others};
+ghost use Rattle.records.specs.Record.{record_words, after_close};
 ghost use Rattle.entries.specs.Prepared.{prepared};
-ghost use Rattle.entries.specs.Open.{Chain, Opened, clearAll, Link, Filled};
+ghost use Rattle.entries.specs.Open.{Chain, Opened, clear_all, Link, Filled};
 
 use fields::after_close;
 use records::RECORD_WORDS;
@@ -29,7 +29,7 @@ struct Matched {
 fn count_entries(table: &[u32], count: usize) -> usize
     requires count_bound { count ≤ 4096 }
     requires count_in_bounds { 3 * count ≤ length table.now }
-    ensures { result ≡ countOthers (tokenList count table.now) }
+    ensures { result ≡ count_others (token_list count table.now) }
 {
     let mut n = 0;
     let mut i = 0;
@@ -46,7 +46,7 @@ fn count_entries(table: &[u32], count: usize) -> usize
 fn is_short(table: &[u32], count: usize, words: usize) -> bool
     requires count_bound { count ≤ 4096 }
     requires count_in_bounds { 3 * count ≤ length table.now }
-    ensures { result ≡ ltb words (recordWords (countOthers (tokenList count table.now) + 1)) }
+    ensures { result ≡ ltb words (record_words (count_others (token_list count table.now) + 1)) }
 {
     if count < words / RECORD_WORDS {
         return false;
@@ -84,9 +84,9 @@ fn link(work: &mut [u32], i: usize, kind: u32, top: usize) -> usize
 fn fill(table: &[u32], count: usize, work: &mut [u32]) -> Matched
     requires count_bound { count ≤ 4096 }
     requires count_in_bounds { 3 * count ≤ length table.now }
-    requires table_in_bounds { recordWords (countOthers (tokenList count table.now)) ≤ length work.old }
-    ensures filled { Filled (tokenList count table.now) work.old work.new result.last }
-    ensures entries_value { result.entries ≡ countOthers (tokenList count table.now) }
+    requires table_in_bounds { record_words (count_others (token_list count table.now)) ≤ length work.old }
+    ensures filled { Filled (token_list count table.now) work.old work.new result.last }
+    ensures entries_value { result.entries ≡ count_others (token_list count table.now) }
 {
     let mut n = 0;
     let mut top = 0;
@@ -109,7 +109,7 @@ fn fill(table: &[u32], count: usize, work: &mut [u32]) -> Matched
 // Clears the close fields of the brackets that nothing closes.
 fn clear_open(work: &mut [u32], last: usize)
     requires { Opened work.old last }
-    ensures { (st : List ℕ) → Chain (afterClose work.old) last st last → work.new ≡ clearAll st work.old }
+    ensures { (st : List ℕ) → Chain (after_close work.old) last st last → work.new ≡ clear_all st work.old }
 {
     let mut top = last;
     while 0 < top {

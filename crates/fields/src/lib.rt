@@ -1,6 +1,6 @@
 // The fields of a record beside its token's place: the closing bracket, the Sep, the marks and the closer.
 ghost use Rattle.std.specs.Prelude.{◌≡◌, ◌+◌, ◌*◌, ◌<◌, get_or};
-ghost use Rattle.records.specs.Record.{afterClose, sepOf, marksOf, closerOf};
+ghost use Rattle.records.specs.Record.{after_close, sep_of, marks_of, closer_of};
 
 use records::RECORD_WORDS;
 use records::bits::{Bits, bits_of};
@@ -20,28 +20,28 @@ fn word(work: &[u32], i: usize, k: usize) -> u32
 
 // The entry behind the closing bracket of the one at i, or 0.
 pub fn after_close(work: &[u32], i: usize) -> usize
-    ensures { result ≡ afterClose work.now i }
+    ensures { result ≡ after_close work.now i }
 {
     bits_of(Bits::High, word(work, i, 0)) as usize
 }
 
 // 1 if a Sep stands directly in the bracket at i, or 0; or what the reading noted there.
 pub fn sep_of(work: &[u32], i: usize) -> u32
-    ensures { result ≡ sepOf work.now i }
+    ensures { result ≡ sep_of work.now i }
 {
     bits_of(Bits::Low, word(work, i, 1))
 }
 
 // The marks of the entry i, see the crate `marks`.
 pub fn marks_of(work: &[u32], i: usize) -> u32
-    ensures { result ≡ marksOf work.now i }
+    ensures { result ≡ marks_of work.now i }
 {
     bits_of(Bits::Marks, word(work, i, 1))
 }
 
 // How far before the end of the entries the closer of the entry i stands, or 0.
 pub fn closer_of(work: &[u32], i: usize) -> u32
-    ensures { result ≡ closerOf work.now i }
+    ensures { result ≡ closer_of work.now i }
 {
     bits_of(Bits::Closer, word(work, i, 1))
 }

@@ -9,23 +9,23 @@ use lib.ListN.{length, replicate, get_elem?, length-map}
 use Rattle.tokens.specs.declared.token.Token.{Token}
 use Rattle.tokens.specs.declared.token.Token.TheVariants as token
 use Rattle.tokens.specs.Lexeme.{Span, Lexeme}
-use Rattle.tokens.specs.Table.{countOthers}
+use Rattle.tokens.specs.Table.{count_others}
 use Rattle.tree.specs.Tree.{nowhere, Script, Head, Atom, Prefix, Node, node, Nodes, end, ◌▸◌, leaf, one}
 use Rattle.reading.specs.Stop.{Stop}
 use Rattle.reading.specs.Entries.{Entry, is, entries}
 use Rattle.grammar.specs.Grammar.{Constant, tok, S, const, bracketed, unary, binary, I, bare, sub, super, subsuper}
-use Rattle.grammar.specs.Grammar.{E, more, fraction, alone, treeS, treeI, treeE, ofKind, others, Short, Settled}
-use Rattle.grammar.specs.Strip.{isSpaceItem, strip}
-use Rattle.reading.specs.Reading.{State, M, Readers, marksScript, heads, begins, prefixes, is_at, advance, argument}
-use Rattle.reading.specs.Reading.{nextScript, nextScriptFunc, nextIntermediate, atOpenClose, intermediates, tryMatrix}
-use Rattle.reading.specs.Reading.{nextOpenGroup, nextBracket, begun, nextSimple, step, level, last_of, parse}
-use Rattle.reading.specs.Reading.{parseEntries, readingBy, readTokens}
-use Rattle.grammar.proofs.Derived.{lexemeOf, entry_of, entries-others, Tok, Stand, tok-inside, stand-head, stand-end}
-use Rattle.grammar.proofs.Derived.{stand-cut, stand-up, stand-all, Plain, bearing, plain-as, constant-plain, open_plain}
+use Rattle.grammar.specs.Grammar.{E, more, fraction, alone, tree_s, tree_i, tree_e, of_kind, others, Short, Settled}
+use Rattle.grammar.specs.Strip.{is_space_item, strip}
+use Rattle.reading.specs.Reading.{State, M, Readers, marks_script, heads, begins, prefixes, is_at, advance, argument}
+use Rattle.reading.specs.Reading.{next_script, next_script_func, next_intermediate, at_open_close, intermediates, try_matrix}
+use Rattle.reading.specs.Reading.{next_open_group, next_bracket, begun, next_simple, step, level, last_of, parse}
+use Rattle.reading.specs.Reading.{parse_entries, reading_by, read_tokens}
+use Rattle.grammar.proofs.Derived.{lexeme_of, entry_of, entries-others, Tok, Stand, tok-inside, stand-head, stand-end}
+use Rattle.grammar.proofs.Derived.{stand-cut, stand-up, stand-all, Plain, bearing, plain-as, constant_plain, open_plain}
 use Rattle.grammar.proofs.Derived.{close-plain, unary-plain, binary-plain, First, S-first, I-first, E-first, NoSep}
-use Rattle.grammar.proofs.Derived.{E-sep, gate-shut}
+use Rattle.grammar.proofs.Derived.{E-sep, gate_shut}
 use Rattle.grammar.proofs.Steps.{Comes, Is, Marks, comes, strip-one, strip-two, strip-spaced, From, answer, give, note}
-use Rattle.grammar.proofs.Steps.{to, on-true, on-false, call, given, call-node, at_here}
+use Rattle.grammar.proofs.Steps.{to, on_true, on_false, call, given, call-node, at_here}
 
 past_end : (es : List Entry) → get_elem? es (length es) ≡ none
 past_end [] = refl
@@ -60,12 +60,12 @@ module _ (text : List ℕ) (es : List Entry) (remember : Bool) where
           (none, t, rw (e, advance, k), p, refl)
 
   -- What does not stand at a position: marks and heads; at a CloseBracket and at the end also the beginning of an item.
-  at-tok : {i : ℕ} {t : Lexeme} (ok : Entry → Bool) (h : Tok es i t) → ok h.entry ≡ false → is_at text es ok i ≡ false
+  at_tok : {i : ℕ} {t : Lexeme} (ok : Entry → Bool) (h : Tok es i t) → ok h.entry ≡ false → is_at text es ok i ≡ false
   unfolding is_at
-  at-tok ok h k = rw (h.there, is_at, k)
+  at_tok ok h k = rw (h.there, is_at, k)
 
   record Unmarked (i : ℕ) : Type 0 where
-    script : is_at text es marksScript i ≡ false
+    script : is_at text es marks_script i ≡ false
     frac : is_at text es (is token.Frac) i ≡ false
     head : (sg : Bool) → is_at text es (heads sg) i ≡ false
 
@@ -73,29 +73,29 @@ module _ (text : List ℕ) (es : List Entry) (remember : Bool) where
   unmarked h p =
       let q = plain-as h.entry h.kind p in
       record {
-        script = at-tok marksScript h q.0;
-        frac = at-tok (is token.Frac) h q.1;
-        head = λ sg. at-tok (heads sg) h (q.2 sg);
+        script = at_tok marks_script h q.0;
+        frac = at_tok (is token.Frac) h q.1;
+        head = λ sg. at_tok (heads sg) h (q.2 sg);
       }
 
   record Closed (j : ℕ) : Type 0 where
     clear : Unmarked j
     begin : is_at text es (begins Stop.none) j ≡ false
 
-  at-end : (ok : Entry → Bool) → is_at text es ok (length es) ≡ false
+  at_end : (ok : Entry → Bool) → is_at text es ok (length es) ≡ false
   unfolding is_at
-  at-end ok = rw (past_end es, is_at)
+  at_end ok = rw (past_end es, is_at)
 
   closed-end : Closed (length es)
   closed-end = record {
-    clear = record { script = at-end marksScript; frac = at-end (is token.Frac); head = λ sg. at-end (heads sg) };
-    begin = at-end (begins Stop.none);
+    clear = record { script = at_end marks_script; frac = at_end (is token.Frac); head = λ sg. at_end (heads sg) };
+    begin = at_end (begins Stop.none);
   }
 
   closed-tok : {j : ℕ} {sp : Span} → Tok es j (tok token.CloseBracket sp) → Closed j
   closed-tok h = record {
     clear = unmarked h close-plain;
-    begin = at-tok (begins Stop.none) h (plain-as h.entry h.kind close-plain).4;
+    begin = at_tok (begins Stop.none) h (plain-as h.entry h.kind close-plain).4;
   }
 
   -- The readers of one depth, from what those one deeper come to.
@@ -108,19 +108,19 @@ module _ (text : List ℕ) (es : List Entry) (remember : Bool) where
     module _ (sg : Bool) where
       simple-took : {i j : ℕ} {t : Lexeme} {P : Option Node → Type 0} (h : Tok es i t) → Plain true (bearing t.token) →
           From (suc i) (begun text es remember R t.token h.entry i Stop.none sg) j P →
-          From i (nextSimple text es remember R Stop.none sg) j P
-      unfolding nextSimple
+          From i (next_simple text es remember R Stop.none sg) j P
+      unfolding next_simple
       simple-took {i} {j} {P} h p g =
           given _ at_here
           (given _ (takes (begins Stop.none) h (plain-as h.entry h.kind p).4)
           (subst (λ k. From (suc i) (begun text es remember R k h.entry i Stop.none sg) j P) (sym h.kind) g))
 
-      constant-is : {i : ℕ} {k : Token} {a : Atom} {sp : Span} → Constant k a → Tok es i (tok k sp) →
-          From i (nextSimple text es remember R Stop.none sg) (suc i) (Is (leaf (Head.atom a sp)))
-      unfolding begun strip isSpaceItem
-      constant-is {i} {sp} c h = simple-took h (constant-plain c) (begun-is c)
+      constant_is : {i : ℕ} {k : Token} {a : Atom} {sp : Span} → Constant k a → Tok es i (tok k sp) →
+          From i (next_simple text es remember R Stop.none sg) (suc i) (Is (leaf (Head.atom a sp)))
+      unfolding begun strip is_space_item
+      constant_is {i} {sp} c h = simple-took h (constant_plain c) (begun-is c)
         where
-          atom : {a : Atom} → isSpaceItem (Head.atom a sp) ≡ false →
+          atom : {a : Atom} → is_space_item (Head.atom a sp) ≡ false →
               Is (leaf (Head.atom a sp)) (some (leaf (Head.atom a h.entry.span)))
           atom {a} b = (_, refl, comes (ap (Head.atom a) h.place) b refl)
 
@@ -134,8 +134,8 @@ module _ (text : List ℕ) (es : List Entry) (remember : Bool) where
 
       unary-is : {i j : ℕ} {a : Node} {sp : Span} → Tok es i (tok token.Unary sp) →
           From (suc i) (R.simple Stop.none true) j (Is a) →
-          From i (nextSimple text es remember R Stop.none sg) j (Is (one (Head.prefix Prefix.unary sp) a))
-      unfolding begun isSpaceItem
+          From i (next_simple text es remember R Stop.none sg) j (Is (one (Head.prefix Prefix.unary sp) a))
+      unfolding begun is_space_item
       unary-is h g =
           simple-took h unary-plain
           (call (argument_is g) λ n c.
@@ -143,134 +143,134 @@ module _ (text : List ℕ) (es : List Entry) (remember : Bool) where
 
       binary-is : {i j k : ℕ} {a b : Node} {sp : Span} → Tok es i (tok token.Binary sp) →
           From (suc i) (R.simple Stop.none true) j (Is a) → From j (R.simple Stop.none true) k (Is b) →
-          From i (nextSimple text es remember R Stop.none sg) k (Is (node (Head.prefix Prefix.binary sp) (a ▸ b ▸ end)))
-      unfolding begun isSpaceItem
+          From i (next_simple text es remember R Stop.none sg) k (Is (node (Head.prefix Prefix.binary sp) (a ▸ b ▸ end)))
+      unfolding begun is_space_item
       binary-is h f g =
           simple-took h binary-plain
           (call (argument_is f) λ n c. call (argument_is g) λ m d.
           give _ (_, refl, comes (ap (Head.prefix Prefix.binary) h.place) refl (strip-two c d)))
 
-      bracket-is : {i j : ℕ} {l r : Span} {m : Nodes} → NoSep (map lexemeOf es) →
+      bracket-is : {i j : ℕ} {l r : Span} {m : Nodes} → NoSep (map lexeme_of es) →
           Tok es i (tok token.OpenBracket l) → Tok es j (tok token.CloseBracket r) →
           From (suc i) (intermediates text es remember R (suc (length es)) none Stop.none none) j (λ x. strip x ≡ m) →
-          From i (nextSimple text es remember R Stop.none sg) (suc j) (Is (node (Head.group l r) m))
-      unfolding begun nextBracket tryMatrix nextOpenGroup isSpaceItem is
+          From i (next_simple text es remember R Stop.none sg) (suc j) (Is (node (Head.group l r) m))
+      unfolding begun next_bracket try_matrix next_open_group is_space_item is
       bracket-is {i} {j} {l} {r} {m} free o c g =
           simple-took o open_plain
-          (call (given _ (on-false _ (gate-shut text es free o.entry i) (give none refl)) group) λ n d.
+          (call (given _ (on_false _ (gate_shut text es free o.entry i) (give none refl)) group) λ n d.
           give _ (n, refl, d))
         where
-          group : From (suc i) (nextOpenGroup text es remember R o.entry i) (suc j) (Comes (node (Head.group l r) m))
+          group : From (suc i) (next_open_group text es remember R o.entry i) (suc j) (Comes (node (Head.group l r) m))
           group =
               call g λ x e. given _ (takes (is token.CloseBracket) c (rw c.kind))
               (note i _ (comes (rw (o.place, c.place)) refl e))
 
       -- a scripted part
       scripted : {i j k : ℕ} {a : Node} {sc : Script} {l : Nodes} → Unmarked i → From i (R.simple Stop.none sg) j (Is a) →
-          From j (nextScript text es remember R) k (Marks sc l) →
-          From i (nextScriptFunc text es remember R Stop.none sg) k (Is (node (Head.simple sc) (a ▸ l)))
-      unfolding nextScriptFunc isSpaceItem
+          From j (next_script text es remember R) k (Marks sc l) →
+          From i (next_script_func text es remember R Stop.none sg) k (Is (node (Head.simple sc) (a ▸ l)))
+      unfolding next_script_func is_space_item
       scripted {a} u g h =
           given _ (passes (heads sg) (u.head sg))
           (call-node _ g λ n c. call h λ q m.
           give _ (_, refl, comes (ap Head.simple m.0) refl (c.before q.1 ∙ ap (λ y. a ▸ y) m.1)))
 
       item-alone : {i j : ℕ} {a : Node} → is_at text es (is token.Frac) j ≡ false →
-          From i (R.scriptFunc Stop.none sg) j (Is a) →
-          From i (nextIntermediate text es remember R Stop.none sg) j (Is a)
-      unfolding nextIntermediate
+          From i (R.script_func Stop.none sg) j (Is a) →
+          From i (next_intermediate text es remember R Stop.none sg) j (Is a)
+      unfolding next_intermediate
       item-alone h g = call-node _ g λ n c. given _ (passes (is token.Frac) h) (give _ (n, refl, c))
 
-      item-fraction : {i j k : ℕ} {a b : Node} {sp : Span} → From i (R.scriptFunc Stop.none sg) j (Is a) →
-          Tok es j (tok token.Frac sp) → From (suc j) (R.scriptFunc Stop.none true) k (Is b) →
-          From i (nextIntermediate text es remember R Stop.none sg) k (Is (node Head.frac (a ▸ b ▸ end)))
-      unfolding nextIntermediate isSpaceItem is
+      item-fraction : {i j k : ℕ} {a b : Node} {sp : Span} → From i (R.script_func Stop.none sg) j (Is a) →
+          Tok es j (tok token.Frac sp) → From (suc j) (R.script_func Stop.none true) k (Is b) →
+          From i (next_intermediate text es remember R Stop.none sg) k (Is (node Head.frac (a ▸ b ▸ end)))
+      unfolding next_intermediate is_space_item is
       item-fraction f h g =
           call-node _ f λ n c. given _ (takes (is token.Frac) h (rw h.kind))
           (call-node _ g λ m d. give _ (_, refl, comes refl refl (strip-two c d)))
 
     -- scripts
-    script-none : {i : ℕ} → is_at text es marksScript i ≡ false →
-        From i (nextScript text es remember R) i (Marks Script.none end)
-    unfolding nextScript strip
-    script-none h = given _ (passes marksScript h) (give _ (refl, refl))
+    script-none : {i : ℕ} → is_at text es marks_script i ≡ false →
+        From i (next_script text es remember R) i (Marks Script.none end)
+    unfolding next_script strip
+    script-none h = given _ (passes marks_script h) (give _ (refl, refl))
 
     script-super : {i j : ℕ} {a : Node} {sp : Span} → Tok es i (tok token.Super sp) →
         From (suc i) (R.simple Stop.none true) j (Is a) →
-        From i (nextScript text es remember R) j (Marks Script.super (a ▸ end))
-    unfolding nextScript marksScript is
+        From i (next_script text es remember R) j (Marks Script.super (a ▸ end))
+    unfolding next_script marks_script is
     script-super h g =
-        given _ (takes marksScript h (rw h.kind))
-        (on-true _ (rw h.kind) (call (argument_is g) λ n c. give _ (refl, strip-one c)))
+        given _ (takes marks_script h (rw h.kind))
+        (on_true _ (rw h.kind) (call (argument_is g) λ n c. give _ (refl, strip-one c)))
 
     script-sub : {i j : ℕ} {a : Node} {sp : Span} → Tok es i (tok token.Sub sp) →
         From (suc i) (R.simple Stop.none true) j (Is a) → is_at text es (is token.Super) j ≡ false →
-        From i (nextScript text es remember R) j (Marks Script.sub (a ▸ end))
-    unfolding nextScript marksScript is
+        From i (next_script text es remember R) j (Marks Script.sub (a ▸ end))
+    unfolding next_script marks_script is
     script-sub h g k =
-        given _ (takes marksScript h (rw h.kind))
-        (on-false _ (rw h.kind) (call (argument_is g) λ n c.
+        given _ (takes marks_script h (rw h.kind))
+        (on_false _ (rw h.kind) (call (argument_is g) λ n c.
         given _ (passes (is token.Super) k) (give _ (refl, strip-one c))))
 
     script-both : {i j k : ℕ} {a b : Node} {sp sq : Span} → Tok es i (tok token.Sub sp) →
         From (suc i) (R.simple Stop.none true) j (Is a) → Tok es j (tok token.Super sq) →
         From (suc j) (R.simple Stop.none true) k (Is b) →
-        From i (nextScript text es remember R) k (Marks Script.subsuper (a ▸ b ▸ end))
-    unfolding nextScript marksScript is
+        From i (next_script text es remember R) k (Marks Script.subsuper (a ▸ b ▸ end))
+    unfolding next_script marks_script is
     script-both h f k g =
-        given _ (takes marksScript h (rw h.kind))
-        (on-false _ (rw h.kind) (call (argument_is f) λ n c.
+        given _ (takes marks_script h (rw h.kind))
+        (on_false _ (rw h.kind) (call (argument_is f) λ n c.
         given _ (takes (is token.Super) k (rw k.kind))
         (call (argument_is g) λ m d. give _ (refl, strip-two c d))))
 
     -- items
     items_more : {i j k : ℕ} {a : Node} {l : Nodes} (f : ℕ) (before : Option Node) →
-        From i (nextIntermediate text es remember R Stop.none (prefixes before)) j (Is a) →
+        From i (next_intermediate text es remember R Stop.none (prefixes before)) j (Is a) →
         ((n : Node) → From j (intermediates text es remember R f none Stop.none (some n)) k (λ x. strip x ≡ l)) →
         From i (intermediates text es remember R (suc f) none Stop.none before) k (λ x. strip x ≡ a ▸ l)
-    unfolding intermediates atOpenClose
+    unfolding intermediates at_open_close
     items_more {a} f before g h =
-        given _ at_here (on-false _ refl (call-node _ g λ n c. call (h n) λ l e.
+        given _ at_here (on_false _ refl (call-node _ g λ n c. call (h n) λ l e.
         give _ (strip-spaced before _ l c ∙ ap (λ y. a ▸ y) e)))
 
   abbrev at_level : ℕ → Readers
   at_level r = level text es remember r
 
   -- Nothing is read where a CloseBracket or the end is.
-  no-simple : {j : ℕ} (r : ℕ) (sg : Bool) → Closed j → From j ((at_level r).simple Stop.none sg) j (λ x. x ≡ none)
-  unfolding level step nextSimple
-  no-simple zero sg c = give none refl
-  no-simple (suc r) sg c = given _ at_here (given _ (passes (begins Stop.none) c.begin) (give none refl))
+  no_simple : {j : ℕ} (r : ℕ) (sg : Bool) → Closed j → From j ((at_level r).simple Stop.none sg) j (λ x. x ≡ none)
+  unfolding level step next_simple
+  no_simple zero sg c = give none refl
+  no_simple (suc r) sg c = given _ at_here (given _ (passes (begins Stop.none) c.begin) (give none refl))
 
-  no-script : {j : ℕ} (r : ℕ) (sg : Bool) → Closed j → From j ((at_level r).scriptFunc Stop.none sg) j (λ x. x ≡ none)
-  unfolding level step nextScriptFunc
-  no-script zero sg c = give none refl
-  no-script (suc r) sg c =
-      given _ (passes (heads sg) (c.clear.head sg)) (given _ (no-simple r sg c) (give none refl))
+  no_script : {j : ℕ} (r : ℕ) (sg : Bool) → Closed j → From j ((at_level r).script_func Stop.none sg) j (λ x. x ≡ none)
+  unfolding level step next_script_func
+  no_script zero sg c = give none refl
+  no_script (suc r) sg c =
+      given _ (passes (heads sg) (c.clear.head sg)) (given _ (no_simple r sg c) (give none refl))
 
   no_item : {j : ℕ} (r : ℕ) (sg : Bool) → Closed j →
-      From j (nextIntermediate text es remember (at_level r) Stop.none sg) j (λ x. x ≡ none)
-  unfolding nextIntermediate
-  no_item r sg c = given _ (no-script r sg c) (give none refl)
+      From j (next_intermediate text es remember (at_level r) Stop.none sg) j (λ x. x ≡ none)
+  unfolding next_intermediate
+  no_item r sg c = given _ (no_script r sg c) (give none refl)
 
   no_items : {j : ℕ} (r f : ℕ) (before : Option Node) → Closed j →
       From j (intermediates text es remember (at_level r) f none Stop.none before) j (λ x. strip x ≡ end)
-  unfolding intermediates atOpenClose strip
+  unfolding intermediates at_open_close strip
   no_items r zero before c = give _ refl
   no_items r (suc f) before c =
-      given _ at_here (on-false _ refl (given _ (no_item r (prefixes before) c) (give _ refl)))
+      given _ at_here (on_false _ refl (given _ (no_item r (prefixes before) c) (give _ refl)))
 
   -- A level and fuel that are not used up.
   simple-below : {i j : ℕ} {P : Option Node → Type 0} (r : ℕ) (sg : Bool) → 0 < r →
-      ((q : ℕ) → suc q ≡ r → From i (nextSimple text es remember (at_level q) Stop.none sg) j P) →
+      ((q : ℕ) → suc q ≡ r → From i (next_simple text es remember (at_level q) Stop.none sg) j P) →
       From i ((at_level r).simple Stop.none sg) j P
   unfolding level step
   simple-below zero sg h g = absurd (omega arith)
   simple-below (suc r) sg h g = g r refl
 
   script-below : {i j : ℕ} {P : Option Node → Type 0} (r : ℕ) (sg : Bool) → 0 < r →
-      ((q : ℕ) → suc q ≡ r → From i (nextScriptFunc text es remember (at_level q) Stop.none sg) j P) →
-      From i ((at_level r).scriptFunc Stop.none sg) j P
+      ((q : ℕ) → suc q ≡ r → From i (next_script_func text es remember (at_level q) Stop.none sg) j P) →
+      From i ((at_level r).script_func Stop.none sg) j P
   unfolding level step
   script-below zero sg h g = absurd (omega arith)
   script-below (suc r) sg h g = g r refl
@@ -287,30 +287,30 @@ module _ (text : List ℕ) (es : List Entry) (remember : Bool) where
       let u = stand-up h.1 in
       (unmarked h.0 f.3, u)
 
-  no-super : (j : ℕ) → is_at text es marksScript j ≡ false → is_at text es (is token.Super) j ≡ false
-  unfolding is_at marksScript
-  no-super j h = go _ refl
+  no_super : (j : ℕ) → is_at text es marks_script j ≡ false → is_at text es (is token.Super) j ≡ false
+  unfolding is_at marks_script
+  no_super j h = go _ refl
     where
       go : (x : Option Entry) → get_elem? es j ≡ x → is_at text es (is token.Super) j ≡ false
       go none e = rw (e, is_at)
       go (some y) e = rw (e, is_at) (or-false _ _ (rw (e, is_at) at h))
 
-  frac-unmarked : {i : ℕ} {sp : Span} → Tok es i (tok token.Frac sp) → is_at text es marksScript i ≡ false
-  unfolding marksScript is
-  frac-unmarked h = at-tok marksScript h (rw h.kind)
+  frac-unmarked : {i : ℕ} {sp : Span} → Tok es i (tok token.Frac sp) → is_at text es marks_script i ≡ false
+  unfolding marks_script is
+  frac-unmarked h = at_tok marks_script h (rw h.kind)
 
   -- By induction on the derivation: an S needs as many levels as it has tokens, an I or an E one more, and an E fuel for each
   -- item.
-  module _ (free : NoSep (map lexemeOf es)) where
+  module _ (free : NoSep (map lexeme_of es)) where
     mutual
-      unfolding treeS
+      unfolding tree_s
 
       simple-S : {ts : List Lexeme} (d : S ts) {i j : ℕ} → Stand es i ts j → (r : ℕ) → j ≤ r + i → (sg : Bool) →
-          From i ((at_level r).simple Stop.none sg) j (Is (treeS d))
+          From i ((at_level r).simple Stop.none sg) j (Is (tree_s d))
       simple-S (const sp c p) st r en sg =
           let h = stand-head (rw p at st) in
           let e = stand-end h.1 in
-          simple-below r sg (omega arith) λ q w. to e (constant-is (at_level q) sg c h.0)
+          simple-below r sg (omega arith) λ q w. to e (constant_is (at_level q) sg c h.0)
       simple-S (bracketed {us} l d u p) st r en sg =
           let h = stand-head (rw p at st) in
           let k = stand-cut us h.1 in
@@ -333,7 +333,7 @@ module _ (text : List ℕ) (es : List Entry) (remember : Bool) where
           (simple-S d k.1 q (omega arith) true) (simple-S e k.2 q (omega arith) true)
 
       script-I : {ts : List Lexeme} (d : I ts) {i j : ℕ} → Stand es i ts j → (r : ℕ) → suc j ≤ r + i →
-          is_at text es marksScript j ≡ false → (sg : Bool) → From i ((at_level r).scriptFunc Stop.none sg) j (Is (treeI d))
+          is_at text es marks_script j ≡ false → (sg : Bool) → From i ((at_level r).script_func Stop.none sg) j (Is (tree_i d))
       script-I (bare d) st r en n sg =
           let u = first-there (S-first d) st in
           let v = u.1 in
@@ -346,7 +346,7 @@ module _ (text : List ℕ) (es : List Entry) (remember : Bool) where
           let v = u.1 in
           let x = stand-up h.1 in
           script-below r sg (omega arith) λ q w. scripted (at_level q) sg u.0 (simple-S d k.1 q (omega arith) sg)
-          (script-sub (at_level q) h.0 (simple-S e h.1 q (omega arith) true) (no-super j n))
+          (script-sub (at_level q) h.0 (simple-S e h.1 q (omega arith) true) (no_super j n))
       script-I (super {us} d sp e p) st r en n sg =
           let k = stand-cut us (rw p at st) in
           let u = first-there (S-first d) k.1 in
@@ -370,7 +370,7 @@ module _ (text : List ℕ) (es : List Entry) (remember : Bool) where
 
       items-E : {ts : List Lexeme} (d : E ts) {i j : ℕ} → Stand es i ts j → (r f : ℕ) → suc j ≤ r + i → suc j ≤ f + i →
           Closed j → (before : Option Node) →
-          From i (intermediates text es remember (at_level r) f none Stop.none before) j (λ x. strip x ≡ treeE d)
+          From i (intermediates text es remember (at_level r) f none Stop.none before) j (λ x. strip x ≡ tree_e d)
       items-E (more {us} d e p) st r f en fu c before =
           let k = stand-cut us (rw p at st) in
           let u = first-there (I-first d) k.1 in
@@ -399,55 +399,55 @@ module _ (text : List ℕ) (es : List Entry) (remember : Bool) where
 
     -- With 256 tokens, 255 of them Unary, the last would be too deep.
     parse-E : {ts : List Lexeme} (d : E ts) → Stand es 0 ts (length es) → length es ≤ 255 →
-        From 0 (parse text es remember (suc (length es)) 256 end) (length es) (λ x. strip x ≡ treeE d)
+        From 0 (parse text es remember (suc (length es)) 256 end) (length es) (λ x. strip x ≡ tree_e d)
     unfolding parse last_of
     parse-E d st short =
         call (items-E d st 256 (suc (length es)) (omega arith) (omega arith) closed-end none) λ x e.
-        given _ (passes (is token.CloseBracket) (at-end (is token.CloseBracket))) (give _ e)
+        given _ (passes (is token.CloseBracket) (at_end (is token.CloseBracket))) (give _ e)
 
 -- The entries es are of a derived list.
-module _ {ts : List Lexeme} (es : List Entry) (of : map lexemeOf es ≡ ts) where
+module _ {ts : List Lexeme} (es : List Entry) (of : map lexeme_of es ≡ ts) where
   stands : Stand es 0 ts (length es)
   stands = subst (λ l. Stand es 0 l (length es)) of (stand-all es)
 
-  sep-free : E ts → NoSep (map lexemeOf es)
+  sep-free : E ts → NoSep (map lexeme_of es)
   sep-free d = rw of (E-sep d)
 
 -- n is the length of the list without its Space tokens.
-pub others-count : (ts : List Lexeme) → length (others ts) ≡ countOthers ts
-unfolding others ofKind countOthers
+pub others-count : (ts : List Lexeme) → length (others ts) ≡ count_others ts
+unfolding others of_kind count_others
 others-count [] = refl
-others-count (t ∷ ts) = go (ofKind token.Space t) refl (others-count ts)
+others-count (t ∷ ts) = go (of_kind token.Space t) refl (others-count ts)
   where
-    go : (b : Bool) → ofKind token.Space t ≡ b → length (others ts) ≡ countOthers ts → length (others (t ∷ ts)) ≡ countOthers (t ∷ ts)
-    go true e rest = rw (e, others, countOthers) rest
-    go false e rest = rw (e, others, countOthers) (ap suc rest)
+    go : (b : Bool) → of_kind token.Space t ≡ b → length (others ts) ≡ count_others ts → length (others (t ∷ ts)) ≡ count_others (t ∷ ts)
+    go true e rest = rw (e, others, count_others) rest
+    go false e rest = rw (e, others, count_others) (ap suc rest)
 
 -- A list that the grammar derives is read as derived. Document 01 asks besides that no OpenBracket directly precedes
 -- another; that is not needed: a bracket is read as a matrix only where there is a Sep.
 pub settled-tree : (text : List ℕ) (ts : List Lexeme) (d : E (others ts)) → Short ts →
-    strip (readTokens text ts).tree ≡ treeE d
-unfolding readingBy parseEntries
+    strip (read_tokens text ts).tree ≡ tree_e d
+unfolding reading_by parse_entries
 settled-tree text ts d short =
     let es = entries nowhere ts in
     let of = entries-others nowhere ts in
-    let len = length-map es lexemeOf in
+    let len = length-map es lexeme_of in
     let s : State = record { pos = zero; takes = zero; marks = replicate (3 * length es) false; closers = replicate (length es) (length es) } in
     answer (parse-E text es true (sep-free es of d) d (stands es of) (omega (arith, ap length of, others-count ts))) s refl
 
 -- What document 01 says of the lists that it settles.
 pub settled : (text : List ℕ) (ts : List Lexeme) (s : Settled ts) →
-    strip (readTokens text ts).tree ≡ treeE s.derivation
+    strip (read_tokens text ts).tree ≡ tree_e s.derivation
 settled text ts s = settled-tree text ts s.derivation s.short
 
 -- Two derivations of one list, of any length, have one tree: that of the reading with levels and fuel enough.
-pub one-tree : {ts : List Lexeme} (d e : E ts) → treeE d ≡ treeE e
+pub one-tree : {ts : List Lexeme} (d e : E ts) → tree_e d ≡ tree_e e
 one-tree {ts} d e = sym (read d) ∙ read e
   where
     es : List Entry
     es = map entry_of ts
 
-    again : (us : List Lexeme) → map lexemeOf (map entry_of us) ≡ us
+    again : (us : List Lexeme) → map lexeme_of (map entry_of us) ≡ us
     again [] = refl
     again (t ∷ us) = ap (λ l. t ∷ l) (again us)
 
@@ -457,7 +457,7 @@ one-tree {ts} d e = sym (read d) ∙ read e
     start : State
     start = record { pos = 0; takes = 0; marks = []; closers = [] }
 
-    read : (d : E ts) → strip (items start).0 ≡ treeE d
+    read : (d : E ts) → strip (items start).0 ≡ tree_e d
     read d =
         answer
         (items-E [] es true (sep-free es (again ts) d) d (stands es (again ts)) (suc (length es)) (suc (length es))

@@ -8,16 +8,16 @@ use native.Mathlib.Omega.{arith}
 use Rattle.tokens.specs.declared.token.Token.TheVariants as token
 use Rattle.tokens.specs.Bytes.{bytes, same}
 use Rattle.tokens.specs.Lexeme.{Span, Lexeme, lexeme}
-use Rattle.lexing.specs.Longest.{begins, longestOf, longestAt}
+use Rattle.lexing.specs.Longest.{begins, longest_of, longest_at}
 use Rattle.lexing.specs.Spellings.{rows}
-use Rattle.lexing.specs.Rules.{run, runEnd, blank, digit, letter, blanksAt, isTextCommand, spellingAt, numberEnd}
-use Rattle.lexing.specs.Rules.{pastPoint, number_at, quotationAt, byte_at, readAt, tokensFrom, tokensBy, tokens}
-use Rattle.tokens.specs.Table.{countOthers}
+use Rattle.lexing.specs.Rules.{run, run_end, blank, digit, letter, blanks_at, is_text_command, spelling_at, number_end}
+use Rattle.lexing.specs.Rules.{past_point, number_at, quotation_at, byte_at, read_at, tokens_from, tokens_by, tokens}
+use Rattle.tokens.specs.Table.{count_others}
 use Rattle.tree.specs.Tree.{Script, Head, Atom, Prefix, Node, node, end, ◌▸◌, leaf, one}
 use Rattle.grammar.specs.Grammar.{Constant, const, bracketed, unary, binary, bare, subsuper, more, fraction, alone}
-use Rattle.grammar.specs.Grammar.{E, treeS, treeE, ofKind, others, apart, Settled}
+use Rattle.grammar.specs.Grammar.{E, tree_s, tree_e, of_kind, others, apart, Settled}
 use Rattle.grammar.specs.Strip.{strip}
-use Rattle.reading.specs.Reading.{readText, unscripted}
+use Rattle.reading.specs.Reading.{read_text, unscripted}
 use Rattle.grammar.proofs.Settled.{settled-tree, settled}
 
 abbrev at : ℕ → ℕ → Span
@@ -28,7 +28,7 @@ abbrev ratio : List Lexeme
 ratio = lexeme 0 1 token.Ident ∷ lexeme 1 1 token.Frac ∷ lexeme 2 1 token.Ident ∷ []
 
 ratio-settled : Settled ratio
-unfolding others ofKind apart countOthers
+unfolding others of_kind apart count_others
 ratio-settled = record {
   derivation =
       fraction (bare (const (at 0 1) Constant.ident refl)) (at 1 1) (bare (const (at 2 1) Constant.ident refl)) refl;
@@ -43,7 +43,7 @@ scripts =
     ∷ lexeme 4 1 token.Number ∷ lexeme 5 1 token.Space ∷ lexeme 6 1 token.Ident ∷ []
 
 scripts-settled : Settled scripts
-unfolding others ofKind apart countOthers
+unfolding others of_kind apart count_others
 scripts-settled = record {
   derivation =
       more
@@ -63,7 +63,7 @@ nested =
     ∷ lexeme 14 1 token.CloseBracket ∷ lexeme 15 1 token.CloseBracket ∷ []
 
 nested-settled : Settled nested
-unfolding others ofKind apart countOthers
+unfolding others of_kind apart count_others
 nested-settled = record {
   derivation =
       alone (bare (unary (at 0 4)
@@ -83,7 +83,7 @@ adjacent =
     ∷ lexeme 3 1 token.CloseBracket ∷ lexeme 4 1 token.CloseBracket ∷ []
 
 adjacent-derived : E (others adjacent)
-unfolding others ofKind
+unfolding others of_kind
 adjacent-derived =
     alone (bare (bracketed (at 0 1)
     (alone (bare (bracketed (at 1 1) (alone (bare (const (at 2 1) Constant.ident refl))) (at 3 1) refl)))
@@ -92,12 +92,12 @@ adjacent-derived =
 -- The lists are those of the texts.
 lexed : (tokens (bytes "a/b") ≡ ratio) × (tokens (bytes "x_1^2 y") ≡ scripts)
     × (tokens (bytes "sqrt(root 3 (x))") ≡ nested) × (tokens (bytes "[(a)]") ≡ adjacent)
-unfolding begins longestOf longestAt rows run runEnd blank digit letter blanksAt same isTextCommand spellingAt numberEnd
-    pastPoint number_at quotationAt byte_at readAt tokensFrom tokensBy
+unfolding begins longest_of longest_at rows run run_end blank digit letter blanks_at same is_text_command spelling_at number_end
+    past_point number_at quotation_at byte_at read_at tokens_from tokens_by
 lexed = (refl, refl, refl, refl)
 
 read_as : {ts : List Lexeme} (text : String) (s : Settled ts) → tokens (bytes text) ≡ ts →
-    strip (readText (bytes text)).tree ≡ treeE s.derivation
+    strip (read_text (bytes text)).tree ≡ tree_e s.derivation
 read_as {ts} text s e = rw e (settled (bytes text) ts s)
 
 abbrev ident : ℕ → ℕ → Node
@@ -111,23 +111,23 @@ root =
     node (Head.prefix Prefix.binary (at 5 4))
     (number 10 1 ▸ node (Head.group (at 12 1) (at 14 1)) (unscripted (ident 13 1) ▸ end) ▸ end)
 
-pub ratio-read : strip (readText (bytes "a/b")).tree
+pub ratio-read : strip (read_text (bytes "a/b")).tree
     ≡ node Head.frac (unscripted (ident 0 1) ▸ unscripted (ident 2 1) ▸ end) ▸ end
-unfolding treeS ratio-settled
+unfolding tree_s ratio-settled
 ratio-read = read_as "a/b" ratio-settled lexed.0
 
-pub scripts-read : strip (readText (bytes "x_1^2 y")).tree
+pub scripts-read : strip (read_text (bytes "x_1^2 y")).tree
     ≡ node (Head.simple Script.subsuper) (ident 0 1 ▸ number 2 1 ▸ number 4 1 ▸ end) ▸ unscripted (ident 6 1) ▸ end
-unfolding treeS scripts-settled
+unfolding tree_s scripts-settled
 scripts-read = read_as "x_1^2 y" scripts-settled lexed.1
 
-pub nested-read : strip (readText (bytes "sqrt(root 3 (x))")).tree
+pub nested-read : strip (read_text (bytes "sqrt(root 3 (x))")).tree
     ≡ unscripted (one (Head.prefix Prefix.unary (at 0 4)) (node (Head.group (at 4 1) (at 15 1)) (unscripted root ▸ end))) ▸ end
-unfolding treeS nested-settled
+unfolding tree_s nested-settled
 nested-read = read_as "sqrt(root 3 (x))" nested-settled lexed.2
 
-pub adjacent-read : strip (readText (bytes "[(a)]")).tree
+pub adjacent-read : strip (read_text (bytes "[(a)]")).tree
     ≡ unscripted (node (Head.group (at 0 1) (at 4 1)) (unscripted (node (Head.group (at 1 1) (at 3 1))
     (unscripted (ident 2 1) ▸ end)) ▸ end)) ▸ end
-unfolding treeS adjacent-derived others ofKind countOthers
+unfolding tree_s adjacent-derived others of_kind count_others
 adjacent-read = rw lexed.3 (settled-tree (bytes "[(a)]") adjacent adjacent-derived (omega arith))

@@ -6,7 +6,7 @@ use mathlib.Core.Bool.{Bool, true, false}
 use mathlib.Core.Option.{Option, none, some}
 use Rattle.tree.specs.Tree.{Script, Head, Atom, Node, node, Nodes, end, ◌▸◌, leaf}
 use Rattle.reading.specs.Entries.{Entry}
-use Rattle.grammar.specs.Strip.{isSpaceItem, strip}
+use Rattle.grammar.specs.Strip.{is_space_item, strip}
 use Rattle.reading.specs.Reading.{State, M, return, ◌>>=◌, here, closed, if◌then◌else◌, Scripted, spaced}
 
 -- The node n without its Space items is a, which is none itself.
@@ -20,7 +20,7 @@ Is a x = (n : Node) × (x ≡ some n) × Comes a n
 abbrev pub Marks : Script → Nodes → Scripted → Type 0
 Marks sc l q = (q.0 ≡ sc) × (strip q.1 ≡ l)
 
-pub comes : {h g : Head} {l m : Nodes} → h ≡ g → isSpaceItem g ≡ false → strip l ≡ m → Comes (node g m) (node h l)
+pub comes : {h g : Head} {l m : Nodes} → h ≡ g → is_space_item g ≡ false → strip l ≡ m → Comes (node g m) (node h l)
 unfolding strip
 comes {g} {l} {m} e i q = record { before = λ k. rw e (subst (kept k) (sym i) (ap (λ n. node g n ▸ strip k) q)) }
   where
@@ -36,7 +36,7 @@ strip-two {a} {m} c d = c.before (m ▸ end) ∙ ap (λ l. a ▸ l) (strip-one d
 
 pub strip-spaced : {a n : Node} (before : Option Node) (e : Option Entry) (l : Nodes) → Comes a n →
     strip (spaced before e n l) ≡ a ▸ strip l
-unfolding spaced strip isSpaceItem
+unfolding spaced strip is_space_item
 strip-spaced none e l c = c.before l
 strip-spaced (some p) none l c = c.before l
 strip-spaced {a} {n} (some p) (some e) l c = go e.space.len
@@ -66,13 +66,13 @@ module _ {A : Type 0} {P : A → Type 0} where
   unfolding closed
   note k x h = record { run = λ s p. (x, record { pos = s.pos; takes = s.takes; marks = s.marks; closers = set s.closers k (s.pos - 1) }, refl, p, h) }
 
-  pub on-true : {i j : ℕ} {x : Bool} {m : M A} (n : M A) → x ≡ true → From i m j P → From i (if x then m else n) j P
+  pub on_true : {i j : ℕ} {x : Bool} {m : M A} (n : M A) → x ≡ true → From i m j P → From i (if x then m else n) j P
   unfolding if◌then◌else◌
-  on-true n h g = rw h g
+  on_true n h g = rw h g
 
-  pub on-false : {i j : ℕ} {x : Bool} (m : M A) {n : M A} → x ≡ false → From i n j P → From i (if x then m else n) j P
+  pub on_false : {i j : ℕ} {x : Bool} (m : M A) {n : M A} → x ≡ false → From i n j P → From i (if x then m else n) j P
   unfolding if◌then◌else◌
-  on-false m h g = rw h g
+  on_false m h g = rw h g
 
 module _ {A B : Type 0} {Q : B → Type 0} {i j k : ℕ} {m : M A} where
   pub call : {f : A → M B} {P : A → Type 0} → From i m j P → ((x : A) → P x → From j (f x) k Q) → From i (m >>= f) k Q

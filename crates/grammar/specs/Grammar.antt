@@ -6,7 +6,7 @@ use Rattle.tokens.specs.declared.token.Token.{Token}
 use Rattle.tokens.specs.declared.token.Token.TheVariants as token
 use Rattle.tokens.specs.Kinds.{number_of}
 use Rattle.tokens.specs.Lexeme.{Span, Lexeme}
-use Rattle.tokens.specs.Table.{countOthers}
+use Rattle.tokens.specs.Table.{count_others}
 use Rattle.tree.specs.Tree.{Script, Head, Atom, Prefix, Node, node, Nodes, end, ◌▸◌, leaf, one}
 
 -- "Number, Text, Ident, Operator and Symbol as constants", each with its node.
@@ -51,40 +51,40 @@ mutual
 
 -- "There the tree is that derivation": a node for each S and I, and the items of an E.
 unfoldable mutual
-  pub treeS : {ts : List Lexeme} → S ts → Node
-  treeS (const {a} sp c p) = leaf (Head.atom a sp)
-  treeS (bracketed l d r p) = node (Head.group l r) (treeE d)
-  treeS (unary sp d p) = one (Head.prefix Prefix.unary sp) (treeS d)
-  treeS (binary sp d e p) = node (Head.prefix Prefix.binary sp) (treeS d ▸ treeS e ▸ end)
+  pub tree_s : {ts : List Lexeme} → S ts → Node
+  tree_s (const {a} sp c p) = leaf (Head.atom a sp)
+  tree_s (bracketed l d r p) = node (Head.group l r) (tree_e d)
+  tree_s (unary sp d p) = one (Head.prefix Prefix.unary sp) (tree_s d)
+  tree_s (binary sp d e p) = node (Head.prefix Prefix.binary sp) (tree_s d ▸ tree_s e ▸ end)
 
-  pub treeI : {ts : List Lexeme} → I ts → Node
-  treeI (bare d) = one (Head.simple Script.none) (treeS d)
-  treeI (sub d sp e p) = node (Head.simple Script.sub) (treeS d ▸ treeS e ▸ end)
-  treeI (super d sp e p) = node (Head.simple Script.super) (treeS d ▸ treeS e ▸ end)
-  treeI (subsuper d sp e sq f p) = node (Head.simple Script.subsuper) (treeS d ▸ treeS e ▸ treeS f ▸ end)
+  pub tree_i : {ts : List Lexeme} → I ts → Node
+  tree_i (bare d) = one (Head.simple Script.none) (tree_s d)
+  tree_i (sub d sp e p) = node (Head.simple Script.sub) (tree_s d ▸ tree_s e ▸ end)
+  tree_i (super d sp e p) = node (Head.simple Script.super) (tree_s d ▸ tree_s e ▸ end)
+  tree_i (subsuper d sp e sq f p) = node (Head.simple Script.subsuper) (tree_s d ▸ tree_s e ▸ tree_s f ▸ end)
 
-  pub treeE : {ts : List Lexeme} → E ts → Nodes
-  treeE (more d e p) = treeI d ▸ treeE e
-  treeE (fraction d sp e p) = node Head.frac (treeI d ▸ treeI e ▸ end) ▸ end
-  treeE (alone d) = treeI d ▸ end
+  pub tree_e : {ts : List Lexeme} → E ts → Nodes
+  tree_e (more d e p) = tree_i d ▸ tree_e e
+  tree_e (fraction d sp e p) = node Head.frac (tree_i d ▸ tree_i e ▸ end) ▸ end
+  tree_e (alone d) = tree_i d ▸ end
 
-unfoldable pub ofKind : Token → Lexeme → Bool
-ofKind k t = eqb (number_of t.token) (number_of k)
+unfoldable pub of_kind : Token → Lexeme → Bool
+of_kind k t = eqb (number_of t.token) (number_of k)
 
 -- "Space passed over"
 unfoldable pub others : List Lexeme → List Lexeme
 others [] = []
-others (t ∷ ts) = elim (ofKind token.Space t) [ true ↦ others ts | false ↦ t ∷ others ts ]
+others (t ∷ ts) = elim (of_kind token.Space t) [ true ↦ others ts | false ↦ t ∷ others ts ]
 
 -- "no OpenBracket directly precedes another"
 unfoldable pub apart : List Lexeme → Bool
 apart [] = true
 apart (t ∷ []) = true
-apart (t ∷ (u ∷ ts)) = not (ofKind token.OpenBracket t && ofKind token.OpenBracket u) && apart (u ∷ ts)
+apart (t ∷ (u ∷ ts)) = not (of_kind token.OpenBracket t && of_kind token.OpenBracket u) && apart (u ∷ ts)
 
 -- "a token list of at most 127 tokens other than Space"
 abbrev pub Short : List Lexeme → Type 0
-Short ts = countOthers ts ≤ 127
+Short ts = count_others ts ≤ 127
 
 -- The token lists that the grammar settles.
 pub record Settled (ts : List Lexeme) : Type 0 where

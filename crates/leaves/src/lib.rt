@@ -1,7 +1,7 @@
 // The words of a node that stands for one entry, and the leaves, which have no node below.
 ghost use Rattle.std.specs.Prelude.{◌≡◌};
 ghost use Rattle.buffer.specs.Buffer.{stored};
-ghost use Rattle.leaves.specs.Leaves.{nodeWords, leafKind, leafClass, leafEnds, leafWords, plainWords, leafBar};
+ghost use Rattle.leaves.specs.Leaves.{node_words, leaf_kind, leaf_class, leaf_ends, leaf_words, plain_words, leaf_bar};
 
 use buffer::{fits, put6};
 use records::record::{len_at, start_at};
@@ -21,7 +21,7 @@ pub fn put_node(
     i: usize,
     extra: u32,
 )
-    ensures { tree.new ≡ stored tree.old e (nodeWords tok.now work.now i kind extra) }
+    ensures { tree.new ≡ stored tree.old e (node_words tok.now work.now i kind extra) }
 {
     let start = start_at(tok, work, i);
     let len = len_at(tok, work, i);
@@ -38,7 +38,7 @@ const JOINING_SYMBOL: u32 = SYMBOL + 2;
 
 // A leaf's node kind, its class, and whether it ends an operand, by the kind of its token.
 fn leaf_kind(k: u32) -> u32
-    ensures { result ≡ leafKind k }
+    ensures { result ≡ leaf_kind k }
 {
     match k {
         NUMBER => NODE_NUMBER,
@@ -51,7 +51,7 @@ fn leaf_kind(k: u32) -> u32
 }
 
 fn leaf_class(k: u32) -> u32
-    ensures { result ≡ leafClass k }
+    ensures { result ≡ leaf_class k }
 {
     if k == SEP {
         return SEPARATOR;
@@ -67,7 +67,7 @@ fn leaf_class(k: u32) -> u32
 
 // Of the symbols, Glyph and Name do; a stray mark and a bar alone are glyphs.
 pub fn leaf_ends(k: u32) -> bool
-    ensures { result ≡ leafEnds k }
+    ensures { result ≡ leaf_ends k }
 {
     if k < SEP {
         return true;
@@ -92,7 +92,7 @@ pub fn leaf_ends(k: u32) -> bool
 
 // The leaf of the entry i, of kind k.
 pub fn put_leaf(tok: &[u32], work: &[u32], tree: &mut [u32], e: usize, i: usize, k: u32)
-    ensures { tree.new ≡ stored tree.old e (leafWords tok.now work.now i k) }
+    ensures { tree.new ≡ stored tree.old e (leaf_words tok.now work.now i k) }
 {
     let kind = leaf_kind(k);
     let class = leaf_class(k);
@@ -101,7 +101,7 @@ pub fn put_leaf(tok: &[u32], work: &[u32], tree: &mut [u32], e: usize, i: usize,
 
 // The item that is this leaf alone.
 pub fn put_plain(tok: &[u32], work: &[u32], tree: &mut [u32], e: usize, i: usize, k: u32)
-    ensures { tree.new ≡ stored tree.old e (plainWords tok.now work.now i k) }
+    ensures { tree.new ≡ stored tree.old e (plain_words tok.now work.now i k) }
 {
     if fits(tree.len(), e, 13) {
         tree[e] = 0;
@@ -112,7 +112,7 @@ pub fn put_plain(tok: &[u32], work: &[u32], tree: &mut [u32], e: usize, i: usize
 
 // The leaf of the entry i, of kind k, is a symbol with the text `|`.
 pub fn leaf_bar(text: &[u8], tok: &[u32], work: &[u32], i: usize, k: u32) -> bool
-    ensures { result ≡ leafBar text.now tok.now work.now i k }
+    ensures { result ≡ leaf_bar text.now tok.now work.now i k }
 {
     if leaf_kind(k) == NODE_SYMBOL {
         return is_byte(text, tok, work, i, b'|');

@@ -5,21 +5,21 @@ use mathlib.Core.Option.{none, some}
 use Prim.Native.Nat.{ℕ, ◌≤◌, ◌<◌}
 use lib.ListN.{length}
 use borrow.Author.Tests.{lt-ltb, le-ltb}
-use Rattle.lexing.specs.Rules.{byte_at, readAt, tokenRowAt}
-use Rattle.lexer.specs.Listing.{placeRefusal}
+use Rattle.lexing.specs.Rules.{byte_at, read_at, token_row_at}
+use Rattle.lexer.specs.Listing.{place_refusal}
 use Rattle.lex.specs.declared.Lexing.TheVariants.{End, Refused}
-use Rattle.lex.specs.Lex.{lexing, lexedAt}
+use Rattle.lex.specs.Lex.{lexing, lexed_at}
 
 module _ (text : List ℕ) (at : ℕ) where
-  pub lex-refused : (k : ℕ) → placeRefusal text at ≡ some k → Refused k ≡ lexedAt text at
-  unfolding lexedAt
-  lex-refused k e = sym (rw (e, lexedAt))
+  pub lex_refused : (k : ℕ) → place_refusal text at ≡ some k → Refused k ≡ lexed_at text at
+  unfolding lexed_at
+  lex_refused k e = sym (rw (e, lexed_at))
 
-  module _ (a : placeRefusal text at ≡ none) where
-    pub lex-end : length text ≤ at → End ≡ lexedAt text at
-    unfolding lexedAt
-    lex-end l = sym (rw (a, lexedAt) (rw (le-ltb at (length text) l)))
+  module _ (a : place_refusal text at ≡ none) where
+    pub lex_end : length text ≤ at → End ≡ lexed_at text at
+    unfolding lexed_at
+    lex_end l = sym (rw (a, lexed_at) (rw (le-ltb at (length text) l)))
 
-    pub lex-read : at < length text → lexing (readAt byte_at text at) (tokenRowAt text at) ≡ lexedAt text at
-    unfolding lexedAt
-    lex-read l = sym (rw (a, lexedAt) (rw (lt-ltb at (length text) l)))
+    pub lex_read : at < length text → lexing (read_at byte_at text at) (token_row_at text at) ≡ lexed_at text at
+    unfolding lexed_at
+    lex_read l = sym (rw (a, lexed_at) (rw (lt-ltb at (length text) l)))

@@ -1,6 +1,6 @@
 // One read at a place of a text, for a caller that steps over the text and keeps the place itself.
 ghost use Rattle.std.specs.Prelude.{◌≡◌, ◌+◌, ◌≤◌, min};
-ghost use Rattle.lex.specs.Lex.{spannedAt, queueAt, lexedAt};
+ghost use Rattle.lex.specs.Lex.{spanned_at, queue_at, lexed_at};
 
 use lexer::found::TokenRow;
 use lexer::{Listing, list_reads};
@@ -47,7 +47,7 @@ fn wide(x: u32) -> usize
 // The token whose three words stand at i.
 fn spanned_at(words: &[u32; 12], i: usize) -> Spanned
     requires { i ≤ 9 }
-    ensures { result ≡ spannedAt words.now i }
+    ensures { result ≡ spanned_at words.now i }
 {
     Spanned {
         token: Token::of_number(words[i + 2]),
@@ -58,7 +58,7 @@ fn spanned_at(words: &[u32; 12], i: usize) -> Spanned
 
 // The tokens behind the first, of which `count` wait.
 fn queue_at(words: &[u32; 12], count: usize) -> Queue
-    ensures { result ≡ queueAt words.now count }
+    ensures { result ≡ queue_at words.now count }
 {
     Queue {
         count,
@@ -81,7 +81,7 @@ fn stop_of(at: usize, size: usize) -> usize
 // The token at the place with its row, those that wait behind it, and the next place; End at the text's end; or the text is refused by
 // 1 or 2, or a place past it by 5.
 pub fn lex_at(text: &[u8], at: usize) -> Lexing
-    ensures { result ≡ lexedAt text.now at }
+    ensures { result ≡ lexed_at text.now at }
 {
     let mut words = [0u32; 12];
     match list_reads(text, at, stop_of(at, text.len()), &mut words) {

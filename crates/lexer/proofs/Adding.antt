@@ -8,29 +8,29 @@ use lib.Dec.{eqb}
 use lib.ListN.{length-append}
 use Rattle.tokens.specs.Kinds.{number_of}
 use Rattle.tokens.specs.Lexeme.{Lexeme}
-use Rattle.tokens.specs.Table.{countOthers}
-use Rattle.tokens.proofs.Cases.{by-eq}
+use Rattle.tokens.specs.Table.{count_others}
+use Rattle.tokens.proofs.Cases.{by_eq}
 use Rattle.tokens.proofs.TokenList.{count-space, count-other}
 use Rattle.lexing.specs.Rules.{Read}
 use Rattle.lexer.specs.declared.table.Listed.{Listed}
-use Rattle.lexer.specs.Listing.{putToken, listInto}
-use Rattle.lexer.specs.Coded.{listed, withFound, Added, AddedRead}
-use Rattle.lexer.proofs.Into.{into-append}
+use Rattle.lexer.specs.Listing.{put_token, list_into}
+use Rattle.lexer.specs.Coded.{listed, with_found, Added, AddedRead}
+use Rattle.lexer.proofs.Into.{into_append}
 
-others-append : (ts us : List Lexeme) → countOthers (ts ++ us) ≡ countOthers ts + countOthers us
-unfolding countOthers
+others-append : (ts us : List Lexeme) → count_others (ts ++ us) ≡ count_others ts + count_others us
+unfolding count_others
 others-append [] us = omega arith
 others-append (t ∷ ts) us =
-    by-eq (number_of t.token) 23
+    by_eq (number_of t.token) 23
     (λ e. omega (arith, others-append ts us, count-space t (ts ++ us) e, count-space t ts e))
     (λ e. omega (arith, others-append ts us, count-other t (ts ++ us) e, count-other t ts e))
 
 -- what is written of one token behind n others
 abbrev pub Put : Lexeme → ℕ → List ℕ → List ℕ → Type 0
-Put t n before after = after ≡ putToken n t.span.start t.span.len (number_of t.token) before
+Put t n before after = after ≡ put_token n t.span.start t.span.len (number_of t.token) before
 
 pub added_none : (p : Listed) (before : List ℕ) → Added [] p.next p before p before
-unfolding countOthers listInto
+unfolding count_others list_into
 added_none p before =
     record {
       all_are = omega arith;
@@ -43,11 +43,11 @@ added_none p before =
 module _ {p r : Listed} {next : ℕ} {before after : List ℕ} (t : Lexeme) where
   pub added-other : eqb (number_of t.token) 23 ≡ false → r ≡ listed (p.all + 1) p.spaces next p.found → Put t p.all before after
       → Added (t ∷ []) next p before r after
-  unfolding countOthers listInto
+  unfolding count_others list_into
   added-other o e w =
       record {
         all_are = rw e;
-        spaces-are = rw (e, o, countOthers);
+        spaces-are = rw (e, o, count_others);
         next-is = rw e;
         found-is = rw e;
         words_are = w;
@@ -60,12 +60,12 @@ module _ {p r : Listed} {next : ℕ} {before after : List ℕ} (t : Lexeme) wher
 
   pub added-space : {q : Read} → eqb (number_of t.token) 23 ≡ true → record { first = t; waiting = []; next = next } ≡ q
       → r ≡ listed (p.all + 1) (p.spaces + 1) next p.found → Put t p.all before after → AddedRead q p before r after
-  unfolding countOthers listInto
+  unfolding count_others list_into
   added-space o f e w =
       subst (λ (q : Read). AddedRead q p before r after) f
       record {
         all_are = rw e;
-        spaces-are = rw (e, o, countOthers) (omega arith);
+        spaces-are = rw (e, o, count_others) (omega arith);
         next-is = rw e;
         found-is = rw e;
         words_are = w;
@@ -77,7 +77,7 @@ module _ {p r : Listed} {before after : List ℕ} where
 
   -- with another word of what was found, before and after
   pub added-found : {ts : List Lexeme} {next : ℕ} (found : ℕ) → Added ts next p before r after
-      → Added ts next (withFound p found) before (withFound r found) after
+      → Added ts next (with_found p found) before (with_found r found) after
   added-found found a =
       record {
         all_are = a.all_are;
@@ -96,7 +96,7 @@ module _ {p r : Listed} {before after : List ℕ} where
         spaces-are = omega (arith, a.spaces-are, b.spaces-are, others-append ts us, length-append ts us);
         next-is = b.next-is;
         found-is = b.found-is ∙ a.found-is;
-        words_are = b.words_are ∙ rw (a.words_are, a.all_are) (sym (into-append p.all before ts us));
+        words_are = b.words_are ∙ rw (a.words_are, a.all_are) (sym (into_append p.all before ts us));
       }
 
 -- one more token other than Space

@@ -6,13 +6,13 @@ use Prim.Native.Nat.{ℕ, min}
 use lib.ListN.{length}
 use Rattle.lexer.specs.declared.Listing.{Listing}
 use Rattle.lexer.specs.declared.Listing.TheVariants.{Refused}
-use Rattle.lexer.specs.Listing.{listedTo, placeRefusal, listedReads}
+use Rattle.lexer.specs.Listing.{listed_to, place_refusal, listed_reads}
 
 module _ (text : List ℕ) (from stop : ℕ) (table : List ℕ) where
-  pub answer-refused : (k : ℕ) → placeRefusal text from ≡ some k → ◌≡◌ {A = Listing × List ℕ} (Refused k, table) (listedReads text from stop table)
-  unfolding listedReads
-  answer-refused k e = sym (rw (e, listedReads))
+  pub answer-refused : (k : ℕ) → place_refusal text from ≡ some k → ◌≡◌ {A = Listing × List ℕ} (Refused k, table) (listed_reads text from stop table)
+  unfolding listed_reads
+  answer-refused k e = sym (rw (e, listed_reads))
 
-  pub answer-listed : placeRefusal text from ≡ none → (end : ℕ) → end ≡ min stop (length text) → listedTo end text from table ≡ listedReads text from stop table
-  unfolding listedReads
-  answer-listed o end e = ap (λ (s : ℕ). listedTo s text from table) e ∙ sym (rw (o, listedReads))
+  pub answer-listed : place_refusal text from ≡ none → (end : ℕ) → end ≡ min stop (length text) → listed_to end text from table ≡ listed_reads text from stop table
+  unfolding listed_reads
+  answer-listed o end e = ap (λ (s : ℕ). listed_to s text from table) e ∙ sym (rw (o, listed_reads))

@@ -13,8 +13,8 @@ use Rattle.tokens.specs.Kinds.{number_of}
 use Rattle.lexing.specs.Spellings.{Row, rows}
 use Rattle.lexing.specs.Rules.{blank, digit, letter}
 use Rattle.lexing.specs.Order.{sorted_from}
-use Rattle.lexer.specs.Constants.{flat, offset, words_of, countBelow, tokenOfByte, plainKind, kindWord, firstsOf, flatBytes, rowWords, firstWords, no_row, row_of, spellingOf, start_of, kind_of, rowsBelow, spelledByte, longerFrom, byteKind, wordOfByte}
-use Rattle.tokens.proofs.Cases.{by-test, by-lt, by-option}
+use Rattle.lexer.specs.Constants.{flat, offset, words_of, count_below, token_of_byte, plain_kind, kind_word, firsts_of, flat_bytes, row_words, first_words, no_row, row_of, spelling_of, start_of, kind_of, rows_below, spelled_byte, longer_from, byte_kind, word_of_byte}
+use Rattle.tokens.proofs.Cases.{by_test, by_lt, by_option}
 use Rattle.tokens.proofs.Numbers.{number_small}
 use Rattle.lexing.proofs.Rows.{rows-length}
 use Rattle.lexing.proofs.Order.{sorted, sorted-cons, sorted-above}
@@ -34,8 +34,8 @@ words-at (r ∷ rs) n (suc k) h =
     words-at rs (n + length r.spelling) k (le_of_suc-le-suc h)
     ∙ ap (λ (m : ℕ). 32 * m + number_of (get_or rs k no_row).token) (add_assoc n (length r.spelling) (offset rs k))
 
-word-is : (k : ℕ) → k < 430 → get_or rowWords k 0 ≡ 32 * start_of k + kind_of k
-unfolding rowWords row_of start_of kind_of
+word-is : (k : ℕ) → k < 430 → get_or row_words k 0 ≡ 32 * start_of k + kind_of k
+unfolding row_words row_of start_of kind_of
 word-is k h =
     words-at rows 0 k (omega (arith, rows-length))
     ∙ ap (λ (m : ℕ). 32 * m + number_of (get_or rows k no_row).token) (zero-add (offset rows k))
@@ -45,10 +45,10 @@ unfolding kind_of
 kind-small k = omega (arith, number_small (row_of k).token)
 
 module _ (k : ℕ) (h : k < 430) where
-  pub start_word : get_or rowWords k 0 / 32 ≡ start_of k
+  pub start_word : get_or row_words k 0 / 32 ≡ start_of k
   start_word = rw (word-is k h) (omega (arith, kind-small k))
 
-  pub kind-word : get_or rowWords k 0 % 32 ≡ kind_of k
+  pub kind-word : get_or row_words k 0 % 32 ≡ kind_of k
   kind-word = rw (word-is k h) (omega (arith, kind-small k))
 
 offset-suc : (rs : List Row) (k : ℕ) → k < length rs → offset rs (suc k) ≡ offset rs k + length (key_at rs k)
@@ -59,8 +59,8 @@ offset-suc (r ∷ (q ∷ rs)) zero h = omega arith
 offset-suc (r ∷ rs) (suc k) h = omega (arith, offset-suc rs k (le_of_suc-le-suc h))
 
 -- a row ends where the next one starts
-pub end_is : (k : ℕ) → k < 429 → start_of (k + 1) ≡ start_of k + length (spellingOf k)
-unfolding row_of spellingOf start_of
+pub end_is : (k : ℕ) → k < 429 → start_of (k + 1) ≡ start_of k + length (spelling_of k)
+unfolding row_of spelling_of start_of
 end_is k h = ap (offset rows) (omega arith) ∙ offset-suc rows k (omega (arith, rows-length))
 
 flat-at : (rs : List Row) (k j : ℕ) → k < length rs → j < length (key_at rs k)
@@ -81,31 +81,31 @@ offset-bound (r ∷ rs) zero h = omega (arith, length-append r.spelling (flat rs
 offset-bound (r ∷ rs) (suc k) h = omega (arith, offset-bound rs k (le_of_suc-le-suc h), length-append r.spelling (flat rs))
 
 -- byte j of row k
-pub byte-is : (bytes : List ℕ) (k j : ℕ) → bytes ≡ flatBytes → k < 429 → j < length (spellingOf k)
-    → get_or bytes (start_of k + j) 0 ≡ get_or (spellingOf k) j 0
-unfolding row_of spellingOf start_of flatBytes
+pub byte-is : (bytes : List ℕ) (k j : ℕ) → bytes ≡ flat_bytes → k < 429 → j < length (spelling_of k)
+    → get_or bytes (start_of k + j) 0 ≡ get_or (spelling_of k) j 0
+unfolding row_of spelling_of start_of flat_bytes
 byte-is bytes k j b h l = rw b (flat-at rows k j (omega (arith, rows-length)) l)
 
-bytes-length : length flatBytes ≡ 1809
-unfolding flatBytes flat rows
+bytes-length : length flat_bytes ≡ 1809
+unfolding flat_bytes flat rows
 bytes-length = refl
 
-pub row-bound : (k : ℕ) → k < 429 → start_of k + length (spellingOf k) ≤ 1809
-unfolding row_of spellingOf start_of flatBytes
+pub row-bound : (k : ℕ) → k < 429 → start_of k + length (spelling_of k) ≤ 1809
+unfolding row_of spelling_of start_of flat_bytes
 row-bound k h = omega (arith, offset-bound rows k (omega (arith, rows-length)), bytes-length)
 
 -- in a sorted table the rows that begin with a smaller byte are the first ones
-count_none : (c : ℕ) (rs : List Row) → ((k : ℕ) → k < length rs → c ≤ get_or (key_at rs k) 0 0) → countBelow c rs ≡ 0
-unfolding countBelow
+count_none : (c : ℕ) (rs : List Row) → ((k : ℕ) → k < length rs → c ≤ get_or (key_at rs k) 0 0) → count_below c rs ≡ 0
+unfolding count_below
 count_none c [] f = refl
-count_none c (r ∷ rs) f = rw (le-ltb _ c (f 0 (omega arith)), countBelow) (count_none c rs (λ k h. f (suc k) (omega arith)))
+count_none c (r ∷ rs) f = rw (le-ltb _ c (f 0 (omega arith)), count_below) (count_none c rs (λ k h. f (suc k) (omega arith)))
 
-count-le : (c : ℕ) (rs : List Row) → countBelow c rs ≤ length rs
-unfolding countBelow
+count-le : (c : ℕ) (rs : List Row) → count_below c rs ≤ length rs
+unfolding count_below
 count-le c [] = omega arith
 count-le c (r ∷ rs) =
-    by-test (ltb (get_or r.spelling 0 0) c) (λ e. rw (e, countBelow) (omega (arith, count-le c rs)))
-    (λ e. rw (e, countBelow) (omega (arith, count-le c rs)))
+    by_test (ltb (get_or r.spelling 0 0) c) (λ e. rw (e, count_below) (omega (arith, count-le c rs)))
+    (λ e. rw (e, count_below) (omega (arith, count-le c rs)))
 
 later : (p : List ℕ) (r : Row) (rs : List Row) → sorted_from p (r ∷ rs) ≡ true → (k : ℕ) → k < length rs
     → get_or r.spelling 0 0 ≤ get_or (key_at rs k) 0 0
@@ -113,81 +113,81 @@ later p r rs s k l = before-first r.spelling (key_at rs k) (sorted-above no_row 
 
 module _ (c : ℕ) where
   counted : (p : List ℕ) (rs : List Row) → sorted_from p rs ≡ true → (k : ℕ) → k < length rs
-      → (k < countBelow c rs → get_or (key_at rs k) 0 0 < c) × (countBelow c rs ≤ k → c ≤ get_or (key_at rs k) 0 0)
-  unfolding countBelow
+      → (k < count_below c rs → get_or (key_at rs k) 0 0 < c) × (count_below c rs ≤ k → c ≤ get_or (key_at rs k) 0 0)
+  unfolding count_below
   counted p [] s k h = absurd (not-suc-le-zero h)
   counted p (r ∷ rs) s zero h =
-      by-lt (get_or r.spelling 0 0) c
-      (λ e. rw (lt-ltb _ c e, countBelow) (λ l. e, λ l. absurd (omega arith)))
-      (λ e. rw (le-ltb _ c e, countBelow) (λ l. absurd (omega (arith, count_none c rs (λ k m. omega (arith, later p r rs s k m)))), λ l. e))
+      by_lt (get_or r.spelling 0 0) c
+      (λ e. rw (lt-ltb _ c e, count_below) (λ l. e, λ l. absurd (omega arith)))
+      (λ e. rw (le-ltb _ c e, count_below) (λ l. absurd (omega (arith, count_none c rs (λ k m. omega (arith, later p r rs s k m)))), λ l. e))
   counted p (r ∷ rs) s (suc k) h =
       let i = counted r.spelling rs (sorted-cons p r rs s).1 k (le_of_suc-le-suc h) in
-      by-lt (get_or r.spelling 0 0) c
-      (λ e. rw (lt-ltb _ c e, countBelow) (λ l. i.0 (omega arith), λ l. i.1 (omega arith)))
-      (λ e. rw (le-ltb _ c e, countBelow) (λ l. i.0 (omega arith), λ l. omega (arith, later p r rs s k (le_of_suc-le-suc h))))
+      by_lt (get_or r.spelling 0 0) c
+      (λ e. rw (lt-ltb _ c e, count_below) (λ l. i.0 (omega arith), λ l. i.1 (omega arith)))
+      (λ e. rw (le-ltb _ c e, count_below) (λ l. i.0 (omega arith), λ l. omega (arith, later p r rs s k (le_of_suc-le-suc h))))
 
-pub below-bound : (c : ℕ) → rowsBelow c ≤ 429
-unfolding rowsBelow
+pub below-bound : (c : ℕ) → rows_below c ≤ 429
+unfolding rows_below
 below-bound c = omega (arith, count-le c rows, rows-length)
 
 module _ (c k : ℕ) (l : k < 429) where
-  pub below-first : k < rowsBelow c → get_or (spellingOf k) 0 0 < c
-  unfolding row_of spellingOf rowsBelow
+  pub below-first : k < rows_below c → get_or (spelling_of k) 0 0 < c
+  unfolding row_of spelling_of rows_below
   below-first m = (counted c [] rows sorted k (omega (arith, rows-length))).0 m
 
-  pub from_first : rowsBelow c ≤ k → c ≤ get_or (spellingOf k) 0 0
-  unfolding row_of spellingOf rowsBelow
+  pub from_first : rows_below c ≤ k → c ≤ get_or (spelling_of k) 0 0
+  unfolding row_of spelling_of rows_below
   from_first m = (counted c [] rows sorted k (omega (arith, rows-length))).1 m
 
 -- the word of a byte
 firsts_at : (n c : ℕ) (rs : List Row) (k : ℕ) → k < n
-    → get_or (firstsOf n c rs) k 0 ≡ 64 * countBelow (c + k) rs + kindWord (c + k) (tokenOfByte (c + k) rs)
-unfolding firstsOf
+    → get_or (firsts_of n c rs) k 0 ≡ 64 * count_below (c + k) rs + kind_word (c + k) (token_of_byte (c + k) rs)
+unfolding firsts_of
 firsts_at zero c rs k h = absurd (not-suc-le-zero h)
 firsts_at (suc n) c rs zero h =
-    ap (λ (m : ℕ). 64 * countBelow m rs + kindWord m (tokenOfByte m rs)) (sym (add-zero c))
+    ap (λ (m : ℕ). 64 * count_below m rs + kind_word m (token_of_byte m rs)) (sym (add-zero c))
 firsts_at (suc n) c rs (suc k) h =
     firsts_at n (suc c) rs k (le_of_suc-le-suc h)
-    ∙ ap (λ (m : ℕ). 64 * countBelow m rs + kindWord m (tokenOfByte m rs)) (suc-add c k ∙ sym (add-suc c k))
+    ∙ ap (λ (m : ℕ). 64 * count_below m rs + kind_word m (token_of_byte m rs)) (suc-add c k ∙ sym (add-suc c k))
 
-first-is : (c : ℕ) → c < 129 → get_or firstWords c 0 ≡ 64 * rowsBelow c + kindWord c (spelledByte c)
-unfolding firstWords rowsBelow spelledByte
+first-is : (c : ℕ) → c < 129 → get_or first_words c 0 ≡ 64 * rows_below c + kind_word c (spelled_byte c)
+unfolding first_words rows_below spelled_byte
 first-is c h =
-    firsts_at 129 0 rows c h ∙ ap (λ (m : ℕ). 64 * countBelow m rows + kindWord m (tokenOfByte m rows)) (zero-add c)
+    firsts_at 129 0 rows c h ∙ ap (λ (m : ℕ). 64 * count_below m rows + kind_word m (token_of_byte m rows)) (zero-add c)
 
-pub plain-small : (c : ℕ) → plainKind c < 24
-unfolding plainKind
+pub plain-small : (c : ℕ) → plain_kind c < 24
+unfolding plain_kind
 plain-small c =
-    by-test (blank c) (λ a. rw (a, plainKind) (omega arith))
+    by_test (blank c) (λ a. rw (a, plain_kind) (omega arith))
     (λ a.
-    by-test (digit c) (λ b. rw (a, plainKind) (rw b (omega arith)))
+    by_test (digit c) (λ b. rw (a, plain_kind) (rw b (omega arith)))
     (λ b.
-    by-test (letter c) (λ d. rw (a, plainKind) (rw b (rw d (omega arith))))
-    (λ d. rw (a, plainKind) (rw b (rw d (omega arith))))))
+    by_test (letter c) (λ d. rw (a, plain_kind) (rw b (rw d (omega arith))))
+    (λ d. rw (a, plain_kind) (rw b (rw d (omega arith))))))
 
 module _ (c : ℕ) (h : c < 129) where
-  pub word-as-is : get_or firstWords c 0 ≡ wordOfByte c
-  unfolding wordOfByte
-  word-as-is = first-is c h
+  pub word-as_is : get_or first_words c 0 ≡ word_of_byte c
+  unfolding word_of_byte
+  word-as_is = first-is c h
 
-  pub first_word : get_or firstWords c 0 / 64 ≡ rowsBelow c
+  pub first_word : get_or first_words c 0 / 64 ≡ rows_below c
   first_word =
-      by-option (spelledByte c) (λ o. rw (first-is c h, o) (omega (arith, plain-small c)))
+      by_option (spelled_byte c) (λ o. rw (first-is c h, o) (omega (arith, plain-small c)))
       (λ t o. rw (first-is c h, o) (omega (arith, number_small t)))
 
-  pub longer-word : (get_or firstWords c 0 + 32) / 64 ≡ longerFrom c
-  unfolding longerFrom
+  pub longer-word : (get_or first_words c 0 + 32) / 64 ≡ longer_from c
+  unfolding longer_from
   longer-word =
-      by-option (spelledByte c) (λ o. rw (first-is c h, o, longerFrom) (omega (arith, plain-small c)))
-      (λ t o. rw (first-is c h, o, longerFrom) (omega (arith, number_small t)))
+      by_option (spelled_byte c) (λ o. rw (first-is c h, o, longer_from) (omega (arith, plain-small c)))
+      (λ t o. rw (first-is c h, o, longer_from) (omega (arith, number_small t)))
 
-  pub byte_word : get_or firstWords c 0 % 32 ≡ byteKind c
-  unfolding byteKind
+  pub byte_word : get_or first_words c 0 % 32 ≡ byte_kind c
+  unfolding byte_kind
   byte_word =
-      by-option (spelledByte c) (λ o. rw (first-is c h, o, byteKind) (omega (arith, plain-small c)))
-      (λ t o. rw (first-is c h, o, byteKind) (omega (arith, number_small t)))
+      by_option (spelled_byte c) (λ o. rw (first-is c h, o, byte_kind) (omega (arith, plain-small c)))
+      (λ t o. rw (first-is c h, o, byte_kind) (omega (arith, number_small t)))
 
-  pub first_small : get_or firstWords c 0 ≤ 27519
+  pub first_small : get_or first_words c 0 ≤ 27519
   first_small =
-      by-option (spelledByte c) (λ o. rw (first-is c h, o) (omega (arith, plain-small c, below-bound c)))
+      by_option (spelled_byte c) (λ o. rw (first-is c h, o) (omega (arith, plain-small c, below-bound c)))
       (λ t o. rw (first-is c h, o) (omega (arith, number_small t, below-bound c)))

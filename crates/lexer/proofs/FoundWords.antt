@@ -9,16 +9,16 @@ use lib.ListN.{length, get_or}
 use borrow.Author.Tests.{lt-ltb, eq-eqb, ne_eqb}
 use Rattle.tokens.specs.declared.token.Token.{Token}
 use Rattle.tokens.specs.Kinds.{number_of}
-use Rattle.lexing.specs.Longest.{longestAt, number_in}
-use Rattle.lexing.specs.Rules.{Read, blank, runEnd, blanksAt, byte_at, readAt, tokenRowAt}
-use Rattle.lexer.specs.Constants.{plainKind, rowsBelow, spelledByte, byteKind, wordOfByte}
-use Rattle.lexer.specs.Lookup.{pastLonger}
+use Rattle.lexing.specs.Longest.{longest_at, number_in}
+use Rattle.lexing.specs.Rules.{Read, blank, run_end, blanks_at, byte_at, read_at, token_row_at}
+use Rattle.lexer.specs.Constants.{plain_kind, rows_below, spelled_byte, byte_kind, word_of_byte}
+use Rattle.lexer.specs.Lookup.{past_longer}
 use Rattle.lexer.specs.declared.table.Listed.{Listed}
-use Rattle.lexer.specs.Coded.{row_in, withFound, Placed, AddedRead}
-use Rattle.tokens.proofs.Cases.{by-option, apart}
+use Rattle.lexer.specs.Coded.{row_in, with_found, Placed, AddedRead}
+use Rattle.tokens.proofs.Cases.{by_option, apart}
 use Rattle.tokens.proofs.Numbers.{number_small}
 use Rattle.lexing.proofs.Runs.{run-from, run_more}
-use Rattle.lexing.proofs.Spelled.{row-looked-up}
+use Rattle.lexing.proofs.Spelled.{row-looked_up}
 use Rattle.lexer.proofs.Adding.{added-as}
 use Rattle.lexer.proofs.Flat.{plain-small}
 use Rattle.lexer.proofs.Lookup.{past_row, byte-found, byte-none}
@@ -39,68 +39,68 @@ past_word past h =
 
 -- the word of a byte
 module _ (c : ℕ) where
-  kind-is : wordOfByte c % 32 ≡ byteKind c
-  unfolding wordOfByte byteKind
+  kind-is : word_of_byte c % 32 ≡ byte_kind c
+  unfolding word_of_byte byte_kind
   kind-is =
-      by-option (spelledByte c) (λ o. rw (o, wordOfByte) (rw (o, byteKind) (omega (arith, plain-small c))))
-      (λ t o. rw (o, wordOfByte) (rw (o, byteKind) (omega (arith, number_small t))))
+      by_option (spelled_byte c) (λ o. rw (o, word_of_byte) (rw (o, byte_kind) (omega (arith, plain-small c))))
+      (λ t o. rw (o, word_of_byte) (rw (o, byte_kind) (omega (arith, number_small t))))
 
-  pub kind-of-byte : {found kind : ℕ} → found ≡ wordOfByte c → kind ≡ found % 32 → kind ≡ byteKind c
-  kind-of-byte e k = k ∙ ap (λ (w : ℕ). w % 32) e ∙ kind-is
+  pub kind-of_byte : {found kind : ℕ} → found ≡ word_of_byte c → kind ≡ found % 32 → kind ≡ byte_kind c
+  kind-of_byte e k = k ∙ ap (λ (w : ℕ). w % 32) e ∙ kind-is
 
-  row-of-byte : (t : Token) → spelledByte c ≡ some t → row_in (wordOfByte c) ≡ some (rowsBelow c)
-  unfolding wordOfByte
-  row-of-byte t o =
+  row-of_byte : (t : Token) → spelled_byte c ≡ some t → row_in (word_of_byte c) ≡ some (rows_below c)
+  unfolding word_of_byte
+  row-of_byte t o =
       let s = number_small t in
-      let w = 64 * rowsBelow c + (32 + number_of t) in
-      let n : w / 64 ≡ rowsBelow c = omega arith in
+      let w = 64 * rows_below c + (32 + number_of t) in
+      let n : w / 64 ≡ rows_below c = omega arith in
       rw o (sym (row-set w (omega arith)) ∙ ap some n)
 
-  no-row-of-byte : spelledByte c ≡ none → row_in (wordOfByte c) ≡ none
-  unfolding wordOfByte
-  no-row-of-byte o =
+  no_row_of_byte : spelled_byte c ≡ none → row_in (word_of_byte c) ≡ none
+  unfolding word_of_byte
+  no_row_of_byte o =
       let s = plain-small c in
-      rw o (sym (row-clear (64 * rowsBelow c + plainKind c) (λ e. omega arith)))
+      rw o (sym (row-clear (64 * rows_below c + plain_kind c) (λ e. omega arith)))
 
 module _ (text : List ℕ) (at : ℕ) where
   -- a longer spelling's row is that of the read
-  pub past-row-read : (past : ℕ) → past ≡ pastLonger (longestAt text at) → 0 < past → some (past - 1) ≡ tokenRowAt text at
-  past-row-read past e h = sym (row-looked-up text at ∙ ap number_in (past_row text at past e h).1)
+  pub past-row_read : (past : ℕ) → past ≡ past_longer (longest_at text at) → 0 < past → some (past - 1) ≡ token_row_at text at
+  past-row_read past e h = sym (row-looked_up text at ∙ ap number_in (past_row text at past e h).1)
 
   module _ (h : at < length text) where
     -- where no longer spelling is found, the row of the byte's word is that of the read
-    pub byte-row-read : pastLonger (longestAt text at) ≡ 0 → {found : ℕ} → found ≡ wordOfByte (get_or text at 0) → row_in found ≡ tokenRowAt text at
-    byte-row-read e q =
+    pub byte-row_read : past_longer (longest_at text at) ≡ 0 → {found : ℕ} → found ≡ word_of_byte (get_or text at 0) → row_in found ≡ token_row_at text at
+    byte-row_read e q =
         let c = get_or text at 0 in
         ap row_in q ∙
-        by-option (spelledByte c)
-        (λ o. no-row-of-byte c o ∙ sym (row-looked-up text at ∙ ap number_in (byte-none text at e o)))
-        (λ t o. row-of-byte c t o ∙ sym (row-looked-up text at ∙ ap number_in (byte-found text at e h t o)))
+        by_option (spelled_byte c)
+        (λ o. no_row_of_byte c o ∙ sym (row-looked_up text at ∙ ap number_in (byte-none text at e o)))
+        (λ t o. row-of_byte c t o ∙ sym (row-looked_up text at ∙ ap number_in (byte-found text at e h t o)))
 
     -- at a blank nothing is found
-    blank-row : blank (get_or text at 0) ≡ true → tokenRowAt text at ≡ none
-    unfolding tokenRowAt blanksAt
+    blank-row : blank (get_or text at 0) ≡ true → token_row_at text at ≡ none
+    unfolding token_row_at blanks_at
     blank-row b =
-        let m : at < runEnd blank text at = omega (arith, run_more blank text at h b, run-from blank text (at + 1)) in
-        rw (lt-ltb at (runEnd blank text at) m, tokenRowAt)
+        let m : at < run_end blank text at = omega (arith, run_more blank text at h b, run-from blank text (at + 1)) in
+        rw (lt-ltb at (run_end blank text at) m, token_row_at)
 
-    pub blank-longer : blank (get_or text at 0) ≡ true → pastLonger (longestAt text at) ≡ 0
+    pub blank-longer : blank (get_or text at 0) ≡ true → past_longer (longest_at text at) ≡ 0
     blank-longer b =
-        by-option (longestAt text at) (λ o. ap pastLonger o)
-        (λ f o. let e = sym (ap number_in o) ∙ sym (row-looked-up text at) ∙ blank-row b in apart cc)
+        by_option (longest_at text at) (λ o. ap past_longer o)
+        (λ f o. let e = sym (ap number_in o) ∙ sym (row-looked_up text at) ∙ blank-row b in apart cc)
 
 -- a read listed with the word of what was found at its place
-module _ (text : List ℕ) (p : Listed) {q : Listed} {found : ℕ} (e : q ≡ withFound p found) where
+module _ (text : List ℕ) (p : Listed) {q : Listed} {found : ℕ} (e : q ≡ with_found p found) where
   pub placed-found : Placed text p → Placed text q
   placed-found h = rw e record { short = h.short; inside = h.inside; fewer = h.fewer; few = h.few }
 
   pub at_place : (F : List ℕ → ℕ → Read) {u : Read} → F text p.next ≡ u → F text q.next ≡ u
   at_place F g = ap (λ (l : Listed). F text l.next) e ∙ g
 
-  pub read_found : {u : Read} {r : Listed} {before after : List ℕ} → AddedRead u q before r after → u ≡ readAt byte_at text p.next → row_in found ≡ tokenRowAt text p.next
-      → AddedRead (readAt byte_at text p.next) (withFound p r.found) before r after × (row_in r.found ≡ tokenRowAt text p.next)
+  pub read_found : {u : Read} {r : Listed} {before after : List ℕ} → AddedRead u q before r after → u ≡ read_at byte_at text p.next → row_in found ≡ token_row_at text p.next
+      → AddedRead (read_at byte_at text p.next) (with_found p r.found) before r after × (row_in r.found ≡ token_row_at text p.next)
   read_found {u} {r} {before} {after} a g w =
-      let b : AddedRead u (withFound p found) before r after = subst (λ (l : Listed). AddedRead u l before r after) e a in (
-        subst (λ (f : ℕ). AddedRead (readAt byte_at text p.next) (withFound p f) before r after) (sym b.found-is) (added-as g b),
+      let b : AddedRead u (with_found p found) before r after = subst (λ (l : Listed). AddedRead u l before r after) e a in (
+        subst (λ (f : ℕ). AddedRead (read_at byte_at text p.next) (with_found p f) before r after) (sym b.found-is) (added-as g b),
         ap row_in b.found-is ∙ w,
       )

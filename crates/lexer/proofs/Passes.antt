@@ -9,12 +9,12 @@ use Rattle.lexer.specs.declared.Listing as code
 use Rattle.lexer.specs.declared.Listing.TheVariants.{Tokens}
 use Rattle.lexer.specs.declared.table.Listed.{Listed}
 use Rattle.tokens.specs.Lexeme.{Lexeme}
-use Rattle.tokens.specs.Table.{countOthers}
-use Rattle.lexing.specs.Rules.{byte_at, readAt, tokenRowAt}
-use Rattle.lexer.specs.Lookup.{tokenRow}
-use Rattle.lexer.specs.Listing.{Reads, behind, readsTo, listedTo}
-use Rattle.lexer.specs.Coded.{listed, withFound, row_in, Placed, Added, AddedRead}
-use Rattle.lexing.proofs.Moves.{read-moves, byteAt-sound}
+use Rattle.tokens.specs.Table.{count_others}
+use Rattle.lexing.specs.Rules.{byte_at, read_at, token_row_at}
+use Rattle.lexer.specs.Lookup.{token_row}
+use Rattle.lexer.specs.Listing.{Reads, behind, reads_to, listed_to}
+use Rattle.lexer.specs.Coded.{listed, with_found, row_in, Placed, Added, AddedRead}
+use Rattle.lexing.proofs.Moves.{read-moves, byte_at_sound}
 use Rattle.lexer.proofs.Adding.{added_none, added-found, added_more}
 use Rattle.lexer.proofs.Stops.{stopped, step}
 
@@ -26,7 +26,7 @@ module _ (stop : ℕ) (text : List ℕ) (from : ℕ) (before : List ℕ) where
   -- what stands when a place is reached
   pub record Listing (p : Listed) (table : List ℕ) : Type 0 where
     pub done : List Lexeme
-    pub reads-are : readsTo stop text none from ≡ after done (readsTo stop text (row_in p.found) p.next)
+    pub reads-are : reads_to stop text none from ≡ after done (reads_to stop text (row_in p.found) p.next)
     pub added : Added done p.next (listed 0 0 from p.found) before p table
     pub size : length table ≡ length before
     pub fewer : p.all ≤ p.next
@@ -45,33 +45,33 @@ module _ (stop : ℕ) (text : List ℕ) (from : ℕ) (before : List ℕ) where
       }
 
   module _ (p : Listed) (table : List ℕ) (w : Listing p table) where
-    pub listing-end : stop ≤ p.next
-        → ◌≡◌ {A = code.Listing × List ℕ} (Tokens p.all (p.all - p.spaces) p.next (tokenRow (row_in p.found)), table) (listedTo stop text from before)
-    unfolding listedTo
-    listing-end h =
+    pub listing_end : stop ≤ p.next
+        → ◌≡◌ {A = code.Listing × List ℕ} (Tokens p.all (p.all - p.spaces) p.next (token_row (row_in p.found)), table) (listed_to stop text from before)
+    unfolding listed_to
+    listing_end h =
         let row = row_in p.found in
-        let e : readsTo stop text none from ≡ record { list = w.done; next = p.next; row = row } =
+        let e : reads_to stop text none from ≡ record { list = w.done; next = p.next; row = row } =
         w.reads-are ∙ ap (after w.done) (stopped stop text row p.next h) ∙ ap (λ (ts : List Lexeme). record { list = ts; next = p.next; row = row }) (append-nil w.done) in
         let m : p.all ≡ length w.done = omega (arith, w.added.all_are) in
-        let n : p.all - p.spaces ≡ countOthers w.done = omega (arith, w.added.all_are, w.added.spaces-are) in
-        rw (n, m, w.added.words_are) (sym (rw (e, listedTo)))
+        let n : p.all - p.spaces ≡ count_others w.done = omega (arith, w.added.all_are, w.added.spaces-are) in
+        rw (n, m, w.added.words_are) (sym (rw (e, listed_to)))
 
     module _ (short : length text ≤ 4096) (l : stop ≤ length text) (h : p.next < stop) where
-      pub listing-placed : Placed text p
-      listing-placed = record { short = short; inside = omega arith; fewer = w.fewer; few = w.few }
+      pub listing_placed : Placed text p
+      listing_placed = record { short = short; inside = omega arith; fewer = w.fewer; few = w.few }
 
-      module _ (r : Listed) (table' : List ℕ) (a : AddedRead (readAt byte_at text p.next) (withFound p r.found) table r table') where
-        pub listing-on : p.next < r.next
-        listing-on = omega (arith, a.next-is, (read-moves byteAt-sound text p.next (omega arith)).on)
+      module _ (r : Listed) (table' : List ℕ) (a : AddedRead (read_at byte_at text p.next) (with_found p r.found) table r table') where
+        pub listing_on : p.next < r.next
+        listing_on = omega (arith, a.next-is, (read-moves byte_at_sound text p.next (omega arith)).on)
 
-        pub listing-next : row_in r.found ≡ tokenRowAt text p.next → length table' ≡ length table → Listing r table'
-        listing-next f z =
-            let q = readAt byte_at text p.next in
+        pub listing_next : row_in r.found ≡ token_row_at text p.next → length table' ≡ length table → Listing r table'
+        listing_next f z =
+            let q = read_at byte_at text p.next in
             let ts = q.first ∷ q.waiting in
-            let m = read-moves byteAt-sound text p.next (omega arith) in
-            let rest = readsTo stop text (row_in r.found) r.next in
-            let e : readsTo stop text (row_in p.found) p.next ≡ behind q rest =
-            step stop text l (row_in p.found) p.next h ∙ (λ i. behind q (readsTo stop text (sym f i) (sym a.next-is i))) in
+            let m = read-moves byte_at_sound text p.next (omega arith) in
+            let rest = reads_to stop text (row_in r.found) r.next in
+            let e : reads_to stop text (row_in p.found) p.next ≡ behind q rest =
+            step stop text l (row_in p.found) p.next h ∙ (λ i. behind q (reads_to stop text (sym f i) (sym a.next-is i))) in
             record {
               done = w.done ++ ts;
               reads-are = w.reads-are ∙ ap (after w.done) e

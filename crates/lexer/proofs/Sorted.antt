@@ -8,10 +8,10 @@ use native.Mathlib.Omega.{arith}
 use lib.ListN.{length, get_or}
 use Rattle.lexing.specs.Spellings.{rows}
 use Rattle.lexing.specs.Order.{before}
-use Rattle.lexer.specs.Constants.{no_row, row_of, spellingOf}
+use Rattle.lexer.specs.Constants.{no_row, row_of, spelling_of}
 use Rattle.tokens.proofs.Cases.{clash}
 use Rattle.lexing.proofs.Order.{before-cons, sorted-pair, sorted}
-use Rattle.lexing.proofs.Rows.{rows-length, well-formed}
+use Rattle.lexing.proofs.Rows.{rows-length, well_formed}
 
 -- the first byte of the later is not smaller
 pub before-first : (a b : List ℕ) → before a b ≡ true → get_or a 0 0 ≤ get_or b 0 0
@@ -21,14 +21,14 @@ before-first [] (y ∷ b) h = omega arith
 before-first (x ∷ a) (y ∷ b) h = ⊎_elim (λ l. omega arith) (λ l. omega arith) (before-cons x y a b h)
 
 -- each spelling comes before each later one
-pub in_order : (i j : ℕ) → i < j → j < 429 → before (spellingOf i) (spellingOf j) ≡ true
-unfolding row_of spellingOf
+pub in_order : (i j : ℕ) → i < j → j < 429 → before (spelling_of i) (spelling_of j) ≡ true
+unfolding row_of spelling_of
 in_order i j l m = sorted-pair no_row [] rows sorted i j l (omega (arith, rows-length))
 
 -- no spelling is empty
-pub filled : (k : ℕ) → k < 429 → 0 < length (spellingOf k)
-unfolding row_of spellingOf
-filled k h = (well-formed no_row k h).filled
+pub filled : (k : ℕ) → k < 429 → 0 < length (spelling_of k)
+unfolding row_of spelling_of
+filled k h = (well_formed no_row k h).filled
 
 -- of two spellings with one first byte and a second, that of the later is not smaller
 pub before-second : (a b : List ℕ) → before a b ≡ true → get_or a 0 0 ≡ get_or b 0 0 → 2 ≤ length a → get_or a 1 0 ≤ get_or b 1 0

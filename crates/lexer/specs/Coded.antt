@@ -4,33 +4,33 @@ use Rattle.std.proofs.Math.Option.{Option, none, some}
 use Rattle.lexer.specs.declared.table.Listed.{Listed}
 use Rattle.tokens.specs.declared.token.Token.TheVariants.{Unary}
 use Rattle.tokens.specs.Lexeme.{Lexeme}
-use Rattle.tokens.specs.Table.{countOthers}
-use Rattle.lexer.specs.Constants.{row_of, spellingOf}
-use Rattle.lexer.specs.Listing.{listInto}
-use Rattle.lexing.specs.Rules.{Read, alone, commandAt, isTextCommand, number_at, quotationAt, byte_at}
+use Rattle.tokens.specs.Table.{count_others}
+use Rattle.lexer.specs.Constants.{row_of, spelling_of}
+use Rattle.lexer.specs.Listing.{list_into}
+use Rattle.lexing.specs.Rules.{Read, alone, command_at, is_text_command, number_at, quotation_at, byte_at}
 
 -- the row in the word of what is found (src/found.rt): it has one if its bit of 32 is set
 unfoldable pub row_in : ℕ → Option ℕ
 row_in found = elim (eqb (found / 32 % 2) 1) [ true ↦ some (found / 64) | false ↦ none ]
 
 -- what is read by rules 4 and 5, by rules 3 to 5, and by rule 2 where a row is found
-unfoldable pub fromQuotation : List ℕ → ℕ → Read
-fromQuotation text at = elim (quotationAt text at) [ some r ↦ r | none ↦ byte_at text at ]
+unfoldable pub from_quotation : List ℕ → ℕ → Read
+from_quotation text at = elim (quotation_at text at) [ some r ↦ r | none ↦ byte_at text at ]
 
-unfoldable pub fromNumber : List ℕ → ℕ → Read
-fromNumber text at = elim (number_at text at) [ some r ↦ r | none ↦ fromQuotation text at ]
+unfoldable pub from_number : List ℕ → ℕ → Read
+from_number text at = elim (number_at text at) [ some r ↦ r | none ↦ from_quotation text at ]
 
-unfoldable pub fromRow : ℕ → List ℕ → ℕ → Read
-fromRow k text at =
-    elim (isTextCommand (spellingOf k))
-    [ true ↦ commandAt text at 4 Unary | false ↦ alone at (length (spellingOf k)) (row_of k).token ]
+unfoldable pub from_row : ℕ → List ℕ → ℕ → Read
+from_row k text at =
+    elim (is_text_command (spelling_of k))
+    [ true ↦ command_at text at 4 Unary | false ↦ alone at (length (spelling_of k)) (row_of k).token ]
 
 abbrev pub listed : ℕ → ℕ → ℕ → ℕ → Listed
 listed all spaces next found = record { all = all; spaces = spaces; next = next; found = found }
 
 -- the counts and the place, with another word of what was found
-abbrev pub withFound : Listed → ℕ → Listed
-withFound p found = listed p.all p.spaces p.next found
+abbrev pub with_found : Listed → ℕ → Listed
+with_found p found = listed p.all p.spaces p.next found
 
 -- a place of the text, and no more tokens listed than bytes stand before it
 pub record Placed (text : List ℕ) (p : Listed) : Type 0 where
@@ -42,10 +42,10 @@ pub record Placed (text : List ℕ) (p : Listed) : Type 0 where
 -- tokens are counted, and put into the table as far as they fit; the place is moved on, and what was found stays
 pub record Added (ts : List Lexeme) (next : ℕ) (p : Listed) (before : List ℕ) (r : Listed) (after : List ℕ) : Type 0 where
   pub all_are : r.all ≡ p.all + length ts
-  pub spaces-are : r.spaces + countOthers ts ≡ p.spaces + length ts
+  pub spaces-are : r.spaces + count_others ts ≡ p.spaces + length ts
   pub next-is : r.next ≡ next
   pub found-is : r.found ≡ p.found
-  pub words_are : after ≡ listInto p.all before ts
+  pub words_are : after ≡ list_into p.all before ts
 
 abbrev pub AddedRead : Read → Listed → List ℕ → Listed → List ℕ → Type 0
 AddedRead q p before r after = Added (q.first ∷ q.waiting) q.next p before r after

@@ -25,49 +25,49 @@ words_of n [] = 32 * n ∷ []
 words_of n (r ∷ rs) = (32 * n + number_of r.token) ∷ words_of (n + length r.spelling) rs
 
 -- how many rows begin with a byte below c
-unfoldable pub countBelow : ℕ → List Row → ℕ
-countBelow c [] = 0
-countBelow c (r ∷ rs) = elim (ltb (get_or r.spelling 0 0) c) [ true ↦ suc (countBelow c rs) | false ↦ countBelow c rs ]
+unfoldable pub count_below : ℕ → List Row → ℕ
+count_below c [] = 0
+count_below c (r ∷ rs) = elim (ltb (get_or r.spelling 0 0) c) [ true ↦ suc (count_below c rs) | false ↦ count_below c rs ]
 
 -- the row is the byte c alone
 unfoldable pub is_byte : ℕ → Row → Bool
 is_byte c r = elim (eqb (get_or r.spelling 0 0) c) [ true ↦ eqb (length r.spelling) 1 | false ↦ false ]
 
 -- the token of the row that is the byte c alone
-unfoldable pub tokenOfByte : ℕ → List Row → Option Token
+unfoldable pub token_of_byte : ℕ → List Row → Option Token
 unfolding is_byte
-tokenOfByte c [] = none
-tokenOfByte c (r ∷ rs) = elim (is_byte c r) [ true ↦ some r.token | false ↦ tokenOfByte c rs ]
+token_of_byte c [] = none
+token_of_byte c (r ∷ rs) = elim (is_byte c r) [ true ↦ some r.token | false ↦ token_of_byte c rs ]
 
 -- the number of the token that a byte is by itself, if no spelling is that byte
-unfoldable pub plainKind : ℕ → ℕ
-plainKind c = elim (blank c) [ true ↦ 23 | false ↦ elim (digit c) [ true ↦ 4 | false ↦ elim (letter c) [ true ↦ 6 | false ↦ 7 ] ] ]
+unfoldable pub plain_kind : ℕ → ℕ
+plain_kind c = elim (blank c) [ true ↦ 23 | false ↦ elim (digit c) [ true ↦ 4 | false ↦ elim (letter c) [ true ↦ 6 | false ↦ 7 ] ] ]
 
 -- 32 and the number of the spelling's token, or the number without a spelling
-abbrev pub kindWord : ℕ → Option Token → ℕ
-kindWord c none = plainKind c
-kindWord c (some t) = 32 + number_of t
+abbrev pub kind_word : ℕ → Option Token → ℕ
+kind_word c none = plain_kind c
+kind_word c (some t) = 32 + number_of t
 
 -- the words for n byte values from c on
-unfoldable pub firstsOf : ℕ → ℕ → List Row → List ℕ
-unfolding countBelow tokenOfByte plainKind
-firstsOf zero c rs = []
-firstsOf (suc n) c rs = (64 * countBelow c rs + kindWord c (tokenOfByte c rs)) ∷ firstsOf n (suc c) rs
+unfoldable pub firsts_of : ℕ → ℕ → List Row → List ℕ
+unfolding count_below token_of_byte plain_kind
+firsts_of zero c rs = []
+firsts_of (suc n) c rs = (64 * count_below c rs + kind_word c (token_of_byte c rs)) ∷ firsts_of n (suc c) rs
 
-unfoldable pub flatBytes : List ℕ
-flatBytes = flat rows
+unfoldable pub flat_bytes : List ℕ
+flat_bytes = flat rows
 
-unfoldable pub rowWords : List ℕ
-rowWords = words_of 0 rows
+unfoldable pub row_words : List ℕ
+row_words = words_of 0 rows
 
-unfoldable pub firstWords : List ℕ
-firstWords = firstsOf 129 0 rows
+unfoldable pub first_words : List ℕ
+first_words = firsts_of 129 0 rows
 
 -- the three lent arrays are the table
 pub record Lent (bytes rows first : List ℕ) : Type 0 where
-  pub bytes-are : bytes ≡ flatBytes
-  pub rows_are : rows ≡ rowWords
-  pub first-are : first ≡ firstWords
+  pub bytes-are : bytes ≡ flat_bytes
+  pub rows_are : rows ≡ row_words
+  pub first-are : first ≡ first_words
 
 abbrev pub no_row : Row
 no_row = record { spelling = []; token = Frac }
@@ -76,9 +76,9 @@ no_row = record { spelling = []; token = Frac }
 unfoldable pub row_of : ℕ → Row
 row_of k = get_or rows k no_row
 
-unfoldable pub spellingOf : ℕ → List ℕ
+unfoldable pub spelling_of : ℕ → List ℕ
 unfolding row_of
-spellingOf k = (row_of k).spelling
+spelling_of k = (row_of k).spelling
 
 unfoldable pub start_of : ℕ → ℕ
 start_of k = offset rows k
@@ -87,21 +87,21 @@ unfoldable pub kind_of : ℕ → ℕ
 kind_of k = number_of (row_of k).token
 
 -- how many rows begin with a byte below c
-unfoldable pub rowsBelow : ℕ → ℕ
-rowsBelow c = countBelow c rows
+unfoldable pub rows_below : ℕ → ℕ
+rows_below c = count_below c rows
 
 -- the token of the spelling that is the byte c alone
-unfoldable pub spelledByte : ℕ → Option Token
-spelledByte c = tokenOfByte c rows
+unfoldable pub spelled_byte : ℕ → Option Token
+spelled_byte c = token_of_byte c rows
 
 -- the first row behind those that begin with a smaller byte and that of c alone
-unfoldable pub longerFrom : ℕ → ℕ
-longerFrom c = elim (spelledByte c) [ none ↦ rowsBelow c | some t ↦ rowsBelow c + 1 ]
+unfoldable pub longer_from : ℕ → ℕ
+longer_from c = elim (spelled_byte c) [ none ↦ rows_below c | some t ↦ rows_below c + 1 ]
 
 -- the number of the token that the byte c is by itself
-unfoldable pub byteKind : ℕ → ℕ
-byteKind c = elim (spelledByte c) [ none ↦ plainKind c | some t ↦ number_of t ]
+unfoldable pub byte_kind : ℕ → ℕ
+byte_kind c = elim (spelled_byte c) [ none ↦ plain_kind c | some t ↦ number_of t ]
 
--- the word of the byte c, as it stands in `firstWords`
-unfoldable pub wordOfByte : ℕ → ℕ
-wordOfByte c = 64 * rowsBelow c + kindWord c (spelledByte c)
+-- the word of the byte c, as it stands in `first_words`
+unfoldable pub word_of_byte : ℕ → ℕ
+word_of_byte c = 64 * rows_below c + kind_word c (spelled_byte c)

@@ -8,16 +8,16 @@ use Rattle.lexer.specs.declared.found.TokenRow.TheVariants.{Row, NoRow}
 use Rattle.lexing.specs.Longest.{Numbered}
 
 -- the public answer: the spelling's length, its token and its row
-abbrev pub longestAnswer : Option Numbered → Longest
-longestAnswer none = Nothing
-longestAnswer (some f) = Spelling (length f.row.spelling) f.row.token f.number
+abbrev pub longest_answer : Option Numbered → Longest
+longest_answer none = Nothing
+longest_answer (some f) = Spelling (length f.row.spelling) f.row.token f.number
 
 -- the row of a token as the code's enum
-abbrev pub tokenRow : Option ℕ → TokenRow
-tokenRow none = NoRow
-tokenRow (some k) = Row k
+abbrev pub token_row : Option ℕ → TokenRow
+token_row none = NoRow
+token_row (some k) = Row k
 
 -- one past the row's number if the spelling has two bytes or more, else 0
-abbrev pub pastLonger : Option Numbered → ℕ
-pastLonger none = 0
-pastLonger (some f) = elim (ltb 1 (length f.row.spelling)) [ true ↦ suc f.number | false ↦ 0 ]
+abbrev pub past_longer : Option Numbered → ℕ
+past_longer none = 0
+past_longer (some f) = elim (ltb 1 (length f.row.spelling)) [ true ↦ suc f.number | false ↦ 0 ]

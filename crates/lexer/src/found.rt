@@ -2,7 +2,7 @@
 // longest spelling has two bytes or more, else the word of the byte (crate::spellings).
 ghost use Rattle.std.specs.Prelude.{◌≡◌, ◌-◌, ◌%◌, ◌≤◌, ◌<◌};
 ghost use Rattle.std.proofs.Math.Option.{some};
-ghost use Rattle.lexer.specs.Lookup.{tokenRow};
+ghost use Rattle.lexer.specs.Lookup.{token_row};
 ghost use Rattle.lexer.specs.Coded.{row_in};
 
 use crate::spellings::{KINDS, ROW};
@@ -31,7 +31,7 @@ pub(crate) fn word_of(past: usize) -> usize
 
 // The row, if there is one.
 pub(crate) fn row_in(found: usize) -> TokenRow
-    ensures { result ≡ tokenRow (row_in found) }
+    ensures { result ≡ token_row (row_in found) }
 {
     if found / KINDS % 2 == 1 {
         return TokenRow::Row(found / ROW);

@@ -7,7 +7,7 @@ mod spellings;
 mod table;
 
 ghost use Rattle.std.specs.Prelude.{◌≡◌, min};
-ghost use Rattle.lexer.specs.Listing.{listedReads};
+ghost use Rattle.lexer.specs.Listing.{listed_reads};
 
 use found::TokenRow;
 use list::list_from;
@@ -38,7 +38,7 @@ fn smaller(a: usize, b: usize) -> usize
 // Reads from a place on until `stop` or the text's end is reached: counts the tokens, and writes the leading ones into the table as
 // far as it has three words for each; or refuses the text by 1 or 2, or a place `from` past the text by 5, and changes nothing.
 pub fn list_reads(text: &[u8], from: usize, stop: usize, table: &mut [u32]) -> Listing
-    ensures { (result, table.new) ≡ listedReads text.now from stop table.old }
+    ensures { (result, table.new) ≡ listed_reads text.now from stop table.old }
 {
     if let Checked::Refused(k) = check_text(text) {
         return Listing::Refused(k);

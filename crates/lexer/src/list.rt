@@ -2,7 +2,7 @@
 ghost use Rattle.std.specs.Prelude.{◌≡◌, true, ◌≤◌, length};
 ghost use Rattle.tokens.specs.Refusals.{ascii};
 ghost use Rattle.lexer.specs.Constants.{Lent};
-ghost use Rattle.lexer.specs.Listing.{listedTo};
+ghost use Rattle.lexer.specs.Listing.{listed_to};
 
 use crate::Listing;
 use crate::found::row_in;
@@ -23,7 +23,7 @@ fn list_in(
 ) -> Listing
     requires { Lent bytes.now rows.now first.now × (ascii text.now ≡ true) × (length text.now ≤ 4096)
         × (stop ≤ length text.now) }
-    ensures { (result, table.new) ≡ listedTo stop text.now from table.old }
+    ensures { (result, table.new) ≡ listed_to stop text.now from table.old }
 {
     let mut p = Listed {
         all: 0,
@@ -45,7 +45,7 @@ fn list_in(
 // The same with the constants as the arrays.
 pub(crate) fn list_from(text: &[u8], from: usize, stop: usize, table: &mut [u32]) -> Listing
     requires { (ascii text.now ≡ true) × (length text.now ≤ 4096) × (stop ≤ length text.now) }
-    ensures { (result, table.new) ≡ listedTo stop text.now from table.old }
+    ensures { (result, table.new) ≡ listed_to stop text.now from table.old }
 {
     let bytes = BYTES;
     let rows = ROWS;

@@ -1,8 +1,8 @@
 // The longest spelling that begins a text at a place: get_longest_prefix of the Rust's prefix_map, over the constant table.
 ghost use Rattle.std.specs.Prelude.{◌≡◌, ◌+◌, ◌≤◌, ◌<◌, length, get_or, drop};
-ghost use Rattle.lexing.specs.Longest.{begins, longestAt};
-ghost use Rattle.lexer.specs.Constants.{Lent, flatBytes, rowWords, spellingOf};
-ghost use Rattle.lexer.specs.Lookup.{longestAnswer, pastLonger};
+ghost use Rattle.lexing.specs.Longest.{begins, longest_at};
+ghost use Rattle.lexer.specs.Constants.{Lent, flat_bytes, row_words, spelling_of};
+ghost use Rattle.lexer.specs.Lookup.{longest_answer, past_longer};
 
 use crate::spellings::{
     ALL_BYTES, BYTE_WORDS, BYTES, FIRST, ROW_WORDS, ROWS, byte_kind, first_of, kind_of, len_of,
@@ -23,8 +23,8 @@ pub enum Longest {
 
 // The second byte of a row.
 fn second_of(bytes: &[u8; ALL_BYTES], rows: &[u16; ROW_WORDS], row: usize) -> u8
-    requires { (bytes.now ≡ flatBytes) × (rows.now ≡ rowWords) × (row < 429) × (2 ≤ length (spellingOf row)) }
-    ensures { result ≡ get_or (spellingOf row) 1 0 }
+    requires { (bytes.now ≡ flat_bytes) × (rows.now ≡ row_words) × (row < 429) × (2 ≤ length (spelling_of row)) }
+    ensures { result ≡ get_or (spelling_of row) 1 0 }
 {
     bytes[start_of(rows, row) + 1]
 }
@@ -37,10 +37,10 @@ fn fits(
     at: usize,
     row: usize,
 ) -> bool
-    requires { (bytes.now ≡ flatBytes) × (rows.now ≡ rowWords) × (row < 429) × (2 ≤ length (spellingOf row))
-        × (at + 1 < length text.now) × (get_or (spellingOf row) 0 0 ≡ get_or text.now at 0)
-        × (get_or (spellingOf row) 1 0 ≡ get_or text.now (at + 1) 0) }
-    ensures { result ≡ begins (spellingOf row) (drop at text.now) }
+    requires { (bytes.now ≡ flat_bytes) × (rows.now ≡ row_words) × (row < 429) × (2 ≤ length (spelling_of row))
+        × (at + 1 < length text.now) × (get_or (spelling_of row) 0 0 ≡ get_or text.now at 0)
+        × (get_or (spelling_of row) 1 0 ≡ get_or text.now (at + 1) 0) }
+    ensures { result ≡ begins (spelling_of row) (drop at text.now) }
 {
     let from = start_of(rows, row);
     let n = len_of(rows, row);
@@ -67,7 +67,7 @@ pub(crate) fn past_longer(
     at: usize,
 ) -> usize
     requires { Lent bytes.now rows.now first.now × (at < length text.now) × (get_or text.now at 0 < 128) }
-    ensures { result ≡ pastLonger (longestAt text.now at) }
+    ensures { result ≡ past_longer (longest_at text.now at) }
 {
     let c = text[at] as usize;
     let low = longer_of(first, c);
@@ -104,7 +104,7 @@ fn longest_in(
     at: usize,
 ) -> Longest
     requires { Lent bytes.now rows.now first.now }
-    ensures { result ≡ longestAnswer (longestAt text.now at) }
+    ensures { result ≡ longest_answer (longest_at text.now at) }
 {
     if text.len() <= at {
         return Longest::Nothing;
@@ -135,7 +135,7 @@ fn longest_in(
 
 // The longest spelling that begins the text at the place; past the text's end there is none.
 pub fn get_longest_prefix(text: &[u8], at: usize) -> Longest
-    ensures { result ≡ longestAnswer (longestAt text.now at) }
+    ensures { result ≡ longest_answer (longest_at text.now at) }
 {
     let bytes = BYTES;
     let rows = ROWS;

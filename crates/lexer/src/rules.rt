@@ -2,9 +2,9 @@
 ghost use Rattle.std.specs.Prelude.{◌≡◌, true, false, ◌+◌, ◌≤◌, ◌<◌, length, get_or};
 ghost use Rattle.tokens.specs.declared.token.Token.TheVariants.{Unary};
 ghost use Rattle.tokens.specs.Refusals.{ascii};
-ghost use Rattle.lexer.specs.Constants.{Lent, rowWords, spellingOf};
-ghost use Rattle.lexing.specs.Rules.{blank, digit, letter, other, closer, runEnd, commandAt, isTextCommand, numberEnd, pastPoint, byte_at, readAt, tokenRowAt};
-ghost use Rattle.lexer.specs.Coded.{Placed, AddedRead, fromQuotation, fromNumber, fromRow, withFound, row_in};
+ghost use Rattle.lexer.specs.Constants.{Lent, row_words, spelling_of};
+ghost use Rattle.lexing.specs.Rules.{blank, digit, letter, other, closer, run_end, command_at, is_text_command, number_end, past_point, byte_at, read_at, token_row_at};
+ghost use Rattle.lexer.specs.Coded.{Placed, AddedRead, from_quotation, from_number, from_row, with_found, row_in};
 
 use crate::found::{kind_in, word_of};
 use crate::prefix_map::past_longer;
@@ -28,7 +28,7 @@ fn is_digit(c: u8) -> bool
 
 // Where the digits from the place on end; past the text's end there are none.
 fn digits_end(text: &[u8], at: usize) -> usize
-    ensures { result ≡ runEnd digit text.now at }
+    ensures { result ≡ run_end digit text.now at }
 {
     let mut i = at;
     while i < text.len() {
@@ -42,7 +42,7 @@ fn digits_end(text: &[u8], at: usize) -> usize
 
 // Where the byte b first stands from the place on, or the text's end.
 fn find_end(text: &[u8], at: usize, b: u8) -> usize
-    ensures { result ≡ runEnd (other b) text.now at }
+    ensures { result ≡ run_end (other b) text.now at }
 {
     let mut i = at;
     while i < text.len() {
@@ -57,7 +57,7 @@ fn find_end(text: &[u8], at: usize, b: u8) -> usize
 // Rules 4 and 5 for a byte that is no letter: a quotation, or an Operator.
 fn strip_text(text: &[u8], table: &mut [u32], p: Listed) -> Listed
     requires { Placed text.now p × (letter (get_or text.now p.next 0) ≡ false) }
-    ensures { AddedRead (fromQuotation text.now p.next) p table.old result table.new }
+    ensures { AddedRead (from_quotation text.now p.next) p table.old result table.new }
 {
     let at = p.next;
     let from = at + 1;
@@ -72,7 +72,7 @@ fn strip_text(text: &[u8], table: &mut [u32], p: Listed) -> Listed
 
 // Where digits with at most one point end.
 fn number_end(text: &[u8], at: usize) -> usize
-    ensures { result ≡ numberEnd text.now at }
+    ensures { result ≡ number_end text.now at }
 {
     let p = digits_end(text, at);
     if text.len() <= p {
@@ -87,7 +87,7 @@ fn number_end(text: &[u8], at: usize) -> usize
 // Past a point at the place.
 fn past_point(text: &[u8], at: usize) -> usize
     requires { at < length text.now }
-    ensures { result ≡ pastPoint text.now at }
+    ensures { result ≡ past_point text.now at }
 {
     if text[at] == b'.' {
         return at + 1;
@@ -98,7 +98,7 @@ fn past_point(text: &[u8], at: usize) -> usize
 // Rule 3 for a byte that is no letter.
 fn strip_number(text: &[u8], table: &mut [u32], p: Listed) -> Listed
     requires { Placed text.now p × (letter (get_or text.now p.next 0) ≡ false) }
-    ensures { AddedRead (fromNumber text.now p.next) p table.old result table.new }
+    ensures { AddedRead (from_number text.now p.next) p table.old result table.new }
 {
     let at = p.next;
     let e = number_end(text, at);
@@ -127,7 +127,7 @@ fn closer_of(c: u8) -> u8
 // Rule 2: a text command, `text` or `mbox`, at the place.
 fn text_command(text: &[u8], table: &mut [u32], p: Listed) -> Listed
     requires { Placed text.now p × (p.next + 4 ≤ length text.now) }
-    ensures { AddedRead (commandAt text.now p.next 4 Unary) p table.old result table.new }
+    ensures { AddedRead (command_at text.now p.next 4 Unary) p table.old result table.new }
 {
     let at = p.next;
     let command = put_other(table, p, at, COMMAND_LEN, UNARY, at + COMMAND_LEN);
@@ -152,7 +152,7 @@ fn text_command(text: &[u8], table: &mut [u32], p: Listed) -> Listed
 // Whether the row is that of `text` or `mbox`.
 fn is_text_command(row: usize) -> bool
     requires { row < 429 }
-    ensures { result ≡ isTextCommand (spellingOf row) }
+    ensures { result ≡ is_text_command (spelling_of row) }
 {
     if row == TEXT_ROW {
         return true;
@@ -168,9 +168,9 @@ fn strip_spelling(
     table: &mut [u32],
     p: Listed,
 ) -> Listed
-    requires { (rows.now ≡ rowWords) × (row < 429) × Placed text.now p
-        × (p.next + length (spellingOf row) ≤ length text.now) }
-    ensures { AddedRead (fromRow row text.now p.next) p table.old result table.new }
+    requires { (rows.now ≡ row_words) × (row < 429) × Placed text.now p
+        × (p.next + length (spelling_of row) ≤ length text.now) }
+    ensures { AddedRead (from_row row text.now p.next) p table.old result table.new }
 {
     if is_text_command(row) {
         return text_command(text, table, p);
@@ -183,7 +183,7 @@ fn strip_spelling(
 // Rule 1.
 fn strip_blanks(text: &[u8], table: &mut [u32], p: Listed) -> Listed
     requires { Placed text.now p × (blank (get_or text.now p.next 0) ≡ true) }
-    ensures { AddedRead (readAt byte_at text.now p.next) p table.old result table.new }
+    ensures { AddedRead (read_at byte_at text.now p.next) p table.old result table.new }
 {
     let at = p.next;
     let e = blanks_end(text, at + 1);
@@ -199,7 +199,7 @@ fn strip_blanks(text: &[u8], table: &mut [u32], p: Listed) -> Listed
 // Rule 3 for a digit.
 fn strip_digits(text: &[u8], table: &mut [u32], p: Listed) -> Listed
     requires { Placed text.now p × (digit (get_or text.now p.next 0) ≡ true) }
-    ensures { AddedRead (fromNumber text.now p.next) p table.old result table.new }
+    ensures { AddedRead (from_number text.now p.next) p table.old result table.new }
 {
     let at = p.next;
     let e = number_end(text, at + 1);
@@ -217,8 +217,8 @@ pub(crate) fn read_token(
     p: Listed,
 ) -> Listed
     requires { Lent bytes.now rows.now first.now × Placed text.now p × (ascii text.now ≡ true) }
-    ensures { AddedRead (readAt byte_at text.now p.next) (withFound p result.found) table.old result table.new
-        × (row_in result.found ≡ tokenRowAt text.now p.next) }
+    ensures { AddedRead (read_at byte_at text.now p.next) (with_found p result.found) table.old result table.new
+        × (row_in result.found ≡ token_row_at text.now p.next) }
 {
     let at = p.next;
     let found = byte_word(first, text[at] as usize);

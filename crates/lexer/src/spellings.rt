@@ -1,7 +1,7 @@
 // The spelling table as constants: the rows of the definition, laid out flat. A use of a constant array builds it anew, and a function
 // that returned one would copy it once more, so the one loop over a text and the public lookup put the three into locals and lend them.
 ghost use Rattle.std.specs.Prelude.{◌≡◌, ◌<◌, length};
-ghost use Rattle.lexer.specs.Constants.{rowWords, firstWords, start_of, kind_of, spellingOf, rowsBelow, longerFrom, byteKind, wordOfByte};
+ghost use Rattle.lexer.specs.Constants.{row_words, first_words, start_of, kind_of, spelling_of, rows_below, longer_from, byte_kind, word_of_byte};
 
 // A kind is below KINDS. A row's word is KINDS times its start and its kind; a byte's word is ROW times a row, the bit of KINDS and a kind.
 pub(crate) const KINDS: usize = 32;
@@ -174,7 +174,7 @@ fn wide_kind(x: u16) -> u32
 
 // Where the row's bytes start.
 pub(crate) fn start_of(rows: &[u16; ROW_WORDS], row: usize) -> usize
-    requires { (rows.now ≡ rowWords) × (row < 430) }
+    requires { (rows.now ≡ row_words) × (row < 430) }
     ensures { result ≡ start_of row }
 {
     wide(rows[row]) / KINDS
@@ -182,15 +182,15 @@ pub(crate) fn start_of(rows: &[u16; ROW_WORDS], row: usize) -> usize
 
 // How many bytes the row's spelling has.
 pub(crate) fn len_of(rows: &[u16; ROW_WORDS], row: usize) -> usize
-    requires { (rows.now ≡ rowWords) × (row < 429) }
-    ensures { result ≡ length (spellingOf row) }
+    requires { (rows.now ≡ row_words) × (row < 429) }
+    ensures { result ≡ length (spelling_of row) }
 {
     start_of(rows, row + 1) - start_of(rows, row)
 }
 
 // The number of the row's token.
 pub(crate) fn kind_of(rows: &[u16; ROW_WORDS], row: usize) -> u32
-    requires { (rows.now ≡ rowWords) × (row < 429) }
+    requires { (rows.now ≡ row_words) × (row < 429) }
     ensures { result ≡ kind_of row }
 {
     wide_kind(rows[row]) % 32
@@ -198,32 +198,32 @@ pub(crate) fn kind_of(rows: &[u16; ROW_WORDS], row: usize) -> u32
 
 // How many rows begin with a byte below c.
 pub(crate) fn first_of(first: &[u16; BYTE_WORDS], c: usize) -> usize
-    requires { (first.now ≡ firstWords) × (c < 129) }
-    ensures { result ≡ rowsBelow c }
+    requires { (first.now ≡ first_words) × (c < 129) }
+    ensures { result ≡ rows_below c }
 {
     wide(first[c]) / ROW
 }
 
 // The first row that may begin with the byte c and have more bytes.
 pub(crate) fn longer_of(first: &[u16; BYTE_WORDS], c: usize) -> usize
-    requires { (first.now ≡ firstWords) × (c < 129) }
-    ensures { result ≡ longerFrom c }
+    requires { (first.now ≡ first_words) × (c < 129) }
+    ensures { result ≡ longer_from c }
 {
     (wide(first[c]) + KINDS) / ROW
 }
 
 // The number of the token that the byte c is by itself.
 pub(crate) fn byte_kind(first: &[u16; BYTE_WORDS], c: usize) -> u32
-    requires { (first.now ≡ firstWords) × (c < 129) }
-    ensures { result ≡ byteKind c }
+    requires { (first.now ≡ first_words) × (c < 129) }
+    ensures { result ≡ byte_kind c }
 {
     wide_kind(first[c]) % 32
 }
 
 // The word of the byte c.
 pub(crate) fn byte_word(first: &[u16; BYTE_WORDS], c: usize) -> usize
-    requires { (first.now ≡ firstWords) × (c < 129) }
-    ensures { result ≡ wordOfByte c }
+    requires { (first.now ≡ first_words) × (c < 129) }
+    ensures { result ≡ word_of_byte c }
 {
     wide(first[c])
 }

@@ -1,7 +1,7 @@
 // Tokens written into a table of three words each, as far as they fit, and counted.
 ghost use Rattle.std.specs.Prelude.{◌≡◌, ◌+◌, ◌≤◌};
-ghost use Rattle.lexer.specs.Listing.{putToken};
-ghost use Rattle.lexer.specs.Coded.{listed, withFound};
+ghost use Rattle.lexer.specs.Listing.{put_token};
+ghost use Rattle.lexer.specs.Coded.{listed, with_found};
 
 // How many tokens are listed, how many of them are Spaces, the place behind them, and the word of what was found at the last read
 // (crate::found).
@@ -16,7 +16,7 @@ pub(crate) struct Listed {
 // Writes the n-th token if the table has words for it.
 pub(crate) fn put(table: &mut [u32], n: usize, start: usize, len: usize, kind: u32)
     requires { (n ≤ 4096) × (start ≤ 4096) × (len ≤ 4096) }
-    ensures { table.new ≡ putToken n start len kind table.old }
+    ensures { table.new ≡ put_token n start len kind table.old }
 {
     if n < table.len() / 3 {
         let i = 3 * n;
@@ -37,7 +37,7 @@ pub(crate) fn put_other(
 ) -> Listed
     requires { (p.all ≤ 4096) × (start ≤ 4096) × (len ≤ 4096) }
     ensures { (result ≡ listed (p.all + 1) p.spaces next p.found)
-        × (table.new ≡ putToken p.all start len kind table.old) }
+        × (table.new ≡ put_token p.all start len kind table.old) }
 {
     put(table, p.all, start, len, kind);
     Listed {
@@ -50,7 +50,7 @@ pub(crate) fn put_other(
 
 // The counts and the place, with another word of what was found.
 pub(crate) fn with_found(p: Listed, found: usize) -> Listed
-    ensures { result ≡ withFound p found }
+    ensures { result ≡ with_found p found }
 {
     Listed {
         all: p.all,

@@ -12,13 +12,13 @@ use lib.ListN.{length, get_or, take, drop, drop_of_length-le}
 use lib.Seq.{drop-cons}
 use borrow.Author.Tests.{lt-ltb, le-ltb, eqb-true, eq-eqb, ne_eqb}
 use Rattle.lexing.specs.Spellings.{Row}
-use Rattle.lexing.specs.Longest.{begins, Numbered, longer, longestOf}
-use Rattle.tokens.proofs.Cases.{by-test, by-lt, clash}
+use Rattle.lexing.specs.Longest.{begins, Numbered, longer, longest_of}
+use Rattle.tokens.proofs.Cases.{by_test, by_lt, clash}
 
 pub begins-cons : (k x : ℕ) (ks s : List ℕ) → begins (k ∷ ks) (x ∷ s) ≡ true → (k ≡ x) × (begins ks s ≡ true)
 unfolding begins
 begins-cons k x ks s p =
-    by-test (eqb k x) (λ e. (eqb-true k x e, rw (e, begins) at p)) (λ e. clash false (rw (e, begins) at p) refl)
+    by_test (eqb k x) (λ e. (eqb-true k x e, rw (e, begins) at p)) (λ e. clash false (rw (e, begins) at p) refl)
 
 pub begins-length : (ks s : List ℕ) → begins ks s ≡ true → length ks ≤ length s
 unfolding begins
@@ -49,7 +49,7 @@ begins-take (k ∷ ks) (x ∷ s) e =
 
 -- a longer key does not
 pub begins-past : (ks s : List ℕ) → length s < length ks → begins ks s ≡ false
-begins-past ks s h = by-test (begins ks s) (λ e. absurd (omega (arith, begins-length ks s e))) (λ e. e)
+begins-past ks s h = by_test (begins ks s) (λ e. absurd (omega (arith, begins-length ks s e))) (λ e. e)
 
 -- one step at place j of the key and place i of the text
 module _ (ks s : List ℕ) (j i : ℕ) where
@@ -136,15 +136,15 @@ module _ (r : Row) (rs : List Row) (i : ℕ) (s : List ℕ) where
       rw (le-ltb (length r.spelling) 0 (omega arith), longer)
       (here e (λ d k h b. clash (begins (get_or rs k d).spelling s) b (a d k h)))
   taken e (some f) a =
-      by-lt (length r.spelling) (length f.row.spelling)
+      by_lt (length r.spelling) (length f.row.spelling)
       (λ l. rw (lt-ltb (length r.spelling) (length f.row.spelling) l, longer) (behind f a (λ b. omega arith)))
       (λ l. rw (le-ltb (length r.spelling) (length f.row.spelling) l, longer)
       (here e (λ d k h b. omega (arith, a.longest d k h b))))
 
-pub answered : (rs : List Row) (i : ℕ) (s : List ℕ) → Answered rs i s (longestOf rs i s)
-unfolding longestOf
+pub answered : (rs : List Row) (i : ℕ) (s : List ℕ) → Answered rs i s (longest_of rs i s)
+unfolding longest_of
 answered [] i s = λ d k h. absurd (not-suc-le-zero h)
 answered (r ∷ rs) i s =
-    by-test (begins r.spelling s)
-    (λ e. rw (e, longestOf) (taken r rs i s e (longestOf rs (suc i) s) (answered rs (suc i) s)))
-    (λ e. rw (e, longestOf) (skipped r rs i s e (longestOf rs (suc i) s) (answered rs (suc i) s)))
+    by_test (begins r.spelling s)
+    (λ e. rw (e, longest_of) (taken r rs i s e (longest_of rs (suc i) s) (answered rs (suc i) s)))
+    (λ e. rw (e, longest_of) (skipped r rs i s e (longest_of rs (suc i) s) (answered rs (suc i) s)))

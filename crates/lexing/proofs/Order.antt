@@ -12,15 +12,15 @@ use borrow.Author.Tests.{ltb-true, eqb-true, lt-ltb, le-ltb, eq-eqb}
 use Rattle.lexing.specs.Spellings.{Row, rows}
 use Rattle.lexing.specs.Order.{before, sorted_from}
 use Rattle.lexing.specs.Longest.{begins}
-use Rattle.tokens.proofs.Cases.{by-test, by-lt, clash}
+use Rattle.tokens.proofs.Cases.{by_test, by_lt, clash}
 use Rattle.lexing.proofs.Begins.{begins-cons}
 
 pub before-cons : (x y : ℕ) (a b : List ℕ) → before (x ∷ a) (y ∷ b) ≡ true → (x < y) ⊎ ((x ≡ y) × (before a b ≡ true))
 unfolding before
 before-cons x y a b p =
-    by-test (ltb x y) (λ e. inl (ltb-true x y e))
+    by_test (ltb x y) (λ e. inl (ltb-true x y e))
     (λ e.
-    by-test (eqb x y) (λ f. inr (eqb-true x y f, rw f at (rw (e, before) at p)))
+    by_test (eqb x y) (λ f. inr (eqb-true x y f, rw f at (rw (e, before) at p)))
     (λ f. clash false (rw f at (rw (e, before) at p)) refl))
 
 pub before_head : (x y : ℕ) (a b : List ℕ) → x < y → before (x ∷ a) (y ∷ b) ≡ true
@@ -63,7 +63,7 @@ pub sorted-cons : (p : List ℕ) (r : Row) (rs : List Row) → sorted_from p (r 
     → (before p r.spelling ≡ true) × (sorted_from r.spelling rs ≡ true)
 unfolding sorted_from
 sorted-cons p r rs h =
-    by-test (before p r.spelling) (λ e. (e, rw (e, sorted_from) at h)) (λ e. clash false (rw (e, sorted_from) at h) refl)
+    by_test (before p r.spelling) (λ e. (e, rw (e, sorted_from) at h)) (λ e. clash false (rw (e, sorted_from) at h) refl)
 
 module _ (d : Row) where
   pub sorted-above : (p : List ℕ) (rs : List Row) → sorted_from p rs ≡ true → (k : ℕ) → k < length rs
@@ -87,8 +87,8 @@ module _ (d : Row) where
       → begins (get_or rs i d).spelling s ≡ true → begins (get_or rs j d).spelling s ≡ true
       → length (get_or rs i d).spelling ≡ length (get_or rs j d).spelling → i ≡ j
   same_place rs t s i j h l p q e =
-      by-lt i j (λ u. absurd (omega (arith, before-longer _ _ s (sorted-pair [] rs t i j u l) p q)))
-      (λ u. by-lt j i (λ v. absurd (omega (arith, before-longer _ _ s (sorted-pair [] rs t j i v h) q p))) (λ v. omega arith))
+      by_lt i j (λ u. absurd (omega (arith, before-longer _ _ s (sorted-pair [] rs t i j u l) p q)))
+      (λ u. by_lt j i (λ v. absurd (omega (arith, before-longer _ _ s (sorted-pair [] rs t j i v h) q p))) (λ v. omega arith))
 
 pub sorted : sorted_from [] rows ≡ true
 unfolding sorted_from before rows

@@ -11,31 +11,31 @@ use borrow.Author.Tests.{lt-ltb, le-ltb, eq-eqb, ne_eqb}
 use Rattle.tokens.specs.declared.token.Token.{Token}
 use Rattle.tokens.specs.Lexeme.{lexeme}
 use Rattle.lexing.specs.Spellings.{Row, rows}
-use Rattle.lexing.specs.Longest.{Numbered, longestAt, number_in, IsRow}
-use Rattle.lexing.specs.Rules.{Read, runEnd, blank, other, blanksAt, closer, literalAt, commandAt, isTextCommand, spellingAt, readAt, tokenRowAt}
-use Rattle.tokens.proofs.Cases.{by-test, by-lt, by-eq, by-option, apart}
+use Rattle.lexing.specs.Longest.{Numbered, longest_at, number_in, IsRow}
+use Rattle.lexing.specs.Rules.{Read, run_end, blank, other, blanks_at, closer, literal_at, command_at, is_text_command, spelling_at, read_at, token_row_at}
+use Rattle.tokens.proofs.Cases.{by_test, by_lt, by_eq, by_option, apart}
 use Rattle.lexing.proofs.Begins.{begins-at, begins-take}
 use Rattle.lexing.proofs.Rows.{rows-length, FoundAt, found_at}
 use Rattle.lexing.proofs.Runs.{run-stop, run_past}
 
 module _ (text : List ℕ) (at : ℕ) where
-  no_run : blank (get_or text at 0) ≡ false → runEnd blank text at ≡ at
-  no_run b = by-lt at (length text) (λ l. run-stop blank text at l b) (λ l. run_past blank text at l)
+  no_run : blank (get_or text at 0) ≡ false → run_end blank text at ≡ at
+  no_run b = by_lt at (length text) (λ l. run-stop blank text at l b) (λ l. run_past blank text at l)
 
-  pub no-blanks : blank (get_or text at 0) ≡ false → blanksAt text at ≡ none
-  unfolding blanksAt
-  no-blanks b = rw (le-ltb at (runEnd blank text at) (omega (arith, no_run b)), blanksAt)
+  pub no_blanks : blank (get_or text at 0) ≡ false → blanks_at text at ≡ none
+  unfolding blanks_at
+  no_blanks b = rw (le-ltb at (run_end blank text at) (omega (arith, no_run b)), blanks_at)
 
-  module _ (f : Numbered) (e : longestAt text at ≡ some f) where
+  module _ (f : Numbered) (e : longest_at text at ≡ some f) where
     found : FoundAt text at f
     found = rw e at (found_at text at)
 
     -- no spelling begins with a blank, so the first rule applies to none
-    no-blank : blank (get_or text at 0) ≡ false
-    no-blank =
+    no_blank : blank (get_or text at 0) ≡ false
+    no_blank =
         let w = found in
         ap blank (sym (get_or-drop at text 0 0 ∙ ap (λ (i : ℕ). get_or text i 0) (omega arith)) ∙ sym (begins-at f.row.spelling (drop at text) 0 w.found.fits w.row.filled))
-        ∙ w.row.no-blank
+        ∙ w.row.no_blank
 
     pub is_row : IsRow text at (length f.row.spelling) f.row.token f.number
     is_row =
@@ -49,36 +49,36 @@ module _ (text : List ℕ) (at : ℕ) where
           token-is = λ d. ap (λ (q : Row). q.token) (r d);
         }
 
-    command-first : (n : ℕ) (t : Token) → (commandAt text at n t).first ≡ lexeme at n t
-    unfolding commandAt literalAt
+    command-first : (n : ℕ) (t : Token) → (command_at text at n t).first ≡ lexeme at n t
+    unfolding command_at literal_at
     command-first n t =
-        let b = runEnd blank text (at + n) in
-        by-eq (closer (get_or text b 0)) 0 (λ z. rw (eq-eqb _ _ z, commandAt))
-        (λ z. rw (ne_eqb _ _ z, commandAt)
-        (by-lt (runEnd (other (closer (get_or text b 0))) text (b + 1)) (length text) (λ l. rw (lt-ltb _ _ l, literalAt)) (λ l. rw (le-ltb _ _ l, literalAt))))
+        let b = run_end blank text (at + n) in
+        by_eq (closer (get_or text b 0)) 0 (λ z. rw (eq-eqb _ _ z, command_at))
+        (λ z. rw (ne_eqb _ _ z, command_at)
+        (by_lt (run_end (other (closer (get_or text b 0))) text (b + 1)) (length text) (λ l. rw (lt-ltb _ _ l, literal_at)) (λ l. rw (le-ltb _ _ l, literal_at))))
 
     -- the first token of the read, whatever the fifth rule is
-    pub read_first : (rule5 : List ℕ → ℕ → Read) → (readAt rule5 text at).first ≡ lexeme at (length f.row.spelling) f.row.token
-    unfolding readAt spellingAt
+    pub read_first : (rule5 : List ℕ → ℕ → Read) → (read_at rule5 text at).first ≡ lexeme at (length f.row.spelling) f.row.token
+    unfolding read_at spelling_at
     read_first rule5 =
-        by-test (isTextCommand f.row.spelling)
-        (λ t. rw (no-blanks no-blank, readAt) (rw (e, spellingAt) (rw t (command-first (length f.row.spelling) f.row.token))))
-        (λ t. rw (no-blanks no-blank, readAt) (rw (e, spellingAt) (rw t)))
+        by_test (is_text_command f.row.spelling)
+        (λ t. rw (no_blanks no_blank, read_at) (rw (e, spelling_at) (rw t (command-first (length f.row.spelling) f.row.token))))
+        (λ t. rw (no_blanks no_blank, read_at) (rw (e, spelling_at) (rw t)))
 
-  pub row-looked-up : tokenRowAt text at ≡ number_in (longestAt text at)
-  unfolding tokenRowAt
-  row-looked-up =
-      by-option (longestAt text at) (λ o. by-option (blanksAt text at) (λ b. rw (b, tokenRowAt)) (λ r b. rw (b, tokenRowAt) (rw o)))
-      (λ f o. rw (no-blanks (no-blank f o), tokenRowAt))
+  pub row-looked_up : token_row_at text at ≡ number_in (longest_at text at)
+  unfolding token_row_at
+  row-looked_up =
+      by_option (longest_at text at) (λ o. by_option (blanks_at text at) (λ b. rw (b, token_row_at)) (λ r b. rw (b, token_row_at) (rw o)))
+      (λ f o. rw (no_blanks (no_blank f o), token_row_at))
 
-  module _ (k : ℕ) (e : tokenRowAt text at ≡ some k) where
-    pub looked-up : number_in (longestAt text at) ≡ some k
-    looked-up = sym row-looked-up ∙ e
+  module _ (k : ℕ) (e : token_row_at text at ≡ some k) where
+    pub looked-up : number_in (longest_at text at) ≡ some k
+    looked-up = sym row-looked_up ∙ e
 
-    pub read-is-row : (rule5 : List ℕ → ℕ → Read)
-        → let t = (readAt rule5 text at).first in (t.span.start ≡ at) × IsRow text at t.span.len t.token k
-    read-is-row rule5 =
-        by-option (longestAt text at) (λ o. let q = looked-up in apart cc)
+    pub read-is_row : (rule5 : List ℕ → ℕ → Read)
+        → let t = (read_at rule5 text at).first in (t.span.start ≡ at) × IsRow text at t.span.len t.token k
+    read-is_row rule5 =
+        by_option (longest_at text at) (λ o. let q = looked-up in apart cc)
         (λ f o.
         let q = looked-up in
         let n : f.number ≡ k = cc in

@@ -25,18 +25,18 @@ abbrev pub longer : Option Numbered → Option Numbered → Option Numbered
 longer a b = elim (ltb (length_of a) (length_of b)) [ true ↦ b | false ↦ a ]
 
 -- the longest of the rows, numbered from i, whose spelling begins s
-unfoldable pub longestOf : List Row → ℕ → List ℕ → Option Numbered
+unfoldable pub longest_of : List Row → ℕ → List ℕ → Option Numbered
 unfolding begins
-longestOf [] i s = none
-longestOf (r ∷ rs) i s =
+longest_of [] i s = none
+longest_of (r ∷ rs) i s =
     elim (begins r.spelling s) [
-      | true ↦ longer (some (record { number = i; row = r })) (longestOf rs (suc i) s)
-      | false ↦ longestOf rs (suc i) s
+      | true ↦ longer (some (record { number = i; row = r })) (longest_of rs (suc i) s)
+      | false ↦ longest_of rs (suc i) s
     ]
 
 -- the longest spelling of the table that begins the text at a place; past the text's end there is none
-unfoldable pub longestAt : List ℕ → ℕ → Option Numbered
-longestAt text at = longestOf rows 0 (drop at text)
+unfoldable pub longest_at : List ℕ → ℕ → Option Numbered
+longest_at text at = longest_of rows 0 (drop at text)
 
 -- Request 2.1: the number of what is found; "where no spelling fits there is no row"
 abbrev pub number_in : Option Numbered → Option ℕ

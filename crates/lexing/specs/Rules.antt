@@ -5,7 +5,7 @@ use Rattle.tokens.specs.declared.token.Token.{Token}
 use Rattle.tokens.specs.declared.token.Token.TheVariants.{Number, Text, Ident, Operator, OpenBracket, CloseBracket, Space}
 use Rattle.tokens.specs.Bytes.{bytes, same}
 use Rattle.tokens.specs.Lexeme.{Lexeme, lexeme}
-use Rattle.lexing.specs.Longest.{longestAt, number_in}
+use Rattle.lexing.specs.Longest.{longest_at, number_in}
 
 -- What is read at a place: a token, those that wait behind it, and the next place.
 pub record Read : Type 0 where
@@ -23,8 +23,8 @@ run p [] = 0
 run p (c ∷ s) = elim (p c) [ true ↦ suc (run p s) | false ↦ 0 ]
 
 -- where the run of bytes that pass the test, from the place on, ends
-unfoldable pub runEnd : (ℕ → Bool) → List ℕ → ℕ → ℕ
-runEnd p text at = at + run p (drop at text)
+unfoldable pub run_end : (ℕ → Bool) → List ℕ → ℕ → ℕ
+run_end p text at = at + run p (drop at text)
 
 -- "Blanks (bytes 9 to 13 and 32)"
 unfoldable pub blank : ℕ → Bool
@@ -43,9 +43,9 @@ unfoldable pub other : ℕ → ℕ → Bool
 other b c = not (eqb c b)
 
 -- Rule 1: "Blanks together are one Space token."
-unfoldable pub blanksAt : List ℕ → ℕ → Option Read
-blanksAt text at =
-    let e = runEnd blank text at in
+unfoldable pub blanks_at : List ℕ → ℕ → Option Read
+blanks_at text at =
+    let e = run_end blank text at in
     elim (ltb at e) [ true ↦ some (alone at (e - at) Space) | false ↦ none ]
 
 -- Rule 2, "After `text` or `mbox`, blanks and then `(`, `[` or `{`": the matching closer, or 0 for any other byte
@@ -64,9 +64,9 @@ closer c =
 -- Rule 2: "those blanks are in no token; the bracket is OpenBracket; the bytes up to the first matching closer are Text,
 -- possibly of length 0; the closer is CloseBracket. With no closer, Text runs to the end." The command has n bytes, its
 -- bracket stands at b and is closed by c.
-unfoldable pub literalAt : List ℕ → ℕ → ℕ → Token → ℕ → ℕ → Read
-literalAt text at n t b c =
-    let e = runEnd (other c) text (b + 1) in
+unfoldable pub literal_at : List ℕ → ℕ → ℕ → Token → ℕ → ℕ → Read
+literal_at text at n t b c =
+    let e = run_end (other c) text (b + 1) in
     elim (ltb e (length text)) [
       | true ↦ record {
         first = lexeme at n t;
@@ -81,49 +81,49 @@ literalAt text at n t b c =
     ]
 
 -- Rule 2: "Without a bracket nothing special happens."
-unfoldable pub commandAt : List ℕ → ℕ → ℕ → Token → Read
-commandAt text at n t =
-    let b = runEnd blank text (at + n) in
+unfoldable pub command_at : List ℕ → ℕ → ℕ → Token → Read
+command_at text at n t =
+    let b = run_end blank text (at + n) in
     let c = closer (get_or text b 0) in
-    elim (eqb c 0) [ true ↦ alone at n t | false ↦ literalAt text at n t b c ]
+    elim (eqb c 0) [ true ↦ alone at n t | false ↦ literal_at text at n t b c ]
 
 -- the spelling is `text` or `mbox`
-unfoldable pub isTextCommand : List ℕ → Bool
-isTextCommand s = elim (same s (bytes "text")) [ true ↦ true | false ↦ same s (bytes "mbox") ]
+unfoldable pub is_text_command : List ℕ → Bool
+is_text_command s = elim (same s (bytes "text")) [ true ↦ true | false ↦ same s (bytes "mbox") ]
 
 -- Rule 2: "The longest spelling."
-unfoldable pub spellingAt : List ℕ → ℕ → Option Read
-spellingAt text at =
-    elim (longestAt text at) [
+unfoldable pub spelling_at : List ℕ → ℕ → Option Read
+spelling_at text at =
+    elim (longest_at text at) [
       | none ↦ none
       | some f ↦
           let n = length f.row.spelling in
-          elim (isTextCommand f.row.spelling)
-          [ true ↦ some (commandAt text at n f.row.token) | false ↦ some (alone at n f.row.token) ]
+          elim (is_text_command f.row.spelling)
+          [ true ↦ some (command_at text at n f.row.token) | false ↦ some (alone at n f.row.token) ]
     ]
 
 -- Rule 3, "Digits with at most one point": where they end
-unfoldable pub numberEnd : List ℕ → ℕ → ℕ
-numberEnd text at =
-    let p = runEnd digit text at in
-    elim (eqb (get_or text p 0) 46) [ true ↦ runEnd digit text (p + 1) | false ↦ p ]
+unfoldable pub number_end : List ℕ → ℕ → ℕ
+number_end text at =
+    let p = run_end digit text at in
+    elim (eqb (get_or text p 0) 46) [ true ↦ run_end digit text (p + 1) | false ↦ p ]
 
 -- past a point at the place
-unfoldable pub pastPoint : List ℕ → ℕ → ℕ
-pastPoint text at = elim (eqb (get_or text at 0) 46) [ true ↦ at + 1 | false ↦ at ]
+unfoldable pub past_point : List ℕ → ℕ → ℕ
+past_point text at = elim (eqb (get_or text at 0) 46) [ true ↦ at + 1 | false ↦ at ]
 
 -- Rule 3: "Number, but not a point alone."
 unfoldable pub number_at : List ℕ → ℕ → Option Read
 number_at text at =
-    elim (ltb (pastPoint text at) (numberEnd text at))
-    [ true ↦ some (alone at (numberEnd text at - at) Number) | false ↦ none ]
+    elim (ltb (past_point text at) (number_end text at))
+    [ true ↦ some (alone at (number_end text at - at) Number) | false ↦ none ]
 
 -- Rule 4: "A quote with a later quote: Text between them."
-unfoldable pub quotationAt : List ℕ → ℕ → Option Read
-quotationAt text at =
+unfoldable pub quotation_at : List ℕ → ℕ → Option Read
+quotation_at text at =
     elim (eqb (get_or text at 0) 34) [
       | true ↦
-          let e = runEnd (other 34) text (at + 1) in
+          let e = run_end (other 34) text (at + 1) in
           elim (ltb e (length text))
           [ true ↦ some (record { first = lexeme (at + 1) (e - (at + 1)) Text; waiting = []; next = e + 1 }) | false ↦ none ]
       | false ↦ none
@@ -135,37 +135,37 @@ byte_at text at = elim (letter (get_or text at 0)) [ true ↦ alone at 1 Ident |
 
 -- What is read at a place, by the first rule that applies; the fifth, which always does, is given: another one makes another
 -- tokenizer over the same four.
-unfoldable pub readAt : (List ℕ → ℕ → Read) → List ℕ → ℕ → Read
-readAt rule5 text at =
-    elim (blanksAt text at) [
+unfoldable pub read_at : (List ℕ → ℕ → Read) → List ℕ → ℕ → Read
+read_at rule5 text at =
+    elim (blanks_at text at) [
       | some r ↦ r
       | none ↦
-          elim (spellingAt text at) [
+          elim (spelling_at text at) [
             | some r ↦ r
             | none ↦
                 elim (number_at text at) [
                   | some r ↦ r
                   | none ↦
-                      elim (quotationAt text at) [ some r ↦ r | none ↦ rule5 text at ]
+                      elim (quotation_at text at) [ some r ↦ r | none ↦ rule5 text at ]
                 ]
           ]
     ]
 
 -- Request 2.1: the number of the row by which the first token at a place is read, in the same order: a read by rule 1 has none, one by
 -- rule 2 has that of the longest spelling, and where none fits, the reads by rules 3 to 5 have none.
-unfoldable pub tokenRowAt : List ℕ → ℕ → Option ℕ
-tokenRowAt text at = elim (blanksAt text at) [ some r ↦ none | none ↦ number_in (longestAt text at) ]
+unfoldable pub token_row_at : List ℕ → ℕ → Option ℕ
+token_row_at text at = elim (blanks_at text at) [ some r ↦ none | none ↦ number_in (longest_at text at) ]
 
 -- the tokens from a place on, of at most f reads
-unfoldable pub tokensFrom : (List ℕ → ℕ → Read) → ℕ → List ℕ → ℕ → List Lexeme
-tokensFrom rule5 zero text at = []
-tokensFrom rule5 (suc f) text at =
+unfoldable pub tokens_from : (List ℕ → ℕ → Read) → ℕ → List ℕ → ℕ → List Lexeme
+tokens_from rule5 zero text at = []
+tokens_from rule5 (suc f) text at =
     elim (ltb at (length text))
-    [ true ↦ let r = readAt rule5 text at in r.first ∷ (r.waiting ++ tokensFrom rule5 f text r.next) | false ↦ [] ]
+    [ true ↦ let r = read_at rule5 text at in r.first ∷ (r.waiting ++ tokens_from rule5 f text r.next) | false ↦ [] ]
 
 -- The token list of a text. Each read moves on, so as many reads as bytes are enough.
-unfoldable pub tokensBy : (List ℕ → ℕ → Read) → List ℕ → List Lexeme
-tokensBy rule5 text = tokensFrom rule5 (length text) text 0
+unfoldable pub tokens_by : (List ℕ → ℕ → Read) → List ℕ → List Lexeme
+tokens_by rule5 text = tokens_from rule5 (length text) text 0
 
 abbrev pub tokens : List ℕ → List Lexeme
-tokens text = tokensBy byte_at text
+tokens text = tokens_by byte_at text

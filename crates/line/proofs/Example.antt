@@ -8,7 +8,7 @@ use Rattle.tokens.specs.Lexeme.{Span}
 use Rattle.tree.specs.Tree.{Script, Head, Atom, Node, node, Nodes, end, ◌▸◌, leaf, one}
 use Rattle.tree.specs.Visits.{visits}
 use Rattle.writer.specs.Decimal.{digits, decimal}
-use Rattle.line.specs.Print.{names, name_of, left, right, scriptName, script, class, more, commas, fields, name, line, lines, first, printed}
+use Rattle.line.specs.Print.{names, name_of, left, right, script_name, script, class, more, commas, fields, name, line, lines, first, printed}
 
 -- these lines, each with its newline byte
 abbrev pub text : List String → List ℕ
@@ -44,5 +44,5 @@ pub matrix-example :
     "depth=3 node=simple script=none" ∷
     "depth=4 node=ident at=14 len=1" ∷ []
     )
-unfolding visits digits decimal names name_of left right scriptName script class more commas fields name line lines first printed
+unfolding visits digits decimal names name_of left right script_name script class more commas fields name line lines first printed
 matrix-example = refl

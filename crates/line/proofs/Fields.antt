@@ -7,13 +7,13 @@ use lib.ListN.{length, get_or, take, drop, get_or-eq_default}
 use lib.Seq.{take-suc, take_all, get_or-drop}
 use borrow.Author.Tests.{ne_eqb}
 use borrow.Author.Count.{below_more}
-use Rattle.tokens.proofs.Cases.{by-lt}
+use Rattle.tokens.proofs.Cases.{by_lt}
 use Rattle.tokens.specs.Bytes.{bytes}
 use Rattle.tree.specs.declared.walk.Opened.{Opened}
 use Rattle.tree.specs.Walk.{lines_of}
 use Rattle.writer.specs.Decimal.{decimal}
 use Rattle.line.specs.Print.{names, name_of, number, field, commas, more, newline}
-use Rattle.line.specs.Lines.{start_of, left_of, scriptOf, group_of, matrixOf, word_of, addedBy, addedOf, line_of}
+use Rattle.line.specs.Lines.{start_of, left_of, script_of, group_of, matrix_of, word_of, added_by, added_of, line_of}
 
 -- the table of names, eight bytes each, and their lengths
 abbrev pub table : List ℕ
@@ -96,64 +96,64 @@ module _ (kind start len : ℕ) where
   left_both a b c d = rw (ne_eqb kind 0 a, ne_eqb kind 13 b, ne_eqb kind 17 c, ne_eqb kind 18 d)
 
 module _ (script : ℕ) where
-  pub script-none : script ≡ 0 → field "script" (bytes "none") ≡ scriptOf script
-  unfolding scriptOf
+  pub script-none : script ≡ 0 → field "script" (bytes "none") ≡ script_of script
+  unfolding script_of
   script-none e = rw e
 
-  pub script-sub : script ≡ 1 → field "script" (bytes "sub") ≡ scriptOf script
-  unfolding scriptOf
+  pub script-sub : script ≡ 1 → field "script" (bytes "sub") ≡ script_of script
+  unfolding script_of
   script-sub e = rw e
 
-  pub script-super : script ≡ 2 → field "script" (bytes "super") ≡ scriptOf script
-  unfolding scriptOf
+  pub script-super : script ≡ 2 → field "script" (bytes "super") ≡ script_of script
+  unfolding script_of
   script-super e = rw e
 
-  pub script-both : (script ≡ 0 → ⊥) → (script ≡ 1 → ⊥) → (script ≡ 2 → ⊥) → field "script" (bytes "subsuper") ≡ scriptOf script
-  unfolding scriptOf
+  pub script-both : (script ≡ 0 → ⊥) → (script ≡ 1 → ⊥) → (script ≡ 2 → ⊥) → field "script" (bytes "subsuper") ≡ script_of script
+  unfolding script_of
   script-both a b c = rw (ne_eqb script 0 a, ne_eqb script 1 b, ne_eqb script 2 c)
 
 -- what a kind adds
 module _ (kind held start len cols count : ℕ) (lines : List ℕ) where
-  pub added-class : {x : ℕ} → kind ≡ 7 → x ≡ held → number "class" x ≡ addedBy kind held start len cols count lines
-  unfolding addedBy
+  pub added-class : {x : ℕ} → kind ≡ 7 → x ≡ held → number "class" x ≡ added_by kind held start len cols count lines
+  unfolding added_by
   added-class e x = rw (e, x)
 
-  pub added-script : {x : ℕ} → 13 ≤ kind → kind < 15 → x ≡ held → scriptOf x ≡ addedBy kind held start len cols count lines
-  unfolding addedBy
+  pub added-script : {x : ℕ} → 13 ≤ kind → kind < 15 → x ≡ held → script_of x ≡ added_by kind held start len cols count lines
+  unfolding added_by
   added-script h k x =
-      by-lt kind 14
+      by_lt kind 14
       (λ l. let e : kind ≡ 13 = omega arith in rw (e, x))
       (λ l. let e : kind ≡ 14 = omega arith in rw (e, x))
 
-  pub added-group : kind ≡ 15 → group_of start len count ≡ addedBy kind held start len cols count lines
-  unfolding addedBy
+  pub added-group : kind ≡ 15 → group_of start len count ≡ added_by kind held start len cols count lines
+  unfolding added_by
   added-group e = rw e
 
-  pub added-matrix : kind ≡ 16 → matrixOf start len cols count lines ≡ addedBy kind held start len cols count lines
-  unfolding addedBy
+  pub added-matrix : kind ≡ 16 → matrix_of start len cols count lines ≡ added_by kind held start len cols count lines
+  unfolding added_by
   added-matrix e = rw e
 
-  pub added-cell : kind ≡ 17 → number "items" count ≡ addedBy kind held start len cols count lines
-  unfolding addedBy
+  pub added-cell : kind ≡ 17 → number "items" count ≡ added_by kind held start len cols count lines
+  unfolding added_by
   added-cell e = rw e
 
-  added_none : (kind ≡ 7 → ⊥) → (kind ≡ 13 → ⊥) → (kind ≡ 14 → ⊥) → (kind ≡ 15 → ⊥) → (kind ≡ 16 → ⊥) → (kind ≡ 17 → ⊥) → [] ≡ addedBy kind held start len cols count lines
-  unfolding addedBy
+  added_none : (kind ≡ 7 → ⊥) → (kind ≡ 13 → ⊥) → (kind ≡ 14 → ⊥) → (kind ≡ 15 → ⊥) → (kind ≡ 16 → ⊥) → (kind ≡ 17 → ⊥) → [] ≡ added_by kind held start len cols count lines
+  unfolding added_by
   added_none a b c d f g = rw (ne_eqb kind 7 a, ne_eqb kind 13 b, ne_eqb kind 14 c, ne_eqb kind 15 d, ne_eqb kind 16 f, ne_eqb kind 17 g)
 
-  pub added-below : (kind ≡ 7 → ⊥) → kind < 13 → [] ≡ addedBy kind held start len cols count lines
+  pub added-below : (kind ≡ 7 → ⊥) → kind < 13 → [] ≡ added_by kind held start len cols count lines
   added-below a h = added_none a (λ e. omega arith) (λ e. omega arith) (λ e. omega arith) (λ e. omega arith) (λ e. omega arith)
 
-  pub added-above : (kind ≡ 15 → ⊥) → (kind ≡ 16 → ⊥) → (kind ≡ 17 → ⊥) → 15 ≤ kind → [] ≡ addedBy kind held start len cols count lines
+  pub added-above : (kind ≡ 15 → ⊥) → (kind ≡ 16 → ⊥) → (kind ≡ 17 → ⊥) → 15 ≤ kind → [] ≡ added_by kind held start len cols count lines
   added-above d f g h = added_none (λ e. omega arith) (λ e. omega arith) (λ e. omega arith) d f g
 
 -- a line by the words from the node's own on
 pub line-own : (words own : List ℕ) (o : Opened) (depth : ℕ) → own ≡ drop o.head words →
     start_of depth o.kind ++
     (left_of o.kind (get_or own 1 0) (get_or own 2 0) ++
-    (addedBy o.kind (get_or own 3 0) (get_or own 4 0) (get_or own 5 0) (get_or own 6 0) o.count (lines_of words o) ++ newline))
+    (added_by o.kind (get_or own 3 0) (get_or own 4 0) (get_or own 5 0) (get_or own 6 0) o.count (lines_of words o) ++ newline))
     ≡ line_of words o depth
-unfolding line_of addedOf
+unfolding line_of added_of
 line-own words own o depth e =
     let word : (i : ℕ) → get_or own i 0 ≡ word_of words o i = λ i. ap (λ (x : List ℕ). get_or x i 0) e ∙ get_or-drop o.head words i 0 in
     cc (word 1, word 2, word 3, word 4, word 5, word 6)

@@ -2,10 +2,10 @@
 use Rattle.std.specs.Prelude.{ℕ, List, [], ◌∷◌, ◌++◌, get_or}
 use Prim.Native.String.{String}
 use Rattle.tokens.specs.Bytes.{bytes}
-use Rattle.tokens.specs.Kinds.{classNumber}
+use Rattle.tokens.specs.Kinds.{class_number}
 use Rattle.tokens.specs.Lexeme.{Span}
 use Rattle.tree.specs.Tree.{Script, Head, Atom, Nodes, count}
-use Rattle.tree.specs.Words.{headWords}
+use Rattle.tree.specs.Words.{head_words}
 use Rattle.tree.specs.Visits.{Visit, visits}
 use Rattle.writer.specs.Decimal.{decimal}
 
@@ -35,14 +35,14 @@ unfoldable pub right : Span → List ℕ
 right sp = number "rat" sp.start ++ number "rlen" sp.len
 
 -- "Script is none, sub, super or subsuper"
-unfoldable pub scriptName : Script → List ℕ
-scriptName Script.none = bytes "none"
-scriptName Script.sub = bytes "sub"
-scriptName Script.super = bytes "super"
-scriptName Script.subsuper = bytes "subsuper"
+unfoldable pub script_name : Script → List ℕ
+script_name Script.none = bytes "none"
+script_name Script.sub = bytes "sub"
+script_name Script.super = bytes "super"
+script_name Script.subsuper = bytes "subsuper"
 
 unfoldable pub script : Script → List ℕ
-script sc = field "script" (scriptName sc)
+script sc = field "script" (script_name sc)
 
 -- "symbol adds class=0 to 7"
 unfoldable pub class : Atom → List ℕ
@@ -52,7 +52,7 @@ class Atom.ident = []
 class Atom.operator = []
 class Atom.sign = []
 class Atom.space = []
-class (Atom.symbol c) = number "class" (classNumber c)
+class (Atom.symbol c) = number "class" (class_number c)
 
 -- "lines (commas, or none)"
 unfoldable pub more : List ℕ → List ℕ
@@ -78,7 +78,7 @@ fields (Head.matrix a b cols lines) k =
 
 -- the name of a node, by its kind
 unfoldable pub name : Head → List ℕ
-name h = name_of (get_or (headWords h 0 0) 0 0)
+name h = name_of (get_or (head_words h 0 0) 0 0)
 
 -- "Every line ends in a newline byte."
 abbrev pub newline : List ℕ

@@ -3,7 +3,7 @@ ghost use Rattle.std.specs.Prelude.{get_or};
 ghost use Rattle.tree.specs.Walk.{lines_of};
 ghost use Rattle.writer.specs.Put.{Put};
 ghost use Rattle.line.specs.Print.{name_of, field, number, commas};
-ghost use Rattle.line.specs.Lines.{scriptOf, left_of, rightOf, group_of, matrixOf, addedBy, start_of, line_of};
+ghost use Rattle.line.specs.Lines.{script_of, left_of, right_of, group_of, matrix_of, added_by, start_of, line_of};
 
 use tree::kinds::{
     NODE_CELL, NODE_FRAC, NODE_FUNC, NODE_GROUP, NODE_MATRIX, NODE_MISSING, NODE_SIMPLE,
@@ -32,7 +32,7 @@ fn put_name(out: &mut [u8], at: usize, kind: u32) -> usize
 }
 
 fn put_script(out: &mut [u8], at: usize, script: u32) -> usize
-    ensures { Put out.old at out.new result (scriptOf script) }
+    ensures { Put out.old at out.new result (script_of script) }
 {
     match script {
         0 => put_bytes(out, at, b" script=none"),
@@ -62,7 +62,7 @@ fn put_left(own: &[u32], out: &mut [u8], at: usize, kind: u32) -> usize
 
 // rat and rlen.
 fn put_right(own: &[u32], out: &mut [u8], at: usize) -> usize
-    ensures { Put out.old at out.new result (rightOf (get_or own.now 4 0) (get_or own.now 5 0)) }
+    ensures { Put out.old at out.new result (right_of (get_or own.now 4 0) (get_or own.now 5 0)) }
 {
     let start = word(own, 4) as u64;
     let len = word(own, 5) as u64;
@@ -100,7 +100,7 @@ fn put_group(own: &[u32], out: &mut [u8], at: usize, count: usize) -> usize
 }
 
 fn put_matrix(words: &[u32], own: &[u32], out: &mut [u8], at: usize, o: Opened) -> usize
-    ensures { Put out.old at out.new result (matrixOf (get_or own.now 4 0) (get_or own.now 5 0) (get_or own.now 6 0) o.count (lines_of words.now o)) }
+    ensures { Put out.old at out.new result (matrix_of (get_or own.now 4 0) (get_or own.now 5 0) (get_or own.now 6 0) o.count (lines_of words.now o)) }
 {
     let a = put_right(own, out, at);
     let b = put_number(out, a, b" cols=", word(own, 6) as u64);
@@ -111,7 +111,7 @@ fn put_matrix(words: &[u32], own: &[u32], out: &mut [u8], at: usize, o: Opened) 
 // What the kind adds.
 fn put_added(words: &[u32], own: &[u32], out: &mut [u8], at: usize, o: Opened) -> usize
     ensures { Put out.old at out.new result
-        (addedBy o.kind (get_or own.now 3 0) (get_or own.now 4 0) (get_or own.now 5 0) (get_or own.now 6 0) o.count (lines_of words.now o)) }
+        (added_by o.kind (get_or own.now 3 0) (get_or own.now 4 0) (get_or own.now 5 0) (get_or own.now 6 0) o.count (lines_of words.now o)) }
 {
     let kind = o.kind;
     let x = word(own, 3);

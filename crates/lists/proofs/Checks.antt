@@ -4,7 +4,7 @@ use mathlib.Core.List.{List}
 use mathlib.Core.Option.{Option, none, some}
 use Prim.Native.Nat.{ℕ}
 use Rattle.tokens.specs.Lexeme.{Lexeme}
-use Rattle.tokens.specs.Table.{countOthers}
+use Rattle.tokens.specs.Table.{count_others}
 use Rattle.lists.specs.declared.Checked.TheVariants.{Accepted, Refused}
 use Rattle.lists.specs.Checks.{answer}
 
@@ -13,6 +13,6 @@ module _ {o : Option ℕ} (ts : List Lexeme) where
   unfolding answer
   answer-refused e = rw e
 
-  pub answer-accepted : {n : ℕ} → o ≡ none → countOthers ts ≡ n → Accepted n ≡ answer o ts
+  pub answer-accepted : {n : ℕ} → o ≡ none → count_others ts ≡ n → Accepted n ≡ answer o ts
   unfolding answer
   answer-accepted e f = rw (e, answer, f)

@@ -1,7 +1,7 @@
 // Refusals 1 to 6: whether a token list that a caller made is turned back.
 ghost use Rattle.std.specs.Prelude.{◌≡◌, false, ◌+◌, ◌*◌, ◌≤◌, length};
-ghost use Rattle.tokens.specs.Refusals.{tokensRefusal};
-ghost use Rattle.tokens.specs.Table.{tokenList};
+ghost use Rattle.tokens.specs.Refusals.{tokens_refusal};
+ghost use Rattle.tokens.specs.Table.{token_list};
 ghost use Rattle.lists.specs.Checks.{answer, checked};
 
 use refusals::text;
@@ -27,7 +27,7 @@ fn end_of(start: u32, len: u32) -> usize
 fn check_tokens(size: usize, table: &[u32], count: usize) -> Checked
     requires count_bound { count ≤ 4096 }
     requires count_in_bounds { 3 * count ≤ length table.now }
-    ensures { result ≡ answer (tokensRefusal size false count table.now) (tokenList count table.now) }
+    ensures { result ≡ answer (tokens_refusal size false count table.now) (token_list count table.now) }
 {
     let mut others = 0;
     let mut after = false;

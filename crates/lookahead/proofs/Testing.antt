@@ -3,11 +3,11 @@ use Rattle.std.proofs.Common.{◌≡◌, ℕ, ◌<◌, ◌≤◌, Bool, true, fa
 use mathlib.Core.Bool.{and-false, and-true}
 use Rattle.records.specs.Record.{kind_of}
 use Rattle.lookahead.specs.declared.tests.Look.TheVariants.{Plain, Over, Other}
-use Rattle.lookahead.specs.Tests.{nextKind, testAt, headsKind, marksKind, beginsKind, leafOnly, plainAt, overAt, lookAt}
+use Rattle.lookahead.specs.Tests.{next_kind, test_at, heads_kind, marks_kind, begins_kind, leaf_only, plain_at, over_at, look_at}
 
 -- A test that holds says that the entry is there.
-pub test_below : (t K : List ℕ) (n : ℕ) (f : ℕ → Bool) (i : ℕ) → testAt t K n f i ≡ true → i < n
-unfolding testAt
+pub test_below : (t K : List ℕ) (n : ℕ) (f : ℕ → Bool) (i : ℕ) → test_at t K n f i ≡ true → i < n
+unfolding test_at
 test_below t K n f i h = go (ltb i n) refl h
   where
     go : (b : Bool) → ltb i n ≡ b → cond b (f (kind_of t K i)) false ≡ true → i < n
@@ -15,8 +15,8 @@ test_below t K n f i h = go (ltb i n) refl h
     go false e k = let z : ◌≡◌ {A = ℕ} 0 1 = cc in absurd (omega arith)
 
 -- A test that a Space fails, of the next kind.
-pub test-next : (t K : List ℕ) (n : ℕ) (f : ℕ → Bool) (i : ℕ) {k : ℕ} → f 23 ≡ false → k ≡ nextKind t K n i → f k ≡ testAt t K n f i
-unfolding testAt nextKind
+pub test-next : (t K : List ℕ) (n : ℕ) (f : ℕ → Bool) (i : ℕ) {k : ℕ} → f 23 ≡ false → k ≡ next_kind t K n i → f k ≡ test_at t K n f i
+unfolding test_at next_kind
 test-next t K n f i {k} h e = ap f e ∙ go (ltb i n)
   where
     go : (b : Bool) → f (cond b (kind_of t K i) 23) ≡ cond b (f (kind_of t K i)) false
@@ -29,70 +29,70 @@ either false b = and-false b
 
 -- A head is a sign where one prefixes, or a function.
 module _ (sg : Bool) where
-  pub no-head : headsKind sg 23 ≡ false
-  no-head = and-false sg
+  pub no_head : heads_kind sg 23 ≡ false
+  no_head = and-false sg
 
   module _ (k : ℕ) where
-    pub by_sign : k ≡ 16 → sg ≡ headsKind sg k
+    pub by_sign : k ≡ 16 → sg ≡ heads_kind sg k
     by_sign h = rw h (sym (and-true sg))
 
-    pub by-function : (k ≡ 16 → ⊥) → eqb k 17 ≡ headsKind sg k
-    by-function h = rw (ne_eqb k 16 h) (sym (either (eqb k 17) sg))
+    pub by_function : (k ≡ 16 → ⊥) → eqb k 17 ≡ heads_kind sg k
+    by_function h = rw (ne_eqb k 16 h) (sym (either (eqb k 17) sg))
 
 -- A script's mark is Super or Sub.
 module _ (k : ℕ) where
-  pub by-super : k ≡ 1 → eqb k 1 ≡ marksKind k
-  by-super h = rw h
+  pub by_super : k ≡ 1 → eqb k 1 ≡ marks_kind k
+  by_super h = rw h
 
-  pub by-sub : (k ≡ 1 → ⊥) → eqb k 2 ≡ marksKind k
-  by-sub h = rw (ne_eqb k 1 h)
+  pub by_sub : (k ≡ 1 → ⊥) → eqb k 2 ≡ marks_kind k
+  by_sub h = rw (ne_eqb k 1 h)
 
 -- An item begins but at a closing bracket, at a Sep where it stops, and where there is no entry.
 module _ (stop : Bool) (k : ℕ) where
-  pub at-closing : k ≡ 21 → false ≡ beginsKind stop k
-  at-closing h = rw h
+  pub at_closing : k ≡ 21 → false ≡ begins_kind stop k
+  at_closing h = rw h
 
-  pub at-sep : k ≡ 3 → not stop ≡ beginsKind stop k
-  at-sep h = rw h (ap not (sym (and-true stop)))
+  pub at_sep : k ≡ 3 → not stop ≡ begins_kind stop k
+  at_sep h = rw h (ap not (sym (and-true stop)))
 
-  pub at_other : (k ≡ 21 → ⊥) → (k ≡ 3 → ⊥) → not (eqb k 23) ≡ beginsKind stop k
+  pub at_other : (k ≡ 21 → ⊥) → (k ≡ 3 → ⊥) → not (eqb k 23) ≡ begins_kind stop k
   at_other h l = rw (ne_eqb k 21 h, ne_eqb k 3 l) (ap not (sym (either (eqb k 23) stop)))
 
 -- where a leaf stands, an item begins
-leaf-kind : (k : ℕ) (stop : Bool) → leafOnly k ≡ true → beginsKind stop k ≡ true
+leaf-kind : (k : ℕ) (stop : Bool) → leaf_only k ≡ true → begins_kind stop k ≡ true
 leaf-kind k stop h = go (ltb k 4) refl h
   where
-    go : (b : Bool) → ltb k 4 ≡ b → cond b false (ltb k 16) ≡ true → beginsKind stop k ≡ true
+    go : (b : Bool) → ltb k 4 ≡ b → cond b false (ltb k 16) ≡ true → begins_kind stop k ≡ true
     go true e h = let z : ◌≡◌ {A = ℕ} 0 1 = cc in absurd (omega arith)
     go false e h =
         let low : 4 ≤ k = ltb-false k 4 e in
         let high : k < 16 = ltb-true k 16 h in
         rw (ne_eqb k 21 (λ z. omega arith), ne_eqb k 23 (λ z. omega arith), ne_eqb k 3 (λ z. omega arith), and-false stop)
 
-pub leaf-begins : (t K : List ℕ) (n : ℕ) (stop : Bool) (i : ℕ) → testAt t K n leafOnly i ≡ true → testAt t K n (beginsKind stop) i ≡ true
-unfolding testAt
+pub leaf-begins : (t K : List ℕ) (n : ℕ) (stop : Bool) (i : ℕ) → test_at t K n leaf_only i ≡ true → test_at t K n (begins_kind stop) i ≡ true
+unfolding test_at
 leaf-begins t K n stop i h = go (ltb i n) refl h
   where
-    go : (b : Bool) → ltb i n ≡ b → cond b (leafOnly (kind_of t K i)) false ≡ true → cond (ltb i n) (beginsKind stop (kind_of t K i)) false ≡ true
+    go : (b : Bool) → ltb i n ≡ b → cond b (leaf_only (kind_of t K i)) false ≡ true → cond (ltb i n) (begins_kind stop (kind_of t K i)) false ≡ true
     go true e h = rw e (leaf-kind (kind_of t K i) stop h)
     go false e h = let z : ◌≡◌ {A = ℕ} 0 1 = cc in absurd (omega arith)
 
 -- what a first look has found
 module _ (t K : List ℕ) (n d : ℕ) (stop : Bool) (i : ℕ) where
-  pub look-plain : lookAt t K n d stop i ≡ Plain → plainAt t K n d i ≡ true
-  unfolding lookAt
-  look-plain h = go (plainAt t K n d i) refl (overAt t K n d stop i) h
+  pub look-plain : look_at t K n d stop i ≡ Plain → plain_at t K n d i ≡ true
+  unfolding look_at
+  look-plain h = go (plain_at t K n d i) refl (over_at t K n d stop i) h
     where
-      go : (a : Bool) → plainAt t K n d i ≡ a → (b : Bool) → cond a Plain (cond b Over Other) ≡ Plain → plainAt t K n d i ≡ true
+      go : (a : Bool) → plain_at t K n d i ≡ a → (b : Bool) → cond a Plain (cond b Over Other) ≡ Plain → plain_at t K n d i ≡ true
       go true e b h = e
       go false e true h = let z : ◌≡◌ {A = ℕ} 0 1 = cc in absurd (omega arith)
       go false e false h = let z : ◌≡◌ {A = ℕ} 0 1 = cc in absurd (omega arith)
 
-  pub look-over : lookAt t K n d stop i ≡ Over → overAt t K n d stop i ≡ true
-  unfolding lookAt
-  look-over h = go (plainAt t K n d i) (overAt t K n d stop i) refl h
+  pub look-over : look_at t K n d stop i ≡ Over → over_at t K n d stop i ≡ true
+  unfolding look_at
+  look-over h = go (plain_at t K n d i) (over_at t K n d stop i) refl h
     where
-      go : (a b : Bool) → overAt t K n d stop i ≡ b → cond a Plain (cond b Over Other) ≡ Over → overAt t K n d stop i ≡ true
+      go : (a b : Bool) → over_at t K n d stop i ≡ b → cond a Plain (cond b Over Other) ≡ Over → over_at t K n d stop i ≡ true
       go true b e h = let z : ◌≡◌ {A = ℕ} 0 1 = cc in absurd (omega arith)
       go false true e h = e
       go false false e h = let z : ◌≡◌ {A = ℕ} 0 1 = cc in absurd (omega arith)

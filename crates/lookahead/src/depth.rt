@@ -1,6 +1,6 @@
 // How deep the readers may call one another.
 ghost use Rattle.std.specs.Prelude.{◌≡◌};
-ghost use Rattle.lookahead.specs.Depth.{tooDeep};
+ghost use Rattle.lookahead.specs.Depth.{too_deep};
 
 const MAX_DEPTH: u16 = 256;
 
@@ -9,7 +9,7 @@ pub(crate) const MAX_ITEM_DEPTH: usize = MAX_DEPTH as usize - 1;
 
 // A reader of this depth finds nothing.
 pub fn too_deep(depth: u16) -> bool
-    ensures { result ≡ tooDeep depth }
+    ensures { result ≡ too_deep depth }
 {
     depth >= MAX_DEPTH
 }

@@ -1,6 +1,6 @@
 // Tests of an entry by its kind. n is the number of entries.
 ghost use Rattle.std.specs.Prelude.{◌≡◌, ◌+◌, false, not, if◌then◌else◌};
-ghost use Rattle.lookahead.specs.Tests.{nextKind, testAt, isKind, headsKind, marksKind, beginsKind, leafOnly, joinsKind, plainAt, overAt, lookAt, opening, prefixStop, takesOne};
+ghost use Rattle.lookahead.specs.Tests.{next_kind, test_at, is_kind, heads_kind, marks_kind, begins_kind, leaf_only, joins_kind, plain_at, over_at, look_at, opening, prefix_stop, takes_one};
 
 use crate::depth::MAX_ITEM_DEPTH;
 use records::record::kind_at;
@@ -11,7 +11,7 @@ use tokens::kinds::{
 
 // The entry at i is there and of kind k.
 pub fn is_at(tok: &[u32], work: &[u32], n: usize, i: usize, k: u32) -> bool
-    ensures { result ≡ testAt tok.now work.now n (isKind k) i }
+    ensures { result ≡ test_at tok.now work.now n (is_kind k) i }
 {
     if i >= n {
         return false;
@@ -21,7 +21,7 @@ pub fn is_at(tok: &[u32], work: &[u32], n: usize, i: usize, k: u32) -> bool
 
 // The kind of the entry at i, or that of a Space if none is there.
 fn next_kind(tok: &[u32], work: &[u32], n: usize, i: usize) -> u32
-    ensures { result ≡ nextKind tok.now work.now n i }
+    ensures { result ≡ next_kind tok.now work.now n i }
 {
     if i >= n {
         return SPACE;
@@ -31,7 +31,7 @@ fn next_kind(tok: &[u32], work: &[u32], n: usize, i: usize) -> u32
 
 // The entry at i heads a scripted part.
 pub fn heads_at(tok: &[u32], work: &[u32], n: usize, i: usize, sign: bool) -> bool
-    ensures { result ≡ testAt tok.now work.now n (headsKind sign) i }
+    ensures { result ≡ test_at tok.now work.now n (heads_kind sign) i }
 {
     let k = next_kind(tok, work, n, i);
     if k == SIGN {
@@ -42,14 +42,14 @@ pub fn heads_at(tok: &[u32], work: &[u32], n: usize, i: usize, sign: bool) -> bo
 
 // The entry at i marks a script.
 pub fn marks_at(tok: &[u32], work: &[u32], n: usize, i: usize) -> bool
-    ensures { result ≡ testAt tok.now work.now n marksKind i }
+    ensures { result ≡ test_at tok.now work.now n marks_kind i }
 {
     let k = next_kind(tok, work, n, i);
     k == SUPER || k == SUB
 }
 
 fn begins(k: u32, stop: bool) -> bool
-    ensures { result ≡ beginsKind stop k }
+    ensures { result ≡ begins_kind stop k }
 {
     if k == CLOSE_BRACKET {
         return false;
@@ -62,13 +62,13 @@ fn begins(k: u32, stop: bool) -> bool
 
 // The entry at i begins a simple expression.
 pub fn begins_at(tok: &[u32], work: &[u32], n: usize, i: usize, stop: bool) -> bool
-    ensures { result ≡ testAt tok.now work.now n (beginsKind stop) i }
+    ensures { result ≡ test_at tok.now work.now n (begins_kind stop) i }
 {
     begins(next_kind(tok, work, n, i), stop)
 }
 
 fn is_leaf(k: u32) -> bool
-    ensures { result ≡ leafOnly k }
+    ensures { result ≡ leaf_only k }
 {
     if k < NUMBER {
         return false;
@@ -78,7 +78,7 @@ fn is_leaf(k: u32) -> bool
 
 // The entry at i is a leaf by its kind, and what follows does not join it.
 fn stands_alone(tok: &[u32], work: &[u32], n: usize, i: usize) -> bool
-    ensures { result ≡ (if testAt tok.now work.now n leafOnly i then not (testAt tok.now work.now n joinsKind (i + 1)) else false) }
+    ensures { result ≡ (if test_at tok.now work.now n leaf_only i then not (test_at tok.now work.now n joins_kind (i + 1)) else false) }
 {
     if is_leaf(next_kind(tok, work, n, i)) {
         return !(next_kind(tok, work, n, i + 1) < SEP);
@@ -88,7 +88,7 @@ fn stands_alone(tok: &[u32], work: &[u32], n: usize, i: usize) -> bool
 
 // The entry at i is an item by itself, read at this depth.
 pub fn is_plain(tok: &[u32], work: &[u32], n: usize, depth: usize, i: usize) -> bool
-    ensures { result ≡ plainAt tok.now work.now n depth i }
+    ensures { result ≡ plain_at tok.now work.now n depth i }
 {
     if depth >= MAX_ITEM_DEPTH {
         return false;
@@ -98,7 +98,7 @@ pub fn is_plain(tok: &[u32], work: &[u32], n: usize, depth: usize, i: usize) -> 
 
 // No item begins at i, read at this depth.
 pub fn is_over(tok: &[u32], work: &[u32], n: usize, depth: usize, stop: bool, i: usize) -> bool
-    ensures { result ≡ overAt tok.now work.now n depth stop i }
+    ensures { result ≡ over_at tok.now work.now n depth stop i }
 {
     if depth >= MAX_ITEM_DEPTH {
         return false;
@@ -116,7 +116,7 @@ pub enum Look {
 
 // The same as `is_plain` and `is_over`, by one look at the entry's kind.
 pub fn first_look(tok: &[u32], work: &[u32], n: usize, depth: usize, stop: bool, i: usize) -> Look
-    ensures { result ≡ lookAt tok.now work.now n depth stop i }
+    ensures { result ≡ look_at tok.now work.now n depth stop i }
 {
     if depth >= MAX_ITEM_DEPTH {
         return Look::Other;
@@ -147,14 +147,14 @@ pub fn opens(k: u32) -> bool
 
 // Whether the one argument of a token of kind k ends at a separator: a sign's does where the sign's own reader does.
 pub fn prefix_stop(k: u32, stop: bool) -> bool
-    ensures { result ≡ prefixStop k stop }
+    ensures { result ≡ prefix_stop k stop }
 {
     if k == SIGN { stop } else { false }
 }
 
 // A token of kind k takes one argument. `sign`: a sign here prefixes.
 pub fn takes_one(k: u32, sign: bool) -> bool
-    ensures { result ≡ takesOne k sign }
+    ensures { result ≡ takes_one k sign }
 {
     if k == UNARY {
         return true;

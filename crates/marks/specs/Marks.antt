@@ -2,12 +2,12 @@
 -- separate for the stops "none" and Sep."
 use Rattle.std.specs.Prelude.{ℕ, ◌+◌, ◌/◌, ◌%◌, ◌^◌, Bool, cond, ◌==◌}
 
-unfoldable pub isMarked : ℕ → ℕ → Bool
-isMarked w m = w / m % 2 == 1
+unfoldable pub is_marked : ℕ → ℕ → Bool
+is_marked w m = w / m % 2 == 1
 
 -- the sum is taken in 32 bits
-unfoldable pub withMark : ℕ → ℕ → ℕ
-withMark w m = cond (isMarked w m) w ((w + m) % 2 ^ 32)
+unfoldable pub with_mark : ℕ → ℕ → ℕ
+with_mark w m = cond (is_marked w m) w ((w + m) % 2 ^ 32)
 
-abbrev pub openMark : Bool → ℕ
-openMark stop = cond stop 2 1
+abbrev pub open_mark : Bool → ℕ
+open_mark stop = cond stop 2 1

@@ -1,14 +1,14 @@
 // The marks of an entry: what was tried there and failed.
 ghost use Rattle.std.specs.Prelude.{◌≡◌};
-ghost use Rattle.records.specs.Record.{marksOf, withMarks};
-ghost use Rattle.marks.specs.Marks.{isMarked, withMark, openMark};
+ghost use Rattle.records.specs.Record.{marks_of, with_marks};
+ghost use Rattle.marks.specs.Marks.{is_marked, with_mark, open_mark};
 
 use fields::marks_of;
 use stores::set_marks;
 
 // The mark of this number (1, 2 or 4) among an entry's marks, which are one number.
 fn is_marked(marks: u32, mark: u32) -> bool
-    ensures { result ≡ isMarked marks mark }
+    ensures { result ≡ is_marked marks mark }
 {
     if mark == 0 {
         false
@@ -18,7 +18,7 @@ fn is_marked(marks: u32, mark: u32) -> bool
 }
 
 fn with_mark(marks: u32, mark: u32) -> u32
-    ensures { result ≡ withMark marks mark }
+    ensures { result ≡ with_mark marks mark }
 {
     if is_marked(marks, mark) {
         marks
@@ -28,13 +28,13 @@ fn with_mark(marks: u32, mark: u32) -> u32
 }
 
 pub fn failed_at(work: &[u32], i: usize, mark: u32) -> bool
-    ensures { result ≡ isMarked (marksOf work.now i) mark }
+    ensures { result ≡ is_marked (marks_of work.now i) mark }
 {
     is_marked(marks_of(work, i), mark)
 }
 
 pub fn mark_failed(work: &mut [u32], i: usize, mark: u32)
-    ensures { work.new ≡ withMarks work.old i (withMark (marksOf work.old i) mark) }
+    ensures { work.new ≡ with_marks work.old i (with_mark (marks_of work.old i) mark) }
 {
     let marks = with_mark(marks_of(work, i), mark);
     set_marks(work, i, marks);
@@ -45,7 +45,7 @@ pub const MATRIX_MARK: u32 = 4;
 
 // The number of the open mark for a stop.
 pub fn open_mark(stop: bool) -> u32
-    ensures { result ≡ openMark stop }
+    ensures { result ≡ open_mark stop }
 {
     if stop { 2 } else { 1 }
 }

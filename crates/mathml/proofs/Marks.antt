@@ -7,10 +7,10 @@ use native.Mathlib.Omega.{arith}
 use lib.ListN.{length}
 use Rattle.tokens.specs.Refusals.{accepted, refused}
 use Rattle.writer.specs.Put.{most}
-use Rattle.writer.specs.Fitted.{fittedBy}
+use Rattle.writer.specs.Fitted.{fitted_by}
 use Rattle.writer.proofs.Fits.{put_whole, put-short}
 use Rattle.tree.specs.Tree.{Nodes}
-use Rattle.mathml_rules.specs.Mathml.{mathmlOf}
+use Rattle.mathml_rules.specs.Mathml.{mathml_of}
 use Rattle.mathml_rules.specs.Refusal.{refusal11}
 use Rattle.mathml_length.specs.Length.{longest}
 use Rattle.mathml.specs.declared.pass.Passed.{Passed}
@@ -22,7 +22,7 @@ module _ (text : List ℕ) (l : Nodes) (out : List ℕ) where
   unfolding marks
   marks-refused e = rw (e, marks)
 
-  pub marks-fitted : refusal11 text l ≡ false → marks text l out ≡ fittedBy 12 (mathmlOf text l) out
+  pub marks-fitted : refusal11 text l ≡ false → marks text l out ≡ fitted_by 12 (mathml_of text l) out
   unfolding marks
   marks-fitted e = rw (e, marks)
 

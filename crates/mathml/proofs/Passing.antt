@@ -9,13 +9,13 @@ use Rattle.tree.specs.declared.walk.Opened.{Opened}
 use Rattle.tree.specs.declared.walk.Step.TheVariants.{Node, End}
 use Rattle.tree.specs.Tree as T
 use Rattle.tree.specs.Tree.{node, Nodes, end, ◌▸◌, count}
-use Rattle.tree.specs.Words.{tailWords, ofItems, encode}
-use Rattle.tree.specs.Walk.{rowWords, nodeWords, placed_at, past_of, stepAt, headAt}
+use Rattle.tree.specs.Words.{tail_words, of_items, encode}
+use Rattle.tree.specs.Walk.{row_words, node_words, placed_at, past_of, step_at, head_at}
 use Rattle.tree.specs.Laid.{Laid, Laids}
 use Rattle.tree.proofs.Steps.{step-within}
 use Rattle.tree.proofs.Opens.{Opens, opens}
-use Rattle.tree.proofs.Heads.{head_at}
-use Rattle.mathml_rules.specs.Refusal.{refusedHead, refusedNode, refusal11}
+use Rattle.tree.proofs.Heads.{head_at_lem}
+use Rattle.mathml_rules.specs.Refusal.{refused_head, refused_node, refusal11}
 use Rattle.mathml.specs.declared.place.Place.{Place}
 use Rattle.mathml.specs.declared.pass.Passed.{Passed}
 use Rattle.mathml.specs.Walks.{RowPassed, NodeEnds, InnerPlace}
@@ -25,15 +25,15 @@ use Rattle.mathml.proofs.Rows.{row-none, none_left, first, there, behind, sizes,
 pub record Ahead (words text : List ℕ) (from : ℕ) (items : Bool) (l : Nodes) (rest : List ℕ) (at left : ℕ) (seen : Bool) : Type 0 where
   pub nodes : Nodes
   pub laid : Laids nodes
-  pub here : drop at words ≡ rowWords items nodes ++ rest
+  pub here : drop at words ≡ row_words items nodes ++ rest
   pub many : left ≡ count nodes
-  pub size : at + length (rowWords items nodes) ≡ from + length (rowWords items l)
+  pub size : at + length (row_words items nodes) ≡ from + length (row_words items l)
   pub goes : (seen || refusal11 text nodes) ≡ refusal11 text l
 
 pub record Midway (words text : List ℕ) (from number : ℕ) (items : Bool) (at left : ℕ) (seen : Bool) : Type 0 where
   pub least : from ≤ at
   pub upto : at ≤ length words
-  pub ahead : (l : Nodes) (rest : List ℕ) → Laids l → drop from words ≡ rowWords items l ++ rest → number ≡ count l
+  pub ahead : (l : Nodes) (rest : List ℕ) → Laids l → drop from words ≡ row_words items l ++ rest → number ≡ count l
       → Ahead words text from items l rest at left seen
 
 pub begin : (words text : List ℕ) (from number : ℕ) (items : Bool) → from ≤ length words → Midway words text from number items from number false
@@ -43,7 +43,7 @@ begin words text from number items h = record {
   ahead = λ l rest c e n. record { nodes = l; laid = c; here = e; many = n; size = refl; goes = refl };
 }
 
-refused-more : (text : List ℕ) (x : T.Node) (m : Nodes) → refusal11 text (x ▸ m) ≡ (refusedNode text x || refusal11 text m)
+refused-more : (text : List ℕ) (x : T.Node) (m : Nodes) → refusal11 text (x ▸ m) ≡ (refused_node text x || refusal11 text m)
 unfolding refusal11
 refused-more text x m = refl
 
@@ -67,7 +67,7 @@ module _ {words text : List ℕ} {from number : ℕ} {items : Bool} {at left : �
     read = λ l rest c e n.
         let a = w.ahead l rest c e n in
         let m = none_left a.nodes (omega (arith, a.many)) in
-        let s : length (rowWords items a.nodes) ≡ 0 = rw m (row-none items) in
+        let s : length (row_words items a.nodes) ≡ 0 = rw m (row-none items) in
         let g : (seen || refusal11 text end) ≡ refusal11 text l = ap (λ (y : Nodes). seen || refusal11 text y) (sym m) ∙ a.goes in
         (omega (arith, a.size), sym (or-false seen) ∙ ap (λ (b : Bool). seen || b) (sym (refused_end text)) ∙ g);
   }
@@ -76,18 +76,18 @@ module _ {words text : List ℕ} {from number : ℕ} {items : Bool} {at left : �
     laid : Laids (x ▸ m)
     laid = rw e at a.laid
 
-    row : drop at words ≡ nodeWords items x ++ (rowWords items m ++ rest)
-    row = there words at items x m rest (a.here ∙ ap (λ (y : Nodes). rowWords items y ++ rest) e)
+    row : drop at words ≡ node_words items x ++ (row_words items m ++ rest)
+    row = there words at items x m rest (a.here ∙ ap (λ (y : Nodes). row_words items y ++ rest) e)
 
   -- the next node is passed by way of the one that stands for it
   module _ {p : Place} (i : InnerPlace words at items p) where
-    no_end : (y : T.Node) (more : List ℕ) → Laid y → drop p.at words ≡ nodeWords p.items y ++ more → End ≡ stepAt words p.at p.items → ⊥
+    no_end : (y : T.Node) (more : List ℕ) → Laid y → drop p.at words ≡ node_words p.items y ++ more → End ≡ step_at words p.at p.items → ⊥
     no_end (node h k) more c d s =
         let f = (opens words p.at p.items h k more c d).found in
         let y : ◌≡◌ {A = ℕ} 0 1 = cc in
         omega arith
 
-    pub cut : 0 < left → End ≡ stepAt words p.at p.items → RowPassed words text from number items (record { at = at; refused = seen })
+    pub cut : 0 < left → End ≡ step_at words p.at p.items → RowPassed words text from number items (record { at = at; refused = seen })
     cut z s = record {
       least = w.least;
       upto = w.upto;
@@ -95,29 +95,29 @@ module _ {words text : List ℕ} {from number : ℕ} {items : Bool} {at left : �
           let a = w.ahead l rest c e n in
           let f = first a.nodes (omega (arith, a.many)) in
           let x : T.Node = node f.head f.below in
-          let y = i.read x (rowWords items f.behind ++ rest) (laid a x f.behind f.are).0 (row a x f.behind f.are) in
-          absurd (no_end y.node (rowWords items f.behind ++ rest) y.laid y.here s);
+          let y = i.read x (row_words items f.behind ++ rest) (laid a x f.behind f.are).0 (row a x f.behind f.are) in
+          absurd (no_end y.node (row_words items f.behind ++ rest) y.laid y.here s);
     }
 
-    module _ {o : Opened} (e : Node o ≡ stepAt words p.at p.items) {known now : Bool} {end : ℕ} (q : Below words text o known end now)
+    module _ {o : Opened} (e : Node o ≡ step_at words p.at p.items) {known now : Bool} {end : ℕ} (q : Below words text o known end now)
         {next : ℕ} (g : next ≡ past_of (length words) end o.tail) where
       pub less : length words - next < length words - at
       less = let u = step-within words p.at p.items o e in omega (arith, q.row.least, q.row.upto, q.ends, i.least)
 
-      stepped : (y : T.Node) (more : List ℕ) → Laid y → drop p.at words ≡ nodeWords p.items y ++ more →
-          (next ≡ p.at + length (nodeWords p.items y)) × ((refusedHead text (headAt words o.kind o.head) || q.passed.refused) ≡ refusedNode text y)
-      unfolding refusedNode
+      stepped : (y : T.Node) (more : List ℕ) → Laid y → drop p.at words ≡ node_words p.items y ++ more →
+          (next ≡ p.at + length (node_words p.items y)) × ((refused_head text (head_at words o.kind o.head) || q.passed.refused) ≡ refused_node text y)
+      unfolding refused_node
       stepped (node h k) more c d =
           let f = opens words p.at p.items h k more c d in
           let y : placed_at words p.at p.items ≡ o = let v = f.found in cc in
           let b : Opens words p.at p.items h k more o = rw y at f in
-          let low = q.row.read k (tailWords h ++ more) c.1.1 (rw b.sort b.row) b.many in
-          let far : q.passed.at ≡ o.from + length (rowWords (ofItems h) k) = rw b.sort at low.0 in (
+          let low = q.row.read k (tail_words h ++ more) c.1.1 (rw b.sort b.row) b.many in
+          let far : q.passed.at ≡ o.from + length (row_words (of_items h) k) = rw b.sort at low.0 in (
             g ∙ past-node words p.at p.items h k more o b d i.upto (q.ends ∙ far),
-            λ j. refusedHead text (head_at words p.at p.items k more o h c b j) || low.1 j,
+            λ j. refused_head text (head_at_lem words p.at p.items k more o h c b j) || low.1 j,
           )
 
-      pub more : {own : Bool} → 0 < left → known ≡ (seen || own) → own ≡ refusedHead text (headAt words o.kind o.head) →
+      pub more : {own : Bool} → 0 < left → known ≡ (seen || own) → own ≡ refused_head text (head_at words o.kind o.head) →
           Midway words text from number items next (left - 1) now
       more {own} z t r = let u = step-within words p.at p.items o e in record {
         least = omega (arith, q.row.least, q.row.upto, q.ends, w.least, i.least);
@@ -128,17 +128,17 @@ module _ {words text : List ℕ} {from number : ℕ} {items : Bool} {at left : �
           onward : {l : Nodes} {rest : List ℕ} (a : Ahead words text from items l rest at left seen) (y : T.Node) (m : Nodes)
               → a.nodes ≡ (y ▸ m) → Ahead words text from items l rest next (left - 1) now
           onward {l} {rest} a y m u =
-              let tail : List ℕ = rowWords items m ++ rest in
+              let tail : List ℕ = row_words items m ++ rest in
               let v = i.read y tail (laid a y m u).0 (row a y m u) in
               let s = stepped v.node tail v.laid v.here in
-              let on : next ≡ at + length (nodeWords items y) = s.0 ∙ v.ends in
-              let long : length (rowWords items (y ▸ m)) ≡ length (nodeWords items y) + length (rowWords items m) = sizes words at items y m rest in
-              let whole : at + length (rowWords items (y ▸ m)) ≡ from + length (rowWords items l) = rw u at a.size in
+              let on : next ≡ at + length (node_words items y) = s.0 ∙ v.ends in
+              let long : length (row_words items (y ▸ m)) ≡ length (node_words items y) + length (row_words items m) = sizes words at items y m rest in
+              let whole : at + length (row_words items (y ▸ m)) ≡ from + length (row_words items l) = rw u at a.size in
               let number : left ≡ suc (count m) = rw u at a.many in
-              let all : now ≡ (seen || refusedNode text y) =
+              let all : now ≡ (seen || refused_node text y) =
               q.told
               ∙ ap (λ (b : Bool). b || q.passed.refused) (t ∙ ap (λ (b : Bool). seen || b) r)
-              ∙ or_assoc seen (refusedHead text (headAt words o.kind o.head)) q.passed.refused
+              ∙ or_assoc seen (refused_head text (head_at words o.kind o.head)) q.passed.refused
               ∙ ap (λ (b : Bool). seen || b) (s.1 ∙ v.refused text) in
               record {
                 nodes = m;
@@ -148,7 +148,7 @@ module _ {words text : List ℕ} {from number : ℕ} {items : Bool} {at left : �
                 size = omega arith;
                 goes =
                     ap (λ (b : Bool). b || refusal11 text m) all
-                    ∙ or_assoc seen (refusedNode text y) (refusal11 text m)
+                    ∙ or_assoc seen (refused_node text y) (refusal11 text m)
                     ∙ ap (λ (b : Bool). seen || b) (sym (refused-more text y m))
                     ∙ ap (λ (k : Nodes). seen || refusal11 text k) (sym u)
                     ∙ a.goes;

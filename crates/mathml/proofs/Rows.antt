@@ -8,16 +8,16 @@ use lib.ListN.{length, drop, length-append, length-drop}
 use lib.Seq.{drop-drop, drop-append_seam}
 use Rattle.tree.specs.declared.walk.Opened.{Opened}
 use Rattle.tree.specs.Tree.{Head, Node, node, Nodes, end, ◌▸◌, count}
-use Rattle.tree.specs.Words.{ofItems, encode}
-use Rattle.tree.specs.Walk.{rowWords, nodeWords, past_of}
+use Rattle.tree.specs.Words.{of_items, encode}
+use Rattle.tree.specs.Walk.{row_words, node_words, past_of}
 use Rattle.tree.proofs.Opens.{Opens}
 
-pub row_words : (items : Bool) (x : Node) (l : Nodes) → rowWords items (x ▸ l) ≡ nodeWords items x ++ rowWords items l
+pub row_words_lem : (items : Bool) (x : Node) (l : Nodes) → row_words items (x ▸ l) ≡ node_words items x ++ row_words items l
 unfolding encode
-row_words true x l = refl
-row_words false x l = refl
+row_words_lem true x l = refl
+row_words_lem false x l = refl
 
-pub row-none : (items : Bool) → length (rowWords items end) ≡ 0
+pub row-none : (items : Bool) → length (row_words items end) ≡ 0
 unfolding encode
 row-none true = refl
 row-none false = refl
@@ -39,23 +39,23 @@ first (node h k ▸ m) z = record { head = h; below = k; behind = m; are = refl 
 
 module _ (words : List ℕ) (at : ℕ) (items : Bool) (x : Node) (m : Nodes) (rest : List ℕ) where
   -- the words of a node, and behind them those of the nodes behind it
-  pub there : drop at words ≡ rowWords items (x ▸ m) ++ rest → drop at words ≡ nodeWords items x ++ (rowWords items m ++ rest)
-  there e = e ∙ rw (row_words items x m, append_assoc)
+  pub there : drop at words ≡ row_words items (x ▸ m) ++ rest → drop at words ≡ node_words items x ++ (row_words items m ++ rest)
+  there e = e ∙ rw (row_words_lem items x m, append_assoc)
 
-  pub behind : drop at words ≡ nodeWords items x ++ (rowWords items m ++ rest) →
-      drop (at + length (nodeWords items x)) words ≡ rowWords items m ++ rest
+  pub behind : drop at words ≡ node_words items x ++ (row_words items m ++ rest) →
+      drop (at + length (node_words items x)) words ≡ row_words items m ++ rest
   behind e =
-      sym (drop-drop (length (nodeWords items x)) at words) ∙ ap (drop (length (nodeWords items x))) e
-      ∙ drop-append_seam (nodeWords items x) (rowWords items m ++ rest)
+      sym (drop-drop (length (node_words items x)) at words) ∙ ap (drop (length (node_words items x))) e
+      ∙ drop-append_seam (node_words items x) (row_words items m ++ rest)
 
-  pub sizes : length (rowWords items (x ▸ m)) ≡ length (nodeWords items x) + length (rowWords items m)
-  sizes = ap length (row_words items x m) ∙ length-append (nodeWords items x) (rowWords items m)
+  pub sizes : length (row_words items (x ▸ m)) ≡ length (node_words items x) + length (row_words items m)
+  sizes = ap length (row_words_lem items x m) ∙ length-append (node_words items x) (row_words items m)
 
 -- Behind the nodes below it, and the words behind them, a node's words end.
 pub past-node : (words : List ℕ) (at : ℕ) (items : Bool) (h : Head) (k : Nodes) (rest : List ℕ) (o : Opened) {far : ℕ} →
-    Opens words at items h k rest o → drop at words ≡ nodeWords items (node h k) ++ rest → at ≤ length words →
-    far ≡ o.from + length (rowWords (ofItems h) k) → past_of (length words) far o.tail ≡ at + length (nodeWords items (node h k))
+    Opens words at items h k rest o → drop at words ≡ node_words items (node h k) ++ rest → at ≤ length words →
+    far ≡ o.from + length (row_words (of_items h) k) → past_of (length words) far o.tail ≡ at + length (node_words items (node h k))
 past-node words at items h k rest o b e u f =
-    let long : length words - at ≡ length (nodeWords items (node h k)) + length rest =
-    sym (length-drop at words) ∙ ap length e ∙ length-append (nodeWords items (node h k)) rest in
+    let long : length words - at ≡ length (node_words items (node h k)) + length rest =
+    sym (length-drop at words) ∙ ap length e ∙ length-append (node_words items (node h k)) rest in
     omega (arith, b.tail, b.next)

@@ -9,46 +9,46 @@ use lib.ListN.{length, drop, length-append}
 use lib.Seq.{drop-drop, drop-append_seam}
 use borrow.Author.Tests.{ne_eqb}
 use Rattle.tokens.specs.Lexeme.{Span}
-use Rattle.tokens.proofs.Cases.{by-test, by-lt, clash}
+use Rattle.tokens.proofs.Cases.{by_test, by_lt, clash}
 use Rattle.writer.specs.Put.{Put, most}
 use Rattle.writer.proofs.Puts.{none}
 use Rattle.tree.specs.declared.walk.Opened.{Opened}
 use Rattle.tree.specs.declared.walk.Step.TheVariants.{Node}
 use Rattle.tree.specs.Tree as T
 use Rattle.tree.specs.Tree.{Head, Prefix, node, Nodes, end, ◌▸◌, count}
-use Rattle.tree.specs.Words.{tailWords, ofItems, encode}
-use Rattle.tree.specs.Walk.{rowWords, nodeWords, placed_at, stepAt, headAt}
+use Rattle.tree.specs.Words.{tail_words, of_items, encode}
+use Rattle.tree.specs.Walk.{row_words, node_words, placed_at, step_at, head_at}
 use Rattle.tree.specs.Laid.{Laid, Laids}
 use Rattle.tree.proofs.Steps.{step-within}
 use Rattle.tree.proofs.Opens.{Opens, opens}
-use Rattle.tree.proofs.Heads.{head_at}
+use Rattle.tree.proofs.Heads.{head_at_lem}
 use Rattle.mathml_rules.specs.declared.Mode.{Mode}
 use Rattle.mathml_rules.specs.declared.Mode.TheVariants as mode
 use Rattle.mathml_rules.specs.Pieces.{Piece, written}
 use Rattle.mathml_rules.specs.Mathml.{child, handed, out, outs}
-use Rattle.mathml_rules.specs.Parts.{opening, closing, before, woven, swaps, between, colsOf, cellsLeft, Whole, Wholes}
+use Rattle.mathml_rules.specs.Parts.{opening, closing, before, woven, swaps, between, cols_of, cells_left, Whole, Wholes}
 use Rattle.mathml_rules.proofs.Parts.{in_parts}
-use Rattle.mathml_heads.proofs.Runs.{then-written, pieces-as}
+use Rattle.mathml_heads.proofs.Runs.{then-written, pieces_as}
 use Rattle.mathml.specs.declared.part.Part.{Part}
 use Rattle.mathml.specs.declared.node.Reached.{Reached}
-use Rattle.mathml.specs.Walks.{begun, rowLeft, countAt, ChildPlace, PartPut, NodePut}
+use Rattle.mathml.specs.Walks.{begun, row_left, count_at, ChildPlace, PartPut, NodePut}
 use Rattle.mathml.proofs.Rows.{row-none, none_left, first, there, behind, sizes, past-node}
 
 -- A node whose words stand at `at`, as a step of the walk opens it.
 record Found (words : List ℕ) (at : ℕ) (items : Bool) (h : Head) (l : Nodes) (rest : List ℕ) : Type 0 where
   opens : Opens words at items h l rest (placed_at words at items)
-  is : headAt words (placed_at words at items).kind (placed_at words at items).head ≡ h
+  is : head_at words (placed_at words at items).kind (placed_at words at items).head ≡ h
 
 found : (words : List ℕ) (at : ℕ) (items : Bool) (h : Head) (l : Nodes) (rest : List ℕ) → Laid (node h l) →
-    drop at words ≡ nodeWords items (node h l) ++ rest → Found words at items h l rest
+    drop at words ≡ node_words items (node h l) ++ rest → Found words at items h l rest
 found words at items h l rest c d =
     let p = opens words at items h l rest c d in
-    record { opens = p; is = head_at words at items l rest (placed_at words at items) h c p }
+    record { opens = p; is = head_at_lem words at items l rest (placed_at words at items) h c p }
 
 -- The children of a node in the order in which they are written, from turn i on: as they stand, or exchanged.
 pub data Turn : Nodes → ℕ → Nodes → Type 0 where
-  on-second : {x y : T.Node} → Turn (x ▸ y ▸ end) 0 (y ▸ x ▸ end)
-  on-first : {x y : T.Node} → Turn (x ▸ y ▸ end) 1 (x ▸ end)
+  on_second : {x y : T.Node} → Turn (x ▸ y ▸ end) 0 (y ▸ x ▸ end)
+  on_first : {x y : T.Node} → Turn (x ▸ y ▸ end) 1 (x ▸ end)
   on_none : {x y : T.Node} → Turn (x ▸ y ▸ end) 2 end
 
 -- only a binary command exchanges its two children
@@ -71,11 +71,11 @@ binary-only text (Head.matrix f g k ls) t = clash false t refl
 exchanged : (l : Nodes) → count l ≡ 2 → (m : Nodes) × (Turn l 0 m × (count m ≡ 2))
 exchanged end e = absurd (omega arith)
 exchanged (x ▸ end) e = absurd (omega arith)
-exchanged (x ▸ y ▸ end) e = (y ▸ x ▸ end, (Turn.on-second, refl))
+exchanged (x ▸ y ▸ end) e = (y ▸ x ▸ end, (Turn.on_second, refl))
 exchanged (x ▸ y ▸ w ▸ l) e = absurd (omega arith)
 
 -- the two children in the words
-module _ (words : List ℕ) (from : ℕ) (x y : T.Node) (rest : List ℕ) (e : drop from words ≡ rowWords false (x ▸ y ▸ end) ++ rest) where
+module _ (words : List ℕ) (from : ℕ) (x y : T.Node) (rest : List ℕ) (e : drop from words ≡ row_words false (x ▸ y ▸ end) ++ rest) where
   both_words : drop from words ≡ encode x ++ (encode y ++ rest)
   unfolding encode
   both_words = e ∙ simp (append_assoc, append-nil)
@@ -85,7 +85,7 @@ module _ (words : List ℕ) (from : ℕ) (x y : T.Node) (rest : List ℕ) (e : d
       rw u
       (sym (drop-drop (length (encode x)) from words) ∙ ap (drop (length (encode x))) both_words ∙ drop-append_seam (encode x) (encode y ++ rest))
 
-  both-size : length (rowWords false (x ▸ y ▸ end)) ≡ length (encode x) + length (encode y)
+  both-size : length (row_words false (x ▸ y ▸ end)) ≡ length (encode x) + length (encode y)
   unfolding encode
   both-size = ap (λ (w : List ℕ). length (encode x ++ w)) (append-nil (encode y)) ∙ length-append (encode x) (encode y)
 
@@ -95,13 +95,13 @@ heads-same e = (cc, cc)
 
 module _ (words : List ℕ) (from next at : ℕ) (rest : List ℕ) where
   -- the child of a turn
-  turn-child : {l n : Nodes} {i : ℕ} → Turn l i n → Laids l → drop from words ≡ rowWords false l ++ rest → ChildPlace words true from i next at →
+  turn-child : {l n : Nodes} {i : ℕ} → Turn l i n → Laids l → drop from words ≡ row_words false l ++ rest → ChildPlace words true from i next at →
       (x : T.Node) (ms : Nodes) → n ≡ (x ▸ ms) → (more : List ℕ) × (drop at words ≡ encode x ++ more)
-  turn-child (Turn.on-second {x = x} {y = y}) c e k z ms u =
+  turn-child (Turn.on_second {x = x} {y = y}) c e k z ms u =
       let f = heads-same u in
       let n = (k.second refl refl).read x (encode y ++ rest) c.0 (both_words words from x y rest e) in
       (rest, behind-first words from x y rest e n ∙ ap (λ (w : T.Node). encode w ++ rest) f.0)
-  turn-child (Turn.on-first {x = x} {y = y}) c e k z ms u =
+  turn-child (Turn.on_first {x = x} {y = y}) c e k z ms u =
       let f = heads-same u in
       (encode y ++ rest, rw (k.first refl refl) (both_words words from x y rest e ∙ ap (λ (w : T.Node). encode w ++ (encode y ++ rest)) f.0))
   turn-child Turn.on_none c e k z ms u = absurd (no_more u)
@@ -110,8 +110,8 @@ module _ (words : List ℕ) (from next at : ℕ) (rest : List ℕ) where
       no_more v = let y : ◌≡◌ {A = ℕ} 0 1 = cc in absurd (omega arith)
 
   -- where the last of two exchanged children ends
-  turn_end : {l : Nodes} {i : ℕ} → Turn l i end → Laids l → drop from words ≡ rowWords false l ++ rest → ChildPlace words true from i next at →
-      at ≡ from + length (rowWords false l)
+  turn_end : {l : Nodes} {i : ℕ} → Turn l i end → Laids l → drop from words ≡ row_words false l ++ rest → ChildPlace words true from i next at →
+      at ≡ from + length (row_words false l)
   turn_end (Turn.on_none {x = x} {y = y}) c e k =
       let b = k.behind refl (omega arith) in
       let n = b.1.0.read x (encode y ++ rest) c.0 (both_words words from x y rest e) in
@@ -119,23 +119,23 @@ module _ (words : List ℕ) (from next at : ℕ) (rest : List ℕ) where
       omega (arith, n, o, both-size words from x y rest e)
 
 turn_on : {l n : Nodes} {i : ℕ} → Turn l i n → (x : T.Node) (ms : Nodes) → n ≡ (x ▸ ms) → Turn l (suc i) ms
-turn_on (Turn.on-second {x = x} {y = y}) z ms u = let f = heads-same u in rw (← f.1) Turn.on-first
-turn_on (Turn.on-first {x = x} {y = y}) z ms u = let f = heads-same u in rw (← f.1) Turn.on_none
+turn_on (Turn.on_second {x = x} {y = y}) z ms u = let f = heads-same u in rw (← f.1) Turn.on_first
+turn_on (Turn.on_first {x = x} {y = y}) z ms u = let f = heads-same u in rw (← f.1) Turn.on_none
 turn_on Turn.on_none z ms u = let y : ◌≡◌ {A = ℕ} 0 1 = cc in absurd (omega arith)
 
 -- the pieces of a node whose two children are exchanged
-swapped-pieces : (text : List ℕ) (m : Mode) (sp : Span) (x y : T.Node) → swaps text (Head.prefix Prefix.binary sp) ≡ true →
+swapped_pieces : (text : List ℕ) (m : Mode) (sp : Span) (x y : T.Node) → swaps text (Head.prefix Prefix.binary sp) ≡ true →
     between text (Head.prefix Prefix.binary sp) (outs text m (Head.prefix Prefix.binary sp) 0 (x ▸ y ▸ end))
     ≡ woven text (Head.prefix Prefix.binary sp) 0 0 (outs text m (Head.prefix Prefix.binary sp) 0 (y ▸ x ▸ end))
 unfolding between outs handed woven before
-swapped-pieces text m sp x y t = rw (t, between) (ap (λ (w : List Piece). out text mode.Argument y ++ w) (sym (append-nil (out text mode.Argument x))))
+swapped_pieces text m sp x y t = rw (t, between) (ap (λ (w : List Piece). out text mode.Argument y ++ w) (sym (append-nil (out text mode.Argument x))))
 
 turned-pieces : (text : List ℕ) (m : Mode) (sp : Span) {l n : Nodes} → Turn l 0 n → swaps text (Head.prefix Prefix.binary sp) ≡ true →
     between text (Head.prefix Prefix.binary sp) (outs text m (Head.prefix Prefix.binary sp) 0 l)
     ≡ woven text (Head.prefix Prefix.binary sp) 0 0 (outs text m (Head.prefix Prefix.binary sp) 0 n)
-turned-pieces text m sp (Turn.on-second {x = x} {y = y}) t = swapped-pieces text m sp x y t
+turned-pieces text m sp (Turn.on_second {x = x} {y = y}) t = swapped_pieces text m sp x y t
 
-plain-pieces : (text : List ℕ) (h : Head) → swaps text h ≡ false → (cs : List (List Piece)) → between text h cs ≡ woven text h 0 (colsOf h) cs
+plain-pieces : (text : List ℕ) (h : Head) → swaps text h ≡ false → (cs : List (List Piece)) → between text h cs ≡ woven text h 0 (cols_of h) cs
 unfolding between
 plain-pieces text h s cs = rw (s, between)
 
@@ -143,7 +143,7 @@ plain-pieces text h s cs = rw (s, between)
 module _ (text : List ℕ) (m : Mode) (h : Head) where
   one_more : (x : T.Node) (ms : Nodes) (i left : ℕ) →
       woven text h i left (outs text m h i (x ▸ ms))
-      ≡ before text h i left ++ (out text (handed text m h i) x ++ woven text h (suc i) (cellsLeft (colsOf h) left) (outs text m h (suc i) ms))
+      ≡ before text h i left ++ (out text (handed text m h i) x ++ woven text h (suc i) (cells_left (cols_of h) left) (outs text m h (suc i) ms))
   unfolding woven outs
   one_more x ms i left = refl
 
@@ -159,26 +159,26 @@ module _ (text : List ℕ) (m : Mode) (h : Head) where
   unfolding begun
   begun_first = refl
 
-  row-later : (i left : ℕ) → rowLeft h (suc i) left ≡ left
-  unfolding rowLeft
-  row-later i left = rw (ne_eqb (suc i) 0 (λ z. omega arith), rowLeft)
+  row-later : (i left : ℕ) → row_left h (suc i) left ≡ left
+  unfolding row_left
+  row-later i left = rw (ne_eqb (suc i) 0 (λ z. omega arith), row_left)
 
-  row_first : (left : ℕ) → rowLeft h 0 left ≡ colsOf h
-  unfolding rowLeft
+  row_first : (left : ℕ) → row_left h 0 left ≡ cols_of h
+  unfolding row_left
   row_first left = refl
 
 -- the same pieces, bracketed in another way
 regroup : (d b f x w c : List Piece) → (d ++ ((b ++ f) ++ x)) ++ (w ++ c) ≡ d ++ (b ++ ((f ++ (x ++ w)) ++ c))
 regroup d b f x w c = simp append_assoc
 
-step-pieces : (text : List ℕ) (m : Mode) (h : Head) (x : T.Node) (ms : Nodes) (i left new : ℕ) (done : List Piece) → new ≡ cellsLeft (colsOf h) (rowLeft h i left) →
-    (done ++ ((begun text m h i ++ before text h i (rowLeft h i left)) ++ out text (handed text m h i) x))
-    ++ (begun text m h (i + 1) ++ (woven text h (i + 1) (rowLeft h (i + 1) new) (outs text m h (i + 1) ms) ++ closing text m h))
-    ≡ done ++ (begun text m h i ++ (woven text h i (rowLeft h i left) (outs text m h i (x ▸ ms)) ++ closing text m h))
+step-pieces : (text : List ℕ) (m : Mode) (h : Head) (x : T.Node) (ms : Nodes) (i left new : ℕ) (done : List Piece) → new ≡ cells_left (cols_of h) (row_left h i left) →
+    (done ++ ((begun text m h i ++ before text h i (row_left h i left)) ++ out text (handed text m h i) x))
+    ++ (begun text m h (i + 1) ++ (woven text h (i + 1) (row_left h (i + 1) new) (outs text m h (i + 1) ms) ++ closing text m h))
+    ≡ done ++ (begun text m h i ++ (woven text h i (row_left h i left) (outs text m h i (x ▸ ms)) ++ closing text m h))
 step-pieces text m h x ms i left new done e =
-    let row : ℕ = rowLeft h i left in
+    let row : ℕ = row_left h i left in
     rw (add-one, begun-none text m h i, row-later text m h i new, e)
-    (regroup done (begun text m h i) (before text h i row) (out text (handed text m h i) x) (woven text h (suc i) (cellsLeft (colsOf h) row) (outs text m h (suc i) ms)) (closing text m h)
+    (regroup done (begun text m h i) (before text h i row) (out text (handed text m h i) x) (woven text h (suc i) (cells_left (cols_of h) row) (outs text m h (suc i) ms)) (closing text m h)
     ∙ ap (λ (z : List Piece). done ++ (begun text m h i ++ (z ++ closing text m h))) (sym (one_more text m h x ms i row)))
 
 module _ (words text start : List ℕ) (at : ℕ) (items : Bool) (place : ℕ) (m : Mode) where
@@ -190,24 +190,24 @@ module _ (words text start : List ℕ) (at : ℕ) (items : Bool) (place : ℕ) (
     pub many : i + count nodes ≡ count l
     -- where the next child begins
     pub here : swaps text h ≡ false → (a : ℕ) → (next ≤ (placed_at words at items).from → a ≡ (placed_at words at items).from) →
-        ((placed_at words at items).from ≤ next → a ≡ next) → drop a words ≡ rowWords (ofItems h) nodes ++ (tailWords h ++ rest)
+        ((placed_at words at items).from ≤ next → a ≡ next) → drop a words ≡ row_words (of_items h) nodes ++ (tail_words h ++ rest)
     pub size : swaps text h ≡ false → (a : ℕ) → (next ≤ (placed_at words at items).from → a ≡ (placed_at words at items).from) →
         ((placed_at words at items).from ≤ next → a ≡ next) →
-        a + length (rowWords (ofItems h) nodes) ≡ (placed_at words at items).from + length (rowWords (ofItems h) l)
+        a + length (row_words (of_items h) nodes) ≡ (placed_at words at items).from + length (row_words (of_items h) l)
     pub turn : swaps text h ≡ true → Turn l i nodes
     pub done : List Piece
     pub put : Put start place after to (written done)
-    pub goes : done ++ (begun text m h i ++ (woven text h i (rowLeft h i left) (outs text m h i nodes) ++ closing text m h)) ≡ out text m (node h l)
+    pub goes : done ++ (begun text m h i ++ (woven text h i (row_left h i left) (outs text m h i nodes) ++ closing text m h)) ≡ out text m (node h l)
 
   pub record Midway (after : List ℕ) (next to left i : ℕ) : Type 0 where
     pub least : at ≤ next
     pub upto : next ≤ length words
     pub fits : length start ≤ most
     pub same : length after ≡ length start
-    pub ahead : (h : Head) (l : Nodes) (rest : List ℕ) → Laid (node h l) → Whole (node h l) → drop at words ≡ nodeWords items (node h l) ++ rest →
+    pub ahead : (h : Head) (l : Nodes) (rest : List ℕ) → Laid (node h l) → Whole (node h l) → drop at words ≡ node_words items (node h l) ++ rest →
         Ahead h l rest after next to left i
 
-  begin-plain : (h : Head) (l : Nodes) (rest : List ℕ) → Laid (node h l) → Whole (node h l) → drop at words ≡ nodeWords items (node h l) ++ rest →
+  begin-plain : (h : Head) (l : Nodes) (rest : List ℕ) → Laid (node h l) → Whole (node h l) → drop at words ≡ node_words items (node h l) ++ rest →
       swaps text h ≡ false → length start ≤ most → place ≤ most → Ahead h l rest start at place 0 0
   unfolding written
   begin-plain h l rest c v d s f k =
@@ -253,12 +253,12 @@ module _ (words text start : List ℕ) (at : ℕ) (items : Bool) (place : ℕ) (
       }
     where
       turned : {l n : Nodes} → Turn l 0 n → Laids l → Wholes l → Laids n × Wholes n
-      turned Turn.on-second c v = ((c.1.0, (c.0, tt)), (v.1.0, (v.0, tt)))
+      turned Turn.on_second c v = ((c.1.0, (c.0, tt)), (v.1.0, (v.0, tt)))
 
   begin-any : length start ≤ most → place ≤ most → (h : Head) (l : Nodes) (rest : List ℕ) → Laid (node h l) → Whole (node h l) →
-      drop at words ≡ nodeWords items (node h l) ++ rest → Ahead h l rest start at place 0 0
+      drop at words ≡ node_words items (node h l) ++ rest → Ahead h l rest start at place 0 0
   begin-any f k h l rest c v d =
-      by-test (swaps text h)
+      by_test (swaps text h)
       (λ t.
       let b = binary-only text h t in
       rw b.1 (begin-swapped b.0 l rest (rw b.1 at c) (rw b.1 at v) (rw b.1 at t) f k))
@@ -270,7 +270,7 @@ module _ (words text start : List ℕ) (at : ℕ) (items : Bool) (place : ℕ) (
   module _ {after : List ℕ} {next to left i : ℕ} (w : Midway after next to left i) {out₁ : List ℕ} {p : Part}
       (q : PartPut words text after to at items m i left next out₁ p) where
     -- the node that a step of the walk has opened
-    module _ (h : Head) (l : Nodes) (rest : List ℕ) (c : Laid (node h l)) (v : Whole (node h l)) (d : drop at words ≡ nodeWords items (node h l) ++ rest) where
+    module _ (h : Head) (l : Nodes) (rest : List ℕ) (c : Laid (node h l)) (v : Whole (node h l)) (d : drop at words ≡ node_words items (node h l) ++ rest) where
       a : Ahead h l rest after next to left i
       a = w.ahead h l rest c v d
 
@@ -280,34 +280,34 @@ module _ (words text start : List ℕ) (at : ℕ) (items : Bool) (place : ℕ) (
       abbrev o : Opened
       o = placed_at words at items
 
-      seen : Node o ≡ stepAt words at items
+      seen : Node o ≡ step_at words at items
       seen = sym g.opens.found
 
       -- the child of this turn, wherever it stands
       record Child (e : ℕ) (x : T.Node) : Type 0 where
         more : List ℕ
-        here : drop e words ≡ nodeWords (ofItems h) x ++ more
+        here : drop e words ≡ node_words (of_items h) x ++ more
 
       -- the child at the next place of a row
       plain-child : {e : ℕ} → swaps text h ≡ false → (x : T.Node) (ms : Nodes) → a.nodes ≡ (x ▸ ms) → ChildPlace words (swaps text h) o.from i next e → Child e x
       plain-child {e = e₁} s x ms u k =
           let e = a.here s e₁ (k.start s) (k.on s) in
           record {
-            more = rowWords (ofItems h) ms ++ (tailWords h ++ rest);
-            here = there words e₁ (ofItems h) x ms (tailWords h ++ rest) (e ∙ ap (λ (y : Nodes). rowWords (ofItems h) y ++ (tailWords h ++ rest)) u);
+            more = row_words (of_items h) ms ++ (tail_words h ++ rest);
+            here = there words e₁ (of_items h) x ms (tail_words h ++ rest) (e ∙ ap (λ (y : Nodes). row_words (of_items h) y ++ (tail_words h ++ rest)) u);
           }
 
-      swapped-child : {e : ℕ} → swaps text h ≡ true → (x : T.Node) (ms : Nodes) → a.nodes ≡ (x ▸ ms) → ChildPlace words (swaps text h) o.from i next e → Child e x
-      swapped-child {e = e₁} s x ms u k =
+      swapped_child : {e : ℕ} → swaps text h ≡ true → (x : T.Node) (ms : Nodes) → a.nodes ≡ (x ▸ ms) → ChildPlace words (swaps text h) o.from i next e → Child e x
+      swapped_child {e = e₁} s x ms u k =
           let b = binary-only text h s in
-          let flat : ofItems h ≡ false = rw b.1 refl in
-          let none : tailWords h ≡ [] = rw b.1 refl in
-          let row : drop o.from words ≡ rowWords false l ++ rest = g.opens.row ∙ (λ j. rowWords (flat j) l ++ (none j ++ rest)) in
+          let flat : of_items h ≡ false = rw b.1 refl in
+          let none : tail_words h ≡ [] = rw b.1 refl in
+          let row : drop o.from words ≡ row_words false l ++ rest = g.opens.row ∙ (λ j. row_words (flat j) l ++ (none j ++ rest)) in
           let r = turn-child words o.from next e₁ rest (a.turn s) c.1.1 row (rw s at k) x ms u in
-          record { more = r.0; here = r.1 ∙ ap (λ (t : Bool). nodeWords t x ++ r.0) (sym flat) }
+          record { more = r.0; here = r.1 ∙ ap (λ (t : Bool). node_words t x ++ r.0) (sym flat) }
 
-      a-child : {e : ℕ} (x : T.Node) (ms : Nodes) → a.nodes ≡ (x ▸ ms) → ChildPlace words (swaps text h) o.from i next e → Child e x
-      a-child x ms u k = by-test (swaps text h) (λ s. swapped-child s x ms u k) (λ s. plain-child s x ms u k)
+      a_child : {e : ℕ} (x : T.Node) (ms : Nodes) → a.nodes ≡ (x ▸ ms) → ChildPlace words (swaps text h) o.from i next e → Child e x
+      a_child x ms u k = by_test (swaps text h) (λ s. swapped_child s x ms u k) (λ s. plain-child s x ms u k)
 
       module _ {out₂ : List ℕ} {r : Reached} (n : NodePut words text out₁ p.at p.items p.end p.mode out₂ r) (f : i < o.count) where
         onward : (x : T.Node) (ms : Nodes) → a.nodes ≡ (x ▸ ms) → Ahead h l rest out₂ r.at r.end p.left (i + 1)
@@ -317,32 +317,32 @@ module _ (words text start : List ℕ) (at : ℕ) (items : Bool) (place : ℕ) (
             let k : ChildPlace words (swaps text h) o.from i next e₁ = rw g.is at b.3.1.0 in
             let c₁ : Laids (x ▸ ms) = rw u at a.laid in
             let v₁ : Wholes (x ▸ ms) = rw u at a.whole in
-            let y = a-child x ms u k in
-            let sort : o.items ≡ ofItems h = g.opens.sort in
-            let z = b.3.1.1.read x y.more c₁.0 (y.here ∙ ap (λ (t : Bool). nodeWords t x ++ y.more) (sym sort)) in
+            let y = a_child x ms u k in
+            let sort : o.items ≡ of_items h = g.opens.sort in
+            let z = b.3.1.1.read x y.more c₁.0 (y.here ∙ ap (λ (t : Bool). node_words t x ++ y.more) (sym sort)) in
             let read = n.read z.node y.more z.laid (z.whole v₁.0) z.here in
-            let on : r.at ≡ e₁ + length (nodeWords (ofItems h) x) = read.0 ∙ z.ends ∙ ap (λ (t : Bool). e₁ + length (nodeWords t x)) sort in
-            let tail : List ℕ = tailWords h ++ rest in
-            let row : swaps text h ≡ false → drop e₁ words ≡ nodeWords (ofItems h) x ++ (rowWords (ofItems h) ms ++ tail) =
-            λ s. there words e₁ (ofItems h) x ms tail (a.here s e₁ (k.start s) (k.on s) ∙ ap (λ (z : Nodes). rowWords (ofItems h) z ++ tail) u) in
-            let sizes-are = sizes words e₁ (ofItems h) x ms tail in
+            let on : r.at ≡ e₁ + length (node_words (of_items h) x) = read.0 ∙ z.ends ∙ ap (λ (t : Bool). e₁ + length (node_words t x)) sort in
+            let tail : List ℕ = tail_words h ++ rest in
+            let row : swaps text h ≡ false → drop e₁ words ≡ node_words (of_items h) x ++ (row_words (of_items h) ms ++ tail) =
+            λ s. there words e₁ (of_items h) x ms tail (a.here s e₁ (k.start s) (k.on s) ∙ ap (λ (z : Nodes). row_words (of_items h) z ++ tail) u) in
+            let sizes-are = sizes words e₁ (of_items h) x ms tail in
             let number : i + suc (count ms) ≡ count l = rw u at a.many in
             let mode-is : p.mode ≡ handed text m h i = b.1 ∙ ap (λ (z : Head). handed text m z i) g.is in
-            let left_is : p.left ≡ cellsLeft (colsOf h) (rowLeft h i left) = b.2 ∙ ap (λ (z : Head). cellsLeft (colsOf z) (rowLeft z i left)) g.is in
-            let front : List Piece = begun text m h i ++ before text h i (rowLeft h i left) in
+            let left_is : p.left ≡ cells_left (cols_of h) (row_left h i left) = b.2 ∙ ap (λ (z : Head). cells_left (cols_of z) (row_left z i left)) g.is in
+            let front : List Piece = begun text m h i ++ before text h i (row_left h i left) in
             let mine : List Piece = out text (handed text m h i) x in
             let put_front : Put after to out₁ p.end (written front) =
-            pieces-as (ap (λ (z : Head). begun text m z i ++ before text z i (rowLeft z i left)) g.is) b.4 in
-            let put-mine : Put out₁ p.end out₂ r.end (written mine) = pieces-as (z.same text p.mode ∙ ap (λ (w : Mode). out text w x) mode-is) read.1 in
+            pieces_as (ap (λ (z : Head). begun text m z i ++ before text z i (row_left z i left)) g.is) b.4 in
+            let put-mine : Put out₁ p.end out₂ r.end (written mine) = pieces_as (z.same text p.mode ∙ ap (λ (w : Mode). out text w x) mode-is) read.1 in
             record {
               nodes = ms;
               laid = c₁.1;
               whole = v₁.1;
               many = omega arith;
-              here = λ s z f₁ f₂. rw (f₂ (omega (arith, k.least, b.3.1.1.least, n.least)), on) (behind words e₁ (ofItems h) x ms tail (row s));
+              here = λ s z f₁ f₂. rw (f₂ (omega (arith, k.least, b.3.1.1.least, n.least)), on) (behind words e₁ (of_items h) x ms tail (row s));
               size = λ s z f₁ f₂.
-                  let whole : e₁ + length (rowWords (ofItems h) a.nodes) ≡ o.from + length (rowWords (ofItems h) l) = a.size s e₁ (k.start s) (k.on s) in
-                  let whole₁ : e₁ + length (rowWords (ofItems h) (x ▸ ms)) ≡ o.from + length (rowWords (ofItems h) l) = rw u at whole in
+                  let whole : e₁ + length (row_words (of_items h) a.nodes) ≡ o.from + length (row_words (of_items h) l) = a.size s e₁ (k.start s) (k.on s) in
+                  let whole₁ : e₁ + length (row_words (of_items h) (x ▸ ms)) ≡ o.from + length (row_words (of_items h) l) = rw u at whole in
                   let there₁ : z ≡ r.at = f₂ (omega (arith, k.least, b.3.1.1.least, n.least)) in
                   omega (arith, on);
               turn = λ s. rw add-one (turn_on (a.turn s) x ms u);
@@ -350,7 +350,7 @@ module _ (words text start : List ℕ) (at : ℕ) (items : Bool) (place : ℕ) (
               put = then-written a.done (front ++ mine) a.put (then-written front mine put_front put-mine);
               goes =
                   step-pieces text m h x ms i left p.left a.done left_is
-                  ∙ ap (λ (z : Nodes). a.done ++ (begun text m h i ++ (woven text h i (rowLeft h i left) (outs text m h i z) ++ closing text m h))) (sym u)
+                  ∙ ap (λ (z : Nodes). a.done ++ (begun text m h i ++ (woven text h i (row_left h i left) (outs text m h i z) ++ closing text m h))) (sym u)
                   ∙ a.goes;
             }
 
@@ -358,20 +358,20 @@ module _ (words text start : List ℕ) (at : ℕ) (items : Bool) (place : ℕ) (
         next-ahead = let x = first a.nodes (omega (arith, a.many, g.opens.many)) in onward (node x.head x.below) x.behind x.are
 
       -- behind the last child
-      last-place : (e : ℕ) → a.nodes ≡ end → ChildPlace words (swaps text h) o.from i next e → e ≡ o.from + length (rowWords (ofItems h) l)
+      last-place : (e : ℕ) → a.nodes ≡ end → ChildPlace words (swaps text h) o.from i next e → e ≡ o.from + length (row_words (of_items h) l)
       last-place e u k =
-          by-test (swaps text h)
+          by_test (swaps text h)
           (λ s.
           let b = binary-only text h s in
-          let flat : ofItems h ≡ false = rw b.1 refl in
-          let none : tailWords h ≡ [] = rw b.1 refl in
-          let row : drop o.from words ≡ rowWords false l ++ rest = g.opens.row ∙ (λ j. rowWords (flat j) l ++ (none j ++ rest)) in
-          turn_end words o.from next e rest (rw u at (a.turn s)) c.1.1 row (rw s at k) ∙ ap (λ (t : Bool). o.from + length (rowWords t l)) (sym flat))
+          let flat : of_items h ≡ false = rw b.1 refl in
+          let none : tail_words h ≡ [] = rw b.1 refl in
+          let row : drop o.from words ≡ row_words false l ++ rest = g.opens.row ∙ (λ j. row_words (flat j) l ++ (none j ++ rest)) in
+          turn_end words o.from next e rest (rw u at (a.turn s)) c.1.1 row (rw s at k) ∙ ap (λ (t : Bool). o.from + length (row_words t l)) (sym flat))
           (λ s.
-          let z : length (rowWords (ofItems h) a.nodes) ≡ 0 = rw u (row-none (ofItems h)) in
+          let z : length (row_words (of_items h) a.nodes) ≡ 0 = rw u (row-none (of_items h)) in
           omega (arith, a.size s e (k.start s) (k.on s)))
 
-      closed-here : o.count ≤ i → (p.at ≡ at + length (nodeWords items (node h l))) × Put start place out₁ p.end (written (out text m (node h l)))
+      closed-here : o.count ≤ i → (p.at ≡ at + length (node_words items (node h l))) × Put start place out₁ p.end (written (out text m (node h l)))
       closed-here f =
           let b = q.last o seen f in
           let u : a.nodes ≡ end = none_left a.nodes (omega (arith, a.many, g.opens.many)) in
@@ -379,11 +379,11 @@ module _ (words text start : List ℕ) (at : ℕ) (items : Bool) (place : ℕ) (
           let i₁ = step-within words at items o seen in
           let far = last-place b.1.0 u k in
           let front : List Piece = begun text m h i ++ closing text m h in
-          let put_front : Put after to out₁ p.end (written front) = pieces-as (ap (λ (z : Head). begun text m z i ++ closing text m z) g.is) b.2 in (
+          let put_front : Put after to out₁ p.end (written front) = pieces_as (ap (λ (z : Head). begun text m z i ++ closing text m z) g.is) b.2 in (
             b.1.1.1 ∙ past-node words at items h l rest o g.opens d (omega (arith, i₁.on, i₁.upto)) far,
-            pieces-as
-                (ap (λ (z : List Piece). a.done ++ (begun text m h i ++ (z ++ closing text m h))) (sym (nothing-more text m h i (rowLeft h i left)))
-                ∙ ap (λ (z : Nodes). a.done ++ (begun text m h i ++ (woven text h i (rowLeft h i left) (outs text m h i z) ++ closing text m h))) (sym u)
+            pieces_as
+                (ap (λ (z : List Piece). a.done ++ (begun text m h i ++ (z ++ closing text m h))) (sym (nothing-more text m h i (row_left h i left)))
+                ∙ ap (λ (z : Nodes). a.done ++ (begun text m h i ++ (woven text h i (row_left h i left) (outs text m h i z) ++ closing text m h))) (sym u)
                 ∙ a.goes)
                 (then-written a.done front a.put put_front),
           )
@@ -396,7 +396,7 @@ module _ (words text start : List ℕ) (at : ℕ) (items : Bool) (place : ℕ) (
       fits = w.fits;
       same = n.same ∙ q.same ∙ w.same;
       ahead = λ h l rest c v d.
-          by-lt i (placed_at words at items).count
+          by_lt i (placed_at words at items).count
           (λ k. next-ahead h l rest c v d n k)
           (λ k. clash p.more f (q.last (placed_at words at items) (seen h l rest c v d) k).0);
     }
@@ -406,19 +406,19 @@ module _ (words text start : List ℕ) (at : ℕ) (items : Bool) (place : ℕ) (
       least = q.least;
       upto = q.upto;
       same = q.same ∙ w.same;
-      read = by-node;
+      read = by_node;
     }
       where
-        by-node : (x : T.Node) (rest : List ℕ) → Laid x → Whole x → drop at words ≡ nodeWords items x ++ rest →
-            (p.at ≡ at + length (nodeWords items x)) × Put start place out₁ p.end (written (out text m x))
-        by-node (node h l) rest c v d =
-            by-lt i (placed_at words at items).count
+        by_node : (x : T.Node) (rest : List ℕ) → Laid x → Whole x → drop at words ≡ node_words items x ++ rest →
+            (p.at ≡ at + length (node_words items x)) × Put start place out₁ p.end (written (out text m x))
+        by_node (node h l) rest c v d =
+            by_lt i (placed_at words at items).count
             (λ k. clash p.more (q.child (placed_at words at items) (seen h l rest c v d) k).0 f)
             (λ k. closed-here h l rest c v d k)
 
 -- A node without children is one part.
 pub leaf-put : (words text start : List ℕ) (at : ℕ) (items : Bool) (place : ℕ) (m : Mode) {out₁ : List ℕ} {p : Part} →
-    at ≤ length words → length start ≤ most → place ≤ most → countAt words at items ≡ 0 →
+    at ≤ length words → length start ≤ most → place ≤ most → count_at words at items ≡ 0 →
     PartPut words text start place at items m 0 0 at out₁ p → NodePut words text start at items place m out₁ (record { at = p.at; end = p.end })
 leaf-put words text start at items place m {p = p} h f k z q =
     closed words text start at items place m (begin words text start at items place m h f k) q (only p.more refl)

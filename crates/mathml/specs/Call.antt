@@ -1,11 +1,11 @@
 -- The call that writes a text's MathML: what it answers, and what it leaves in the lent buffers. docs/MATHML.md, "The call".
 use Rattle.std.specs.Prelude.{◌≡◌, true, false, List, [], ◌∷◌, ℕ, ◌≤◌, length}
 use Rattle.tokens.specs.Refusals.{Answer, accepted, refused, bit}
-use Rattle.writer.specs.Fitted.{fittedBy}
+use Rattle.writer.specs.Fitted.{fitted_by}
 use Rattle.tree.specs.Tree.{Nodes}
-use Rattle.reading.specs.Reading.{readText, blank}
-use Rattle.parse.specs.Call.{parsedText}
-use Rattle.mathml_rules.specs.Mathml.{mathmlOf}
+use Rattle.reading.specs.Reading.{read_text, blank}
+use Rattle.parse.specs.Call.{parsed_text}
+use Rattle.mathml_rules.specs.Mathml.{mathml_of}
 use Rattle.mathml_rules.specs.Refusal.{refusal11}
 use Rattle.mathml_length.specs.Length.{longest}
 use Rattle.mathml.specs.declared.Written.{Written}
@@ -19,23 +19,23 @@ abbrev pub answer_of : Marked → Answer
 answer_of (Whole len takes blank) = accepted (len ∷ takes ∷ bit blank ∷ [])
 answer_of (Refused k) = refused k
 
-abbrev pub writtenAs : Written → Answer
-writtenAs (write.Whole len) = accepted (len ∷ [])
-writtenAs (write.Refused k) = refused k
+abbrev pub written_as : Written → Answer
+written_as (write.Whole len) = accepted (len ∷ [])
+written_as (write.Refused k) = refused k
 
 -- the MathML of a text that is read
 unfoldable pub mark_of : List ℕ → List ℕ
-mark_of text = mathmlOf text (readText text).tree
+mark_of text = mathml_of text (read_text text).tree
 
 -- What is answered with it: its length, takes, and "blank".
 unfoldable pub values : List ℕ → List ℕ
 values text =
-    let r = readText text in length (mark_of text) ∷ r.takes ∷ bit (blank text r.tree) ∷ []
+    let r = read_text text in length (mark_of text) ∷ r.takes ∷ bit (blank text r.tree) ∷ []
 
 -- "It refuses a tree holding .. (11), then an output buffer shorter than the MathML (12)"; both leave the output buffer unchanged, and
 -- "output bytes past it are unchanged".
 unfoldable pub marks : List ℕ → Nodes → List ℕ → Answer × List ℕ
-marks text tree out = elim (refusal11 text tree) [ true ↦ (refused 11, out) | false ↦ fittedBy 12 (mathmlOf text tree) out ]
+marks text tree out = elim (refusal11 text tree) [ true ↦ (refused 11, out) | false ↦ fitted_by 12 (mathml_of text tree) out ]
 
 -- "both after the reading's refusals": these, and the reading's buffers, are those of the call that reads a text
 -- (crates/parse/specs/Call.antt): p is what it answers and leaves. "Any that comes after the reading's leaves the reading's buffers as
@@ -45,14 +45,14 @@ marking text out p =
     elim p.0 [
       | refused k ↦ (refused k, p.1, p.2, p.3, out)
       | accepted read ↦
-          let f = marks text (readText text).tree out in
+          let f = marks text (read_text text).tree out in
           (elim f.0 [ refused k ↦ refused k | accepted len ↦ accepted (values text) ], p.1, p.2, p.3, f.1)
     ]
 
 -- what is answered for a tree whose words come first, and whose MathML is no longer than a text's
 pub record TreeMarked (words text before : List ℕ) (items : ℕ) (after : List ℕ) (answer : Answer) : Type 0 where
-  pub read : (l : Nodes) → Begins words l items → length (mathmlOf text l) ≤ longest (length text) →
+  pub read : (l : Nodes) → Begins words l items → length (mathml_of text l) ≤ longest (length text) →
       ◌≡◌ {A = Answer × List ℕ} (answer, after) (marks text l before)
 
-unfoldable pub markedText : List ℕ → List ℕ → List ℕ → List ℕ → List ℕ → Answer × List ℕ × List ℕ × List ℕ × List ℕ
-markedText text table work tree out = marking text out (parsedText text table work tree)
+unfoldable pub marked_text : List ℕ → List ℕ → List ℕ → List ℕ → List ℕ → Answer × List ℕ × List ℕ × List ℕ × List ℕ
+marked_text text table work tree out = marking text out (parsed_text text table work tree)

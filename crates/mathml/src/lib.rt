@@ -7,7 +7,7 @@ mod place;
 ghost use Rattle.std.specs.Prelude.{◌≡◌, true, ◌≤◌};
 ghost use Rattle.mathml_length.specs.Length.{longest};
 ghost use Rattle.mathml.specs.Walks.{ItemsPut, RootPut};
-ghost use Rattle.mathml.specs.Call.{answer_of, writtenAs, TreeMarked, markedText};
+ghost use Rattle.mathml.specs.Call.{answer_of, written_as, TreeMarked, marked_text};
 
 use mathml_rules::Mode;
 use mathml_tags::elements;
@@ -81,7 +81,7 @@ fn has_room(text: usize, out: usize) -> bool
 // The MathML of the tree whose words stand first in `words`, or 11 or 12. Where it might not fit, its length is found first, with a
 // buffer of one byte, so that a buffer that is too short stays as it was.
 fn mark_tree(words: &[u32], text: &[u8], out: &mut [u8], items: usize) -> Written
-    ensures { TreeMarked words.now text.now out.old items out.new (writtenAs result) }
+    ensures { TreeMarked words.now text.now out.old items out.new (written_as result) }
 {
     let passed = pass_row(words, text, 0, items, true);
     if passed.refused {
@@ -109,7 +109,7 @@ pub fn mathml(
     out: &mut [u8],
 ) -> Marked
     ensures { (answer_of result, table.new, work.new, tree.new, out.new)
-        ≡ markedText text.now table.old work.old tree.old out.old }
+        ≡ marked_text text.now table.old work.old tree.old out.old }
 {
     match parse(text, table, work, tree) {
         Parsed::Refused(k) => Marked::Refused(k),

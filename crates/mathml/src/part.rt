@@ -2,10 +2,10 @@
 // begins.
 ghost use Rattle.std.specs.Prelude.{◌≡◌, ◌≤◌, length};
 ghost use Rattle.writer.specs.Put.{Put};
-ghost use Rattle.tree.specs.Walk.{headAt};
+ghost use Rattle.tree.specs.Walk.{head_at};
 ghost use Rattle.mathml_rules.specs.Pieces.{written};
 ghost use Rattle.mathml_rules.specs.Parts.{swaps};
-ghost use Rattle.mathml.specs.Walks.{lastPart, begun, rowLeft, ChildPlace, ChildPut, LastPut, PartPut};
+ghost use Rattle.mathml.specs.Walks.{last_part, begun, row_left, ChildPlace, ChildPut, LastPut, PartPut};
 
 use crate::pass::node_end;
 use crate::place::inner_place;
@@ -30,7 +30,7 @@ pub(crate) struct Part {
 
 // The last part of a node that ends at `at`.
 fn no_more(at: usize, end: usize, mode: Mode) -> Part
-    ensures { result ≡ lastPart at end mode }
+    ensures { result ≡ last_part at end mode }
 {
     Part {
         more: false,
@@ -53,7 +53,7 @@ fn put_begun(
     m: Mode,
     i: usize,
 ) -> usize
-    ensures { Put out.old place out.new result (written (begun text.now m (headAt words.now kind head) i)) }
+    ensures { Put out.old place out.new result (written (begun text.now m (head_at words.now kind head) i)) }
 {
     if i == 0 {
         return put_opening(words, text, out, place, kind, head, m);
@@ -73,7 +73,7 @@ fn child_place(
 ) -> usize
     requires from_in_bounds { from ≤ length words.now }
     requires next_in_bounds { next ≤ length words.now }
-    ensures { ChildPlace words.now (swaps text.now (headAt words.now kind head)) from i next result }
+    ensures { ChildPlace words.now (swaps text.now (head_at words.now kind head)) from i next result }
 {
     if swaps_children(words, text, kind, head) {
         if i == 1 {
@@ -90,7 +90,7 @@ fn child_place(
 
 // The cells left in the row of child i.
 fn row_left(words: &[u32], kind: u32, head: usize, i: usize, left: usize) -> usize
-    ensures { result ≡ rowLeft (headAt words.now kind head) i left }
+    ensures { result ≡ row_left (head_at words.now kind head) i left }
 {
     if i == 0 {
         return columns(words, kind, head);

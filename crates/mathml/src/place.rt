@@ -1,8 +1,8 @@
 // Where a node stands in the words, and what can be told of it there at once.
 ghost use Rattle.std.specs.Prelude.{◌≡◌, true, ◌≤◌, length};
 ghost use Rattle.tree.specs.Tree.{Script, Head};
-ghost use Rattle.tree.specs.Walk.{headAt};
-ghost use Rattle.mathml.specs.Walks.{OwnPlace, InnerPlace, countAt};
+ghost use Rattle.tree.specs.Walk.{head_at};
+ghost use Rattle.mathml.specs.Walks.{OwnPlace, InnerPlace, count_at};
 
 use tree::kinds::{NODE_SIGNED, NODE_SIMPLE};
 use tree::walk::{own_words, word};
@@ -35,7 +35,7 @@ fn own_place(words: &[u32], at: usize, items: bool) -> usize
 // Whether the node at a place has no children, by its kind.
 pub(crate) fn is_leaf(words: &[u32], at: usize, items: bool) -> bool
     requires { at ≤ length words.now }
-    ensures { result ≡ true → countAt words.now at items ≡ 0 }
+    ensures { result ≡ true → count_at words.now at items ≡ 0 }
 {
     let head = own_place(words, at, items);
     if head < words.len() {
@@ -46,7 +46,7 @@ pub(crate) fn is_leaf(words: &[u32], at: usize, items: bool) -> bool
 
 // A simple without script.
 fn is_bare(words: &[u32], kind: u32, head: usize) -> bool
-    ensures { result ≡ true → (kind ≡ 13) × (headAt words.now kind head ≡ Head.simple Script.none) }
+    ensures { result ≡ true → (kind ≡ 13) × (head_at words.now kind head ≡ Head.simple Script.none) }
 {
     if kind == NODE_SIMPLE {
         word(own_words(words, head), 3) == 0

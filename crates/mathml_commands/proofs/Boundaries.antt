@@ -8,9 +8,9 @@ use lib.Dec.{eqb}
 use lib.ListN.{length, get_or, take, drop, drop_of_length-le}
 use lib.Seq.{drop-cons, take-suc, take_all}
 use borrow.Author.Tests.{eq-eqb, ne_eqb, eqb-true}
-use Rattle.tokens.proofs.Cases.{by-test, clash}
+use Rattle.tokens.proofs.Cases.{by_test, clash}
 use Rattle.mathml_rules.specs.Mathml.{has}
-use Rattle.mathml_rules.specs.Refusal.{twice, refusedLines}
+use Rattle.mathml_rules.specs.Refusal.{twice, refused_lines}
 use Rattle.mathml_rules.proofs.Lists.{neither}
 
 -- whether a line is at boundary j, from line i on
@@ -33,17 +33,17 @@ unfolding has
 has-at [] i h = absurd (omega arith)
 has-at (a ∷ l) zero h = rw (eq-eqb a a refl)
 has-at (a ∷ l) (suc i) h =
-    by-test (eqb (get_or l i 0) a) (λ e. rw e) (λ e. rw e (has-at l i (omega arith)))
+    by_test (eqb (get_or l i 0) a) (λ e. rw e) (λ e. rw e (has-at l i (omega arith)))
 
 twice-at : (l : List ℕ) (i : ℕ) → i < length l → has (get_or l i 0) (take i l) ≡ true → twice l ≡ true
 unfolding has twice
 twice-at [] i h e = absurd (omega arith)
 twice-at (a ∷ l) zero h e = clash false e refl
 twice-at (a ∷ l) (suc i) h e =
-    by-test (eqb (get_or l i 0) a)
+    by_test (eqb (get_or l i 0) a)
     (λ d. let q : has a l ≡ true = rw (sym (eqb-true (get_or l i 0) a d)) (has-at l i (omega arith)) in rw q)
     (λ d.
-    by-test (has a l) (λ q. rw q) (λ q. rw q (twice-at l i (omega arith) (rw d at e))))
+    by_test (has a l) (λ q. rw q) (λ q. rw q (twice-at l i (omega arith) (rw d at e))))
 
 has-snoc : (l : List ℕ) (j x : ℕ) → has j l ≡ false → (x ≡ j → ⊥) → has j (l ++ (x ∷ [])) ≡ false
 unfolding has
@@ -62,34 +62,34 @@ twice-snoc (a ∷ l) x e f =
 
 module _ (cols : ℕ) (lines : List ℕ) where
   module _ (i : ℕ) (h : i < length lines) where
-    pub at_zero : get_or lines i 0 ≡ 0 → true ≡ refusedLines cols lines
-    unfolding refusedLines
-    at_zero e = let q : has 0 lines ≡ true = rw (sym e) (has-at lines i h) in sym (rw (q, refusedLines))
+    pub at_zero : get_or lines i 0 ≡ 0 → true ≡ refused_lines cols lines
+    unfolding refused_lines
+    at_zero e = let q : has 0 lines ≡ true = rw (sym e) (has-at lines i h) in sym (rw (q, refused_lines))
 
-    pub at-cols : get_or lines i 0 ≡ cols → true ≡ refusedLines cols lines
-    unfolding refusedLines
-    at-cols e =
+    pub at_cols : get_or lines i 0 ≡ cols → true ≡ refused_lines cols lines
+    unfolding refused_lines
+    at_cols e =
         let q : has cols lines ≡ true = rw (sym e) (has-at lines i h) in
-        by-test (has 0 lines) (λ d. rw (d, refusedLines)) (λ d. rw (d, q, refusedLines))
+        by_test (has 0 lines) (λ d. rw (d, refused_lines)) (λ d. rw (d, q, refused_lines))
 
-    pub at_both : true ≡ has (get_or lines i 0) (take i lines) → true ≡ refusedLines cols lines
-    unfolding refusedLines
+    pub at_both : true ≡ has (get_or lines i 0) (take i lines) → true ≡ refused_lines cols lines
+    unfolding refused_lines
     at_both e =
         let q : twice lines ≡ true = twice-at lines i h (sym e) in
-        by-test (has 0 lines) (λ d. rw (d, refusedLines))
-        (λ d. by-test (has cols lines) (λ g. rw (d, g, refusedLines)) (λ g. rw (d, g, q, refusedLines)))
+        by_test (has 0 lines) (λ d. rw (d, refused_lines))
+        (λ d. by_test (has cols lines) (λ g. rw (d, g, refused_lines)) (λ g. rw (d, g, q, refused_lines)))
 
   -- the first i lines are let pass, and none of them is past the highest
   pub record Passed (highest i : ℕ) : Type 0 where
     pub inside : i ≤ length lines
     pub zero-none : has 0 (take i lines) ≡ false
-    pub cols-none : has cols (take i lines) ≡ false
+    pub cols_none : has cols (take i lines) ≡ false
     pub once : twice (take i lines) ≡ false
     pub below : (b : ℕ) → highest < b → has b (take i lines) ≡ false
 
   pub first : Passed 0 0
   unfolding has twice
-  first = record { inside = omega arith; zero-none = refl; cols-none = refl; once = refl; below = λ b h. refl }
+  first = record { inside = omega arith; zero-none = refl; cols_none = refl; once = refl; below = λ b h. refl }
 
   -- one more
   next : (highest i higher : ℕ) → Passed highest i → i < length lines → (get_or lines i 0 ≡ 0 → ⊥) → (get_or lines i 0 ≡ cols → ⊥) → has (get_or lines i 0) (take i lines) ≡ false → highest ≤ higher → get_or lines i 0 ≤ higher → Passed higher (suc i)
@@ -97,7 +97,7 @@ module _ (cols : ℕ) (lines : List ℕ) where
       record {
         inside = h;
         zero-none = rw (take-suc lines i 0 h) (has-snoc (take i lines) 0 (get_or lines i 0) p.zero-none z);
-        cols-none = rw (take-suc lines i 0 h) (has-snoc (take i lines) cols (get_or lines i 0) p.cols-none c);
+        cols_none = rw (take-suc lines i 0 h) (has-snoc (take i lines) cols (get_or lines i 0) p.cols_none c);
         once = rw (take-suc lines i 0 h) (twice-snoc (take i lines) (get_or lines i 0) p.once n);
         below = λ b w. rw (take-suc lines i 0 h) (has-snoc (take i lines) b (get_or lines i 0) (p.below b (omega arith)) (λ e. absurd (omega arith)));
       }
@@ -108,8 +108,8 @@ module _ (cols : ℕ) (lines : List ℕ) where
   pub lower : (highest i : ℕ) → Passed highest i → i < length lines → (get_or lines i 0 ≡ 0 → ⊥) → (get_or lines i 0 ≡ cols → ⊥) → get_or lines i 0 ≤ highest → false ≡ has (get_or lines i 0) (take i lines) → Passed highest (suc i)
   lower highest i p h z c u n = next highest i highest p h z c (sym n) (omega arith) u
 
-  pub all-passed : (highest i : ℕ) → Passed highest i → length lines ≤ i → false ≡ refusedLines cols lines
-  unfolding refusedLines
+  pub all-passed : (highest i : ℕ) → Passed highest i → length lines ≤ i → false ≡ refused_lines cols lines
+  unfolding refused_lines
   all-passed highest i p h =
       let t : take i lines ≡ lines = take_all i lines h in
-      sym (rw (rw t at p.zero-none, rw t at p.cols-none, rw t at p.once, refusedLines))
+      sym (rw (rw t at p.zero-none, rw t at p.cols_none, rw t at p.once, refused_lines))

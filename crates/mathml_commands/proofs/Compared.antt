@@ -8,7 +8,7 @@ use lib.ListN.{length, get_or, drop, drop_of_length-le}
 use lib.Seq.{drop-cons}
 use borrow.Author.Tests.{eq-eqb, ne_eqb}
 use Rattle.tokens.specs.Bytes.{same}
-use Rattle.tokens.proofs.Cases.{by-test, clash}
+use Rattle.tokens.proofs.Cases.{by_test, clash}
 use Rattle.lexing.proofs.Moves.{same-is}
 use Rattle.mathml_rules.specs.Refusal.{control, controls}
 
@@ -19,8 +19,8 @@ same_self (a ∷ s) = rw (eq-eqb a a refl, same_self s)
 
 pub same-turned : (s t : List ℕ) → same s t ≡ same t s
 same-turned s t =
-    by-test (same s t) (λ e. e ∙ sym (rw (same-is s t e) (same_self t)))
-    (λ e. by-test (same t s) (λ f. clash (same s t) (rw (same-is t s f) (same_self s)) e) (λ f. e ∙ sym f))
+    by_test (same s t) (λ e. e ∙ sym (rw (same-is s t e) (same_self t)))
+    (λ e. by_test (same t s) (λ f. clash (same s t) (rw (same-is t s f) (same_self s)) e) (λ f. e ∙ sym f))
 
 module _ (c : ℕ) where
   pub control-tab : c ≡ 9 → false ≡ control c
@@ -39,7 +39,7 @@ module _ (c : ℕ) where
   unfolding control
   control-other p q r =
       rw (ne_eqb c 9 p, ne_eqb c 10 q, ne_eqb c 13 r, control)
-      (by-test (ltb c 32) (λ e. rw e) (λ e. rw e))
+      (by_test (ltb c 32) (λ e. rw e) (λ e. rw e))
 
 module _ (s : List ℕ) (i : ℕ) where
   pub controls-past : length s ≤ i → false ≡ controls (drop i s)

@@ -8,7 +8,7 @@ use lib.Dec.{eqb}
 use lib.ListN.{length, get_or}
 use borrow.Author.Tests.{ne_eqb}
 use Rattle.tokens.specs.Bytes.{bytes, same}
-use Rattle.tokens.proofs.Cases.{by-test}
+use Rattle.tokens.proofs.Cases.{by_test}
 use Rattle.mathml_rules.specs.declared.Mode.{Mode}
 use Rattle.mathml_rules.specs.declared.Mode.TheVariants as mode
 use Rattle.mathml_rules.specs.Mathml.{pair, dropped}
@@ -20,11 +20,11 @@ or-false false = refl
 module _ (l r : ℕ) where
   pub argument-round : l ≡ 40 → eqb r 41 ≡ dropped mode.Argument (l ∷ []) (r ∷ [])
   unfolding dropped pair same
-  argument-round e = rw e (by-test (eqb r 41) (λ d. rw d) (λ d. rw d))
+  argument-round e = rw e (by_test (eqb r 41) (λ d. rw d) (λ d. rw d))
 
   pub argument-curly : l ≡ 123 → eqb r 125 ≡ dropped mode.Argument (l ∷ []) (r ∷ [])
   unfolding dropped pair same
-  argument-curly e = rw e (by-test (eqb r 125) (λ d. rw d) (λ d. rw d))
+  argument-curly e = rw e (by_test (eqb r 125) (λ d. rw d) (λ d. rw d))
 
   pub argument-other : (l ≡ 40 → ⊥) → (l ≡ 123 → ⊥) → false ≡ dropped mode.Argument (l ∷ []) (r ∷ [])
   unfolding dropped pair same
@@ -32,7 +32,7 @@ module _ (l r : ℕ) where
 
   pub text-square : l ≡ 91 → eqb r 93 ≡ dropped mode.Text (l ∷ []) (r ∷ [])
   unfolding dropped pair same
-  text-square e = rw e (by-test (eqb r 93) (λ d. rw d) (λ d. rw d))
+  text-square e = rw e (by_test (eqb r 93) (λ d. rw d) (λ d. rw d))
 
   pub text-other : (l ≡ 91 → ⊥) → (q : Bool) → q ≡ dropped mode.Argument (l ∷ []) (r ∷ []) → q ≡ dropped mode.Text (l ∷ []) (r ∷ [])
   unfolding dropped pair same
@@ -44,11 +44,11 @@ one_byte [] e = absurd (omega arith)
 one_byte (a ∷ []) e = refl
 one_byte (a ∷ b ∷ s) e = absurd (omega arith)
 
-not-one : (s : List ℕ) (b : ℕ) → (length s ≡ 1 → ⊥) → same s (b ∷ []) ≡ false
+not_one : (s : List ℕ) (b : ℕ) → (length s ≡ 1 → ⊥) → same s (b ∷ []) ≡ false
 unfolding same
-not-one [] b h = refl
-not-one (a ∷ []) b h = absurd (h refl)
-not-one (a ∷ c ∷ s) b h = by-test (eqb a b) (λ e. rw e) (λ e. rw e)
+not_one [] b h = refl
+not_one (a ∷ []) b h = absurd (h refl)
+not_one (a ∷ c ∷ s) b h = by_test (eqb a b) (λ e. rw e) (λ e. rw e)
 
 and-false : (b : Bool) → (b && false) ≡ false
 and-false true = refl
@@ -60,8 +60,8 @@ module _ (m : Mode) (left right : List ℕ) where
   left-long h =
       elim m [
         | mode.Keep ↦ refl
-        | mode.Argument ↦ rw (not-one left 40 h, not-one left 123 h)
-        | mode.Text ↦ rw (not-one left 40 h, not-one left 123 h, not-one left 91 h)
+        | mode.Argument ↦ rw (not_one left 40 h, not_one left 123 h)
+        | mode.Text ↦ rw (not_one left 40 h, not_one left 123 h, not_one left 91 h)
       ]
 
   pub right-long : (length right ≡ 1 → ⊥) → false ≡ dropped m left right
@@ -72,8 +72,8 @@ module _ (m : Mode) (left right : List ℕ) where
       let c = and-false (same left (bytes "[")) in
       elim m [
         | mode.Keep ↦ refl
-        | mode.Argument ↦ rw (not-one right 41 h, not-one right 125 h, a, b)
-        | mode.Text ↦ rw (not-one right 41 h, not-one right 125 h, not-one right 93 h, a, b, c)
+        | mode.Argument ↦ rw (not_one right 41 h, not_one right 125 h, a, b)
+        | mode.Text ↦ rw (not_one right 41 h, not_one right 125 h, not_one right 93 h, a, b, c)
       ]
 
   -- two brackets of one byte, in a mode that is known

@@ -39,69 +39,69 @@ rows =
     row "overbrace" variant.Obrace ∷
     []
 
-unfoldable pub commandIn : List Row → List ℕ → Command
-commandIn [] s = variant.Unknown
-commandIn (r ∷ l) s = elim (same r.spelling s) [ true ↦ r.command | false ↦ commandIn l s ]
+unfoldable pub command_in : List Row → List ℕ → Command
+command_in [] s = variant.Unknown
+command_in (r ∷ l) s = elim (same r.spelling s) [ true ↦ r.command | false ↦ command_in l s ]
 
-unfoldable pub commandOf : List ℕ → Command
-commandOf s = commandIn rows s
+unfoldable pub command_of : List ℕ → Command
+command_of s = command_in rows s
 
 -- the number of its element; 0 is none
-abbrev pub elementFor : Command → ℕ
-elementFor variant.Unknown = 0
-elementFor variant.Sqrt = 24
-elementFor variant.Cancel = 25
-elementFor variant.Abs = 10
-elementFor variant.Norm = 10
-elementFor variant.Floor = 10
-elementFor variant.Ceil = 10
-elementFor variant.Hat = 26
-elementFor variant.Bar = 26
-elementFor variant.Vec = 26
-elementFor variant.Dot = 26
-elementFor variant.Ddot = 26
-elementFor variant.Tilde = 26
-elementFor variant.Arc = 26
-elementFor variant.Underline = 27
-elementFor variant.Ubrace = 29
-elementFor variant.Obrace = 28
+abbrev pub element_for : Command → ℕ
+element_for variant.Unknown = 0
+element_for variant.Sqrt = 24
+element_for variant.Cancel = 25
+element_for variant.Abs = 10
+element_for variant.Norm = 10
+element_for variant.Floor = 10
+element_for variant.Ceil = 10
+element_for variant.Hat = 26
+element_for variant.Bar = 26
+element_for variant.Vec = 26
+element_for variant.Dot = 26
+element_for variant.Ddot = 26
+element_for variant.Tilde = 26
+element_for variant.Arc = 26
+element_for variant.Underline = 27
+element_for variant.Ubrace = 29
+element_for variant.Obrace = 28
 
 -- the mark before the argument
-unfoldable pub leftMark : Command → List ℕ
-leftMark variant.Unknown = []
-leftMark variant.Sqrt = []
-leftMark variant.Cancel = []
-leftMark variant.Abs = utf8 "|"
-leftMark variant.Norm = utf8 "‖"
-leftMark variant.Floor = utf8 "⌊"
-leftMark variant.Ceil = utf8 "⌈"
-leftMark variant.Hat = []
-leftMark variant.Bar = []
-leftMark variant.Vec = []
-leftMark variant.Dot = []
-leftMark variant.Ddot = []
-leftMark variant.Tilde = []
-leftMark variant.Arc = []
-leftMark variant.Underline = []
-leftMark variant.Ubrace = []
-leftMark variant.Obrace = []
+unfoldable pub left_mark : Command → List ℕ
+left_mark variant.Unknown = []
+left_mark variant.Sqrt = []
+left_mark variant.Cancel = []
+left_mark variant.Abs = utf8 "|"
+left_mark variant.Norm = utf8 "‖"
+left_mark variant.Floor = utf8 "⌊"
+left_mark variant.Ceil = utf8 "⌈"
+left_mark variant.Hat = []
+left_mark variant.Bar = []
+left_mark variant.Vec = []
+left_mark variant.Dot = []
+left_mark variant.Ddot = []
+left_mark variant.Tilde = []
+left_mark variant.Arc = []
+left_mark variant.Underline = []
+left_mark variant.Ubrace = []
+left_mark variant.Obrace = []
 
 -- the mark behind it
-unfoldable pub rightMark : Command → List ℕ
-rightMark variant.Unknown = []
-rightMark variant.Sqrt = []
-rightMark variant.Cancel = []
-rightMark variant.Abs = utf8 "|"
-rightMark variant.Norm = utf8 "‖"
-rightMark variant.Floor = utf8 "⌋"
-rightMark variant.Ceil = utf8 "⌉"
-rightMark variant.Hat = utf8 "^"
-rightMark variant.Bar = utf8 "‾"
-rightMark variant.Vec = utf8 "→"
-rightMark variant.Dot = utf8 "˙"
-rightMark variant.Ddot = utf8 "¨"
-rightMark variant.Tilde = utf8 "~"
-rightMark variant.Arc = utf8 "⏜"
-rightMark variant.Underline = utf8 "_"
-rightMark variant.Ubrace = utf8 "⏟"
-rightMark variant.Obrace = utf8 "⏞"
+unfoldable pub right_mark : Command → List ℕ
+right_mark variant.Unknown = []
+right_mark variant.Sqrt = []
+right_mark variant.Cancel = []
+right_mark variant.Abs = utf8 "|"
+right_mark variant.Norm = utf8 "‖"
+right_mark variant.Floor = utf8 "⌋"
+right_mark variant.Ceil = utf8 "⌉"
+right_mark variant.Hat = utf8 "^"
+right_mark variant.Bar = utf8 "‾"
+right_mark variant.Vec = utf8 "→"
+right_mark variant.Dot = utf8 "˙"
+right_mark variant.Ddot = utf8 "¨"
+right_mark variant.Tilde = utf8 "~"
+right_mark variant.Arc = utf8 "⏜"
+right_mark variant.Underline = utf8 "_"
+right_mark variant.Ubrace = utf8 "⏟"
+right_mark variant.Obrace = utf8 "⏞"

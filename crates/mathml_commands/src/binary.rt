@@ -1,7 +1,7 @@
 // The element of a binary command.
 ghost use Rattle.std.specs.Prelude.{◌≡◌};
 ghost use Rattle.mathml_rules.specs.Commands.{exchanging};
-ghost use Rattle.mathml_rules.specs.Parts.{binaryElement, exchanges};
+ghost use Rattle.mathml_rules.specs.Parts.{binary_element, exchanges};
 
 use mathml_forms::key::key_of;
 use mathml_tags::elements;
@@ -15,7 +15,7 @@ const OVERSET: u64 = 1076624793107311;
 const UNDERSET: u64 = 137807973517440885;
 
 pub fn binary_element(s: &[u8]) -> usize
-    ensures { result ≡ binaryElement exchanging s.now }
+    ensures { result ≡ binary_element exchanging s.now }
 {
     match key_of(s) {
         ROOT => elements::MROOT,

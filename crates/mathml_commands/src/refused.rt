@@ -1,7 +1,7 @@
 // What a tree may not hold for its MathML (refusal 11), node by node.
 ghost use Rattle.std.specs.Prelude.{◌≡◌};
 ghost use Rattle.mathml_rules.specs.Mathml.{has};
-ghost use Rattle.mathml_rules.specs.Refusal.{one_of, fonts, refusedBinaries, control, controls, refusedLines};
+ghost use Rattle.mathml_rules.specs.Refusal.{one_of, fonts, refused_binaries, control, controls, refused_lines};
 
 use mathml_forms::key::key_of;
 
@@ -81,7 +81,7 @@ pub fn is_refused_unary(s: &[u8]) -> bool
 }
 
 pub fn is_refused_binary(s: &[u8]) -> bool
-    ensures { result ≡ one_of refusedBinaries s.now }
+    ensures { result ≡ one_of refused_binaries s.now }
 {
     match key_of(s) {
         ID | CLASS | COLOR => true,
@@ -128,7 +128,7 @@ fn has_line(lines: &[u32], b: u32) -> bool
 // Whether a line is at boundary 0 or `cols`, or two are at one boundary. A line past all before it is at no boundary of theirs, so lines
 // in order are looked at once.
 pub fn refuses_lines(cols: usize, lines: &[u32]) -> bool
-    ensures { result ≡ refusedLines cols lines.now }
+    ensures { result ≡ refused_lines cols lines.now }
 {
     let mut highest = 0;
     let mut i = 0;

@@ -4,8 +4,8 @@ ghost use Rattle.tokens.specs.Bytes.{bytes, same};
 ghost use Rattle.writer.specs.Put.{Put};
 ghost use Rattle.mathml_rules.specs.Pieces.{written};
 ghost use Rattle.mathml_rules.specs.Commands.{unaries, mark};
-ghost use Rattle.mathml_rules.specs.Parts.{beginUnary, finishUnary};
-ghost use Rattle.mathml_commands.specs.Spelled.{commandOf, elementFor, leftMark, rightMark};
+ghost use Rattle.mathml_rules.specs.Parts.{begin_unary, finish_unary};
+ghost use Rattle.mathml_commands.specs.Spelled.{command_of, element_for, left_mark, right_mark};
 
 use mathml_forms::equal::same_bytes;
 use mathml_forms::key::key_of;
@@ -85,7 +85,7 @@ enum Command {
 }
 
 fn command_of(s: &[u8]) -> Command
-    ensures { result ≡ commandOf s.now }
+    ensures { result ≡ command_of s.now }
 {
     if same_bytes(s, b"underbrace") {
         return Command::Ubrace;
@@ -112,7 +112,7 @@ fn command_of(s: &[u8]) -> Command
 }
 
 fn element_of(c: Command) -> usize
-    ensures { result ≡ elementFor c }
+    ensures { result ≡ element_for c }
 {
     match c {
         Command::Unknown => NO_ELEMENT,
@@ -137,7 +137,7 @@ fn element_of(c: Command) -> usize
 
 // The mark before the argument.
 fn put_left(out: &mut [u8], at: usize, c: Command) -> usize
-    ensures { Put out.old at out.new result (written (mark (leftMark c))) }
+    ensures { Put out.old at out.new result (written (mark (left_mark c))) }
 {
     match c {
         Command::Abs => put_leaf(out, at, elements::MO, b"|"),
@@ -150,7 +150,7 @@ fn put_left(out: &mut [u8], at: usize, c: Command) -> usize
 
 // The mark behind it.
 fn put_right(out: &mut [u8], at: usize, c: Command) -> usize
-    ensures { Put out.old at out.new result (written (mark (rightMark c))) }
+    ensures { Put out.old at out.new result (written (mark (right_mark c))) }
 {
     match c {
         Command::Abs => put_leaf(out, at, elements::MO, b"|"),
@@ -173,7 +173,7 @@ fn put_right(out: &mut [u8], at: usize, c: Command) -> usize
 
 // An unknown command puts nothing.
 pub fn put_begin_unary(out: &mut [u8], at: usize, s: &[u8]) -> usize
-    ensures { Put out.old at out.new result (written (beginUnary unaries s.now)) }
+    ensures { Put out.old at out.new result (written (begin_unary unaries s.now)) }
 {
     let c = command_of(s);
     let e = element_of(c);
@@ -185,7 +185,7 @@ pub fn put_begin_unary(out: &mut [u8], at: usize, s: &[u8]) -> usize
 }
 
 pub fn put_finish_unary(out: &mut [u8], at: usize, s: &[u8]) -> usize
-    ensures { Put out.old at out.new result (written (finishUnary unaries s.now)) }
+    ensures { Put out.old at out.new result (written (finish_unary unaries s.now)) }
 {
     let c = command_of(s);
     let e = element_of(c);

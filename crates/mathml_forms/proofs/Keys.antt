@@ -8,7 +8,7 @@ use lib.Dec.{leb, ltb}
 use lib.ListN.{length, get_or, drop, length-drop}
 use lib.Seq.{drop-cons, drop-length}
 use borrow.Author.Tests.{ltb-true, lt-ltb, le-leb, lt-leb}
-use Rattle.tokens.proofs.Cases.{by-test}
+use Rattle.tokens.proofs.Cases.{by_test}
 use Rattle.mathml_rules.proofs.Lists.{both}
 use Rattle.mathml_forms.specs.Keys.{key, ascii, key_of}
 
@@ -34,7 +34,7 @@ same_keys (a ∷ s) (b ∷ t) p q e =
 pub key-of : (s : List ℕ) → 0 < key_of s → (ascii s ≡ true) × (key_of s ≡ key s)
 unfolding key_of
 key-of s h =
-    by-test (leb (length s) 9 && ascii s) (λ e. ((both (leb (length s) 9) (ascii s) e).1, rw (e, key_of)))
+    by_test (leb (length s) 9 && ascii s) (λ e. ((both (leb (length s) 9) (ascii s) e).1, rw (e, key_of)))
     (λ e. absurd (omega (arith, rw (e, key_of) at h)))
 
 pub key_one : (s t : List ℕ) → key_of s ≡ key_of t → 0 < key_of s → s ≡ t
@@ -103,8 +103,8 @@ ascii-at [] i h p = absurd (omega arith)
 ascii-at (b ∷ s) zero h p = ltb-true b 128 (both (ltb b 128) (ascii s) p).0
 ascii-at (b ∷ s) (suc i) h p = ascii-at s i (omega arith) (both (ltb b 128) (ascii s) p).1
 
-pub too-high : (s : List ℕ) (i : ℕ) → i < length s → 128 ≤ get_or s i 0 → 0 ≡ key_of s
+pub too_high : (s : List ℕ) (i : ℕ) → i < length s → 128 ≤ get_or s i 0 → 0 ≡ key_of s
 unfolding key_of
-too-high s i h f =
-    by-test (leb (length s) 9 && ascii s) (λ e. absurd (omega (arith, ascii-at s i h (both (leb (length s) 9) (ascii s) e).1)))
+too_high s i h f =
+    by_test (leb (length s) 9 && ascii s) (λ e. absurd (omega (arith, ascii-at s i h (both (leb (length s) 9) (ascii s) e).1)))
     (λ e. rw (e, key_of))

@@ -8,7 +8,7 @@ use native.Mathlib.Numerals.{add-one}
 use lib.ListN.{length, get_or, drop}
 use lib.Seq.{drop-cons, drop-length}
 use borrow.Author.Tests.{eq-eqb, ne_eqb}
-use Rattle.tokens.proofs.Cases.{by-test, clash}
+use Rattle.tokens.proofs.Cases.{by_test, clash}
 use Rattle.tokens.specs.Bytes.{same}
 use Rattle.lexing.proofs.Moves.{same-is}
 
@@ -18,10 +18,10 @@ same_self [] = refl
 same_self (b ∷ s) = rw (eq-eqb b b refl) (same_self s)
 
 pub not_same : (s t : List ℕ) → (s ≡ t → ⊥) → same s t ≡ false
-not_same s t n = by-test (same s t) (λ e. absurd (n (same-is s t e))) (λ e. e)
+not_same s t n = by_test (same s t) (λ e. absurd (n (same-is s t e))) (λ e. e)
 
-pub is-not : (s t : List ℕ) → same s t ≡ false → s ≡ t → ⊥
-is-not s t e p = clash (same s t) (rw p (same_self t)) e
+pub is_not : (s t : List ℕ) → same s t ≡ false → s ≡ t → ⊥
+is_not s t e p = clash (same s t) (rw p (same_self t)) e
 
 pub other_length : (s t : List ℕ) → (length s ≡ length t → ⊥) → false ≡ same s t
 other_length s t n = sym (not_same s t (λ e. n (rw e)))

@@ -16,17 +16,17 @@ word_of none = 0
 word_of (some t) = packed 1 t
 
 -- the form of the row whose spelling is s; 0 if it has none, or there is no such row
-unfoldable pub formWordBy : List Form → List ℕ → ℕ
-formWordBy [] s = 0
-formWordBy (r ∷ rs) s = elim (same r.spelling s) [ true ↦ word_of r.form | false ↦ formWordBy rs s ]
+unfoldable pub form_word_by : List Form → List ℕ → ℕ
+form_word_by [] s = 0
+form_word_by (r ∷ rs) s = elim (same r.spelling s) [ true ↦ word_of r.form | false ↦ form_word_by rs s ]
 
-unfoldable pub formWord : List ℕ → ℕ
-formWord s = formWordBy forms s
+unfoldable pub form_word : List ℕ → ℕ
+form_word s = form_word_by forms s
 
 -- the same by the key of a short spelling; 0 is no key
-unfoldable pub keyWordBy : List Form → ℕ → ℕ
-keyWordBy [] k = 0
-keyWordBy (r ∷ rs) k = elim (eqb (key_of r.spelling) k) [ true ↦ word_of r.form | false ↦ keyWordBy rs k ]
+unfoldable pub key_word_by : List Form → ℕ → ℕ
+key_word_by [] k = 0
+key_word_by (r ∷ rs) k = elim (eqb (key_of r.spelling) k) [ true ↦ word_of r.form | false ↦ key_word_by rs k ]
 
-unfoldable pub keyWord : ℕ → ℕ
-keyWord k = elim (eqb k 0) [ true ↦ 0 | false ↦ keyWordBy forms k ]
+unfoldable pub key_word : ℕ → ℕ
+key_word k = elim (eqb k 0) [ true ↦ 0 | false ↦ key_word_by forms k ]

@@ -1,7 +1,7 @@
 // The display forms by their spellings, each as one number: a form's bytes behind a 1, so that the empty form is 1; 0 is no form. The rows
 // are written by tools/make_mathml_forms.py.
 ghost use Rattle.std.specs.Prelude.{◌≡◌};
-ghost use Rattle.mathml_forms.specs.Words.{formWord, keyWord};
+ghost use Rattle.mathml_forms.specs.Words.{form_word, key_word};
 
 use crate::equal::same_bytes;
 use crate::key::key_of;
@@ -9,7 +9,7 @@ use crate::key::key_of;
 const MOST_WITH_KEY: usize = 9;
 
 fn short_word(key: u64) -> u64
-    ensures { result ≡ keyWord key }
+    ensures { result ≡ key_word key }
 {
     match key {
         3102369 => 0x1e289a2, // !-= as ≢
@@ -307,7 +307,7 @@ fn short_word(key: u64) -> u64
 }
 
 pub fn form_word(s: &[u8]) -> u64
-    ensures { result ≡ formWord s.now }
+    ensures { result ≡ form_word s.now }
 {
     if s.len() <= MOST_WITH_KEY {
         return short_word(key_of(s));

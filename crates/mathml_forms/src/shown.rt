@@ -2,7 +2,7 @@
 ghost use Rattle.writer.specs.Put.{Put};
 ghost use Rattle.mathml_rules.specs.Pieces.{esc, written, L};
 ghost use Rattle.mathml_rules.specs.Forms.{shown};
-ghost use Rattle.mathml_forms.specs.Drawn.{unpacked, drawnAs, bracket};
+ghost use Rattle.mathml_forms.specs.Drawn.{unpacked, drawn_as, bracket};
 
 use crate::forms::form_word;
 use mathml_tags::elements;
@@ -29,7 +29,7 @@ fn put_packed(out: &mut [u8], at: usize, word: u64) -> usize
 
 // A text that has this word as its form.
 fn put_by_word(out: &mut [u8], at: usize, word: u64, s: &[u8]) -> usize
-    ensures { Put out.old at out.new result (esc (drawnAs word s.now)) }
+    ensures { Put out.old at out.new result (esc (drawn_as word s.now)) }
 {
     if word == NO_FORM {
         put_escaped(out, at, s)

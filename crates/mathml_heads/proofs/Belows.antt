@@ -5,21 +5,21 @@ use mathlib.Core.Bool.{false}
 use mathlib.Core.List.{List, []}
 use native.Mathlib.Omega.{arith}
 use lib.ListN.{get_or, drop}
-use Rattle.tree.specs.Decode.{kindHead}
-use Rattle.tree.specs.Walk.{headedAt, lines_of, headAt}
+use Rattle.tree.specs.Decode.{kind_head}
+use Rattle.tree.specs.Walk.{headed_at, lines_of, head_at}
 use Rattle.mathml_rules.specs.declared.Mode.{Mode}
 use Rattle.mathml_rules.specs.declared.Mode.TheVariants as mode
 use Rattle.mathml_rules.specs.Pieces.{Piece, written}
 use Rattle.mathml_rules.specs.Commands.{exchanging}
-use Rattle.mathml_rules.specs.Mathml.{own, textMode, simpleMode, funcMode, handed}
-use Rattle.mathml_rules.specs.Parts.{exchanges, betweenFunc, betweenRows, before, swaps, colsOf, cellsLeft}
-use Rattle.mathml_heads.specs.Spans.{leftSpan, scriptOf}
-use Rattle.mathml_heads.proofs.ByKind.{by-kinds}
+use Rattle.mathml_rules.specs.Mathml.{own, text_mode, simple_mode, func_mode, handed}
+use Rattle.mathml_rules.specs.Parts.{exchanges, between_func, between_rows, before, swaps, cols_of, cells_left}
+use Rattle.mathml_heads.specs.Spans.{left_span, script_of}
+use Rattle.mathml_heads.proofs.ByKind.{by_kinds}
 
-before-none : (text words lines : List ℕ) (m : Mode) (k : ℕ) → (k ≡ 14 → ⊥) → (k ≡ 16 → ⊥) → (i left : ℕ) → ◌≡◌ {A = List Piece} [] (before text (kindHead k words lines) i left)
-unfolding kindHead before
+before-none : (text words lines : List ℕ) (m : Mode) (k : ℕ) → (k ≡ 14 → ⊥) → (k ≡ 16 → ⊥) → (i left : ℕ) → ◌≡◌ {A = List Piece} [] (before text (kind_head k words lines) i left)
+unfolding kind_head before
 before-none text words lines m =
-    by-kinds (λ k. (k ≡ 14 → ⊥) → (k ≡ 16 → ⊥) → (i left : ℕ) → ◌≡◌ {A = List Piece} [] (before text (kindHead k words lines) i left))
+    by_kinds (λ k. (k ≡ 14 → ⊥) → (k ≡ 16 → ⊥) → (i left : ℕ) → ◌≡◌ {A = List Piece} [] (before text (kind_head k words lines) i left))
     (λ n14 n16. λ i left. refl)
     (λ n14 n16. λ i left. refl)
     (λ n14 n16. λ i left. refl)
@@ -41,10 +41,10 @@ before-none text words lines m =
     (λ n14 n16. λ i left. refl)
     (λ k n14 n16. λ i left. refl)
 
-mode-keep : (text words lines : List ℕ) (m : Mode) (k : ℕ) → (k ≡ 10 → ⊥) → (k ≡ 12 → ⊥) → (k ≡ 13 → ⊥) → (k ≡ 14 → ⊥) → (k ≡ 18 → ⊥) → (i : ℕ) → mode.Keep ≡ handed text m (kindHead k words lines) i
-unfolding kindHead handed
+mode-keep : (text words lines : List ℕ) (m : Mode) (k : ℕ) → (k ≡ 10 → ⊥) → (k ≡ 12 → ⊥) → (k ≡ 13 → ⊥) → (k ≡ 14 → ⊥) → (k ≡ 18 → ⊥) → (i : ℕ) → mode.Keep ≡ handed text m (kind_head k words lines) i
+unfolding kind_head handed
 mode-keep text words lines m =
-    by-kinds (λ k. (k ≡ 10 → ⊥) → (k ≡ 12 → ⊥) → (k ≡ 13 → ⊥) → (k ≡ 14 → ⊥) → (k ≡ 18 → ⊥) → (i : ℕ) → mode.Keep ≡ handed text m (kindHead k words lines) i)
+    by_kinds (λ k. (k ≡ 10 → ⊥) → (k ≡ 12 → ⊥) → (k ≡ 13 → ⊥) → (k ≡ 14 → ⊥) → (k ≡ 18 → ⊥) → (i : ℕ) → mode.Keep ≡ handed text m (kind_head k words lines) i)
     (λ n10 n12 n13 n14 n18. λ i. refl)
     (λ n10 n12 n13 n14 n18. λ i. refl)
     (λ n10 n12 n13 n14 n18. λ i. refl)
@@ -66,10 +66,10 @@ mode-keep text words lines m =
     (λ n10 n12 n13 n14 n18. absurd (n18 refl))
     (λ k n10 n12 n13 n14 n18. λ i. refl)
 
-swaps-none : (text words lines : List ℕ) (m : Mode) (k : ℕ) → (k ≡ 12 → ⊥) → false ≡ swaps text (kindHead k words lines)
-unfolding kindHead swaps
+swaps-none : (text words lines : List ℕ) (m : Mode) (k : ℕ) → (k ≡ 12 → ⊥) → false ≡ swaps text (kind_head k words lines)
+unfolding kind_head swaps
 swaps-none text words lines m =
-    by-kinds (λ k. (k ≡ 12 → ⊥) → false ≡ swaps text (kindHead k words lines))
+    by_kinds (λ k. (k ≡ 12 → ⊥) → false ≡ swaps text (kind_head k words lines))
     (λ n12. refl)
     (λ n12. refl)
     (λ n12. refl)
@@ -91,10 +91,10 @@ swaps-none text words lines m =
     (λ n12. refl)
     (λ k n12. refl)
 
-cols-none : (text words lines : List ℕ) (m : Mode) (k : ℕ) → (k ≡ 16 → ⊥) → 0 ≡ colsOf (kindHead k words lines)
-unfolding kindHead
-cols-none text words lines m =
-    by-kinds (λ k. (k ≡ 16 → ⊥) → 0 ≡ colsOf (kindHead k words lines))
+cols_none : (text words lines : List ℕ) (m : Mode) (k : ℕ) → (k ≡ 16 → ⊥) → 0 ≡ cols_of (kind_head k words lines)
+unfolding kind_head
+cols_none text words lines m =
+    by_kinds (λ k. (k ≡ 16 → ⊥) → 0 ≡ cols_of (kind_head k words lines))
     (λ n16. refl)
     (λ n16. refl)
     (λ n16. refl)
@@ -117,76 +117,76 @@ cols-none text words lines m =
     (λ k n16. refl)
 
 module _ (words text : List ℕ) (kind head : ℕ) (m : Mode) (i : ℕ) where
-  module _ {all s : List ℕ} (w : all ≡ drop head words) (t : s ≡ own text (leftSpan all)) where
-    left_is : s ≡ own text (leftSpan (drop head words))
-    left_is = t ∙ ap (λ (x : List ℕ). own text (leftSpan x)) w
+  module _ {all s : List ℕ} (w : all ≡ drop head words) (t : s ≡ own text (left_span all)) where
+    left_is : s ≡ own text (left_span (drop head words))
+    left_is = t ∙ ap (λ (x : List ℕ). own text (left_span x)) w
 
     pub before-func : (left : ℕ) {held : ℕ} → held ≡ get_or all 3 0 → kind ≡ 14 →
-        written (betweenFunc (scriptOf held) s i) ≡ written (before text (headAt words kind head) i left)
-    unfolding headAt kindHead before
+        written (between_func (script_of held) s i) ≡ written (before text (head_at words kind head) i left)
+    unfolding head_at kind_head before
     before-func left h e = rw (e, h, w, left_is)
 
-    pub mode-unary : kind ≡ 10 → textMode s ≡ handed text m (headAt words kind head) i
-    unfolding headAt kindHead handed
+    pub mode-unary : kind ≡ 10 → text_mode s ≡ handed text m (head_at words kind head) i
+    unfolding head_at kind_head handed
     mode-unary e = rw (e, left_is)
 
-    pub swaps-binary : kind ≡ 12 → exchanges exchanging s ≡ swaps text (headAt words kind head)
-    unfolding headAt kindHead swaps
+    pub swaps-binary : kind ≡ 12 → exchanges exchanging s ≡ swaps text (head_at words kind head)
+    unfolding head_at kind_head swaps
     swaps-binary e = rw (e, left_is)
 
   module _ {all : List ℕ} (w : all ≡ drop head words) where
-    pub mode-simple : {held : ℕ} → held ≡ get_or all 3 0 → kind ≡ 13 → simpleMode (scriptOf held) m i ≡ handed text m (headAt words kind head) i
-    unfolding headAt kindHead handed
+    pub mode-simple : {held : ℕ} → held ≡ get_or all 3 0 → kind ≡ 13 → simple_mode (script_of held) m i ≡ handed text m (head_at words kind head) i
+    unfolding head_at kind_head handed
     mode-simple h e = rw (e, h, w)
 
-    pub mode-func : {held : ℕ} → held ≡ get_or all 3 0 → kind ≡ 14 → funcMode (scriptOf held) i ≡ handed text m (headAt words kind head) i
-    unfolding headAt kindHead handed
+    pub mode-func : {held : ℕ} → held ≡ get_or all 3 0 → kind ≡ 14 → func_mode (script_of held) i ≡ handed text m (head_at words kind head) i
+    unfolding head_at kind_head handed
     mode-func h e = rw (e, h, w)
 
-    pub cols-matrix : {cols : ℕ} → cols ≡ get_or all 6 0 → kind ≡ 16 → cols ≡ colsOf (headAt words kind head)
-    unfolding headAt kindHead
-    cols-matrix h e = rw (e, h, w)
+    pub cols_matrix : {cols : ℕ} → cols ≡ get_or all 6 0 → kind ≡ 16 → cols ≡ cols_of (head_at words kind head)
+    unfolding head_at kind_head
+    cols_matrix h e = rw (e, h, w)
 
-  pub before-cell : (left : ℕ) → kind ≡ 16 → written (betweenRows left) ≡ written (before text (headAt words kind head) i left)
-  unfolding headAt kindHead before
+  pub before-cell : (left : ℕ) → kind ≡ 16 → written (between_rows left) ≡ written (before text (head_at words kind head) i left)
+  unfolding head_at kind_head before
   before-cell left e = rw e
 
-  pub before-other : (left : ℕ) → (kind ≡ 14 → ⊥) → (kind ≡ 16 → ⊥) → [] ≡ written (before text (headAt words kind head) i left)
-  unfolding headAt written
-  before-other left a b = ap written (before-none text (drop head words) (lines_of words (headedAt words head)) m kind a b i left)
+  pub before-other : (left : ℕ) → (kind ≡ 14 → ⊥) → (kind ≡ 16 → ⊥) → [] ≡ written (before text (head_at words kind head) i left)
+  unfolding head_at written
+  before-other left a b = ap written (before-none text (drop head words) (lines_of words (headed_at words head)) m kind a b i left)
 
-  pub mode-binary : kind ≡ 12 → mode.Argument ≡ handed text m (headAt words kind head) i
-  unfolding headAt kindHead handed
+  pub mode-binary : kind ≡ 12 → mode.Argument ≡ handed text m (head_at words kind head) i
+  unfolding head_at kind_head handed
   mode-binary e = rw e
 
-  pub mode-frac : kind ≡ 18 → mode.Argument ≡ handed text m (headAt words kind head) i
-  unfolding headAt kindHead handed
+  pub mode-frac : kind ≡ 18 → mode.Argument ≡ handed text m (head_at words kind head) i
+  unfolding head_at kind_head handed
   mode-frac e = rw e
 
   pub mode-other : (kind ≡ 10 → ⊥) → (kind ≡ 12 → ⊥) → (kind ≡ 13 → ⊥) → (kind ≡ 14 → ⊥) → (kind ≡ 18 → ⊥) →
-      mode.Keep ≡ handed text m (headAt words kind head) i
-  unfolding headAt
-  mode-other a b c d e = mode-keep text (drop head words) (lines_of words (headedAt words head)) m kind a b c d e i
+      mode.Keep ≡ handed text m (head_at words kind head) i
+  unfolding head_at
+  mode-other a b c d e = mode-keep text (drop head words) (lines_of words (headed_at words head)) m kind a b c d e i
 
-  pub swaps-other : (kind ≡ 12 → ⊥) → false ≡ swaps text (headAt words kind head)
-  unfolding headAt
-  swaps-other a = swaps-none text (drop head words) (lines_of words (headedAt words head)) m kind a
+  pub swaps-other : (kind ≡ 12 → ⊥) → false ≡ swaps text (head_at words kind head)
+  unfolding head_at
+  swaps-other a = swaps-none text (drop head words) (lines_of words (headed_at words head)) m kind a
 
-  pub cols-other : (kind ≡ 16 → ⊥) → 0 ≡ colsOf (headAt words kind head)
-  unfolding headAt
-  cols-other a = cols-none text (drop head words) (lines_of words (headedAt words head)) m kind a
+  pub cols_other : (kind ≡ 16 → ⊥) → 0 ≡ cols_of (head_at words kind head)
+  unfolding head_at
+  cols_other a = cols_none text (drop head words) (lines_of words (headed_at words head)) m kind a
 
 -- the cells left in a row
-pub row_on : (cols left : ℕ) → 0 < left → left - 1 ≡ cellsLeft cols left
+pub row_on : (cols left : ℕ) → 0 < left → left - 1 ≡ cells_left cols left
 row_on cols zero h = absurd (omega arith)
 row_on cols (suc left) h = omega arith
 
-pub row_new : (cols left : ℕ) → left ≤ 0 → 0 < cols → cols - 1 ≡ cellsLeft cols left
+pub row_new : (cols left : ℕ) → left ≤ 0 → 0 < cols → cols - 1 ≡ cells_left cols left
 row_new zero left h k = absurd (omega arith)
 row_new (suc cols) zero h k = omega arith
 row_new (suc cols) (suc left) h k = absurd (omega arith)
 
-pub row-none : (cols left : ℕ) → left ≤ 0 → cols ≤ 0 → 0 ≡ cellsLeft cols left
+pub row-none : (cols left : ℕ) → left ≤ 0 → cols ≤ 0 → 0 ≡ cells_left cols left
 row-none zero zero h k = refl
 row-none (suc cols) left h k = absurd (omega arith)
 row-none zero (suc left) h k = absurd (omega arith)

@@ -4,19 +4,19 @@ use mathlib.Core.Path.{◌≡◌, refl, sym, ap, ◌∙◌}
 use mathlib.Core.Bool.{Bool, false, or-false}
 use mathlib.Core.List.{List}
 use lib.ListN.{get_or, drop}
-use Rattle.tree.specs.Decode.{kindHead}
-use Rattle.tree.specs.Walk.{headedAt, lines_of, headAt}
+use Rattle.tree.specs.Decode.{kind_head}
+use Rattle.tree.specs.Walk.{headed_at, lines_of, head_at}
 use Rattle.mathml_rules.specs.declared.Mode.{Mode}
 use Rattle.mathml_rules.specs.declared.Mode.TheVariants as mode
 use Rattle.mathml_rules.specs.Mathml.{own}
-use Rattle.mathml_rules.specs.Refusal.{controls, refusedPrefix, refusedHead}
-use Rattle.mathml_heads.specs.Spans.{leftSpan, rightSpan, unaryRefused, binaryRefused, bracketsRefused, matrixRefused}
-use Rattle.mathml_heads.proofs.ByKind.{by-kinds}
+use Rattle.mathml_rules.specs.Refusal.{controls, refused_prefix, refused_head}
+use Rattle.mathml_heads.specs.Spans.{left_span, right_span, unary_refused, binary_refused, brackets_refused, matrix_refused}
+use Rattle.mathml_heads.proofs.ByKind.{by_kinds}
 
-refuses-none : (text words lines : List ℕ) (m : Mode) (k : ℕ) → (k ≡ 1 → ⊥) → (k ≡ 2 → ⊥) → (k ≡ 3 → ⊥) → (k ≡ 4 → ⊥) → (k ≡ 5 → ⊥) → (k ≡ 6 → ⊥) → (k ≡ 7 → ⊥) → (k ≡ 8 → ⊥) → (k ≡ 9 → ⊥) → (k ≡ 10 → ⊥) → (k ≡ 11 → ⊥) → (k ≡ 12 → ⊥) → (k ≡ 14 → ⊥) → (k ≡ 15 → ⊥) → (k ≡ 16 → ⊥) → false ≡ refusedHead text (kindHead k words lines)
-unfolding kindHead refusedHead
+refuses-none : (text words lines : List ℕ) (m : Mode) (k : ℕ) → (k ≡ 1 → ⊥) → (k ≡ 2 → ⊥) → (k ≡ 3 → ⊥) → (k ≡ 4 → ⊥) → (k ≡ 5 → ⊥) → (k ≡ 6 → ⊥) → (k ≡ 7 → ⊥) → (k ≡ 8 → ⊥) → (k ≡ 9 → ⊥) → (k ≡ 10 → ⊥) → (k ≡ 11 → ⊥) → (k ≡ 12 → ⊥) → (k ≡ 14 → ⊥) → (k ≡ 15 → ⊥) → (k ≡ 16 → ⊥) → false ≡ refused_head text (kind_head k words lines)
+unfolding kind_head refused_head
 refuses-none text words lines m =
-    by-kinds (λ k. (k ≡ 1 → ⊥) → (k ≡ 2 → ⊥) → (k ≡ 3 → ⊥) → (k ≡ 4 → ⊥) → (k ≡ 5 → ⊥) → (k ≡ 6 → ⊥) → (k ≡ 7 → ⊥) → (k ≡ 8 → ⊥) → (k ≡ 9 → ⊥) → (k ≡ 10 → ⊥) → (k ≡ 11 → ⊥) → (k ≡ 12 → ⊥) → (k ≡ 14 → ⊥) → (k ≡ 15 → ⊥) → (k ≡ 16 → ⊥) → false ≡ refusedHead text (kindHead k words lines))
+    by_kinds (λ k. (k ≡ 1 → ⊥) → (k ≡ 2 → ⊥) → (k ≡ 3 → ⊥) → (k ≡ 4 → ⊥) → (k ≡ 5 → ⊥) → (k ≡ 6 → ⊥) → (k ≡ 7 → ⊥) → (k ≡ 8 → ⊥) → (k ≡ 9 → ⊥) → (k ≡ 10 → ⊥) → (k ≡ 11 → ⊥) → (k ≡ 12 → ⊥) → (k ≡ 14 → ⊥) → (k ≡ 15 → ⊥) → (k ≡ 16 → ⊥) → false ≡ refused_head text (kind_head k words lines))
     (λ n1 n2 n3 n4 n5 n6 n7 n8 n9 n10 n11 n12 n14 n15 n16. refl)
     (λ n1 n2 n3 n4 n5 n6 n7 n8 n9 n10 n11 n12 n14 n15 n16. absurd (n1 refl))
     (λ n1 n2 n3 n4 n5 n6 n7 n8 n9 n10 n11 n12 n14 n15 n16. absurd (n2 refl))
@@ -38,73 +38,73 @@ refuses-none text words lines m =
     (λ n1 n2 n3 n4 n5 n6 n7 n8 n9 n10 n11 n12 n14 n15 n16. refl)
     (λ k n1 n2 n3 n4 n5 n6 n7 n8 n9 n10 n11 n12 n14 n15 n16. refl)
 
-module _ (words text : List ℕ) (kind head : ℕ) {all s : List ℕ} (w : all ≡ drop head words) (t : s ≡ own text (leftSpan all)) where
-  left_is : s ≡ own text (leftSpan (drop head words))
-  left_is = t ∙ ap (λ (x : List ℕ). own text (leftSpan x)) w
+module _ (words text : List ℕ) (kind head : ℕ) {all s : List ℕ} (w : all ≡ drop head words) (t : s ≡ own text (left_span all)) where
+  left_is : s ≡ own text (left_span (drop head words))
+  left_is = t ∙ ap (λ (x : List ℕ). own text (left_span x)) w
 
   abbrev Refuses : Bool → Type 0
-  Refuses b = b ≡ refusedHead text (headAt words kind head)
+  Refuses b = b ≡ refused_head text (head_at words kind head)
 
   pub refuses-number : kind ≡ 1 → Refuses (controls s)
-  unfolding headAt kindHead refusedHead refusedPrefix
+  unfolding head_at kind_head refused_head refused_prefix
   refuses-number e = rw (e, left_is)
 
   pub refuses-text : kind ≡ 2 → Refuses (controls s)
-  unfolding headAt kindHead refusedHead refusedPrefix
+  unfolding head_at kind_head refused_head refused_prefix
   refuses-text e = rw (e, left_is)
 
   pub refuses-ident : kind ≡ 3 → Refuses (controls s)
-  unfolding headAt kindHead refusedHead refusedPrefix
+  unfolding head_at kind_head refused_head refused_prefix
   refuses-ident e = rw (e, left_is)
 
   pub refuses-operator : kind ≡ 4 → Refuses (controls s)
-  unfolding headAt kindHead refusedHead refusedPrefix
+  unfolding head_at kind_head refused_head refused_prefix
   refuses-operator e = rw (e, left_is)
 
   pub refuses-sign : kind ≡ 5 → Refuses (controls s)
-  unfolding headAt kindHead refusedHead refusedPrefix
+  unfolding head_at kind_head refused_head refused_prefix
   refuses-sign e = rw (e, left_is)
 
   pub refuses-space : kind ≡ 6 → Refuses (controls s)
-  unfolding headAt kindHead refusedHead refusedPrefix
+  unfolding head_at kind_head refused_head refused_prefix
   refuses-space e = rw (e, left_is)
 
   pub refuses-symbol : kind ≡ 7 → Refuses (controls s)
-  unfolding headAt kindHead refusedHead refusedPrefix
+  unfolding head_at kind_head refused_head refused_prefix
   refuses-symbol e = rw (e, left_is)
 
   pub refuses-func : kind ≡ 14 → Refuses (controls s)
-  unfolding headAt kindHead refusedHead refusedPrefix
+  unfolding head_at kind_head refused_head refused_prefix
   refuses-func e = rw (e, left_is)
 
   pub refuses-signed : kind ≡ 8 → Refuses (controls s)
-  unfolding headAt kindHead refusedHead refusedPrefix
+  unfolding head_at kind_head refused_head refused_prefix
   refuses-signed e = rw (e, left_is) (sym (or-false _))
 
   pub refuses-ssigned : kind ≡ 9 → Refuses (controls s)
-  unfolding headAt kindHead refusedHead refusedPrefix
+  unfolding head_at kind_head refused_head refused_prefix
   refuses-ssigned e = rw (e, left_is) (sym (or-false _))
 
   pub refuses-sfunc : kind ≡ 11 → Refuses (controls s)
-  unfolding headAt kindHead refusedHead refusedPrefix
+  unfolding head_at kind_head refused_head refused_prefix
   refuses-sfunc e = rw (e, left_is) (sym (or-false _))
 
-  pub refuses-unary : kind ≡ 10 → Refuses (unaryRefused s)
-  unfolding headAt kindHead refusedHead refusedPrefix
+  pub refuses-unary : kind ≡ 10 → Refuses (unary_refused s)
+  unfolding head_at kind_head refused_head refused_prefix
   refuses-unary e = rw (e, left_is)
 
-  pub refuses-binary : kind ≡ 12 → Refuses (binaryRefused s)
-  unfolding headAt kindHead refusedHead refusedPrefix
+  pub refuses-binary : kind ≡ 12 → Refuses (binary_refused s)
+  unfolding head_at kind_head refused_head refused_prefix
   refuses-binary e = rw (e, left_is)
 
-  pub refuses-group : {r : List ℕ} → r ≡ own text (rightSpan all) → kind ≡ 15 → Refuses (bracketsRefused s r)
-  unfolding headAt kindHead refusedHead refusedPrefix
+  pub refuses-group : {r : List ℕ} → r ≡ own text (right_span all) → kind ≡ 15 → Refuses (brackets_refused s r)
+  unfolding head_at kind_head refused_head refused_prefix
   refuses-group b e = rw (e, b, w, left_is)
 
-  pub refuses-matrix : {r : List ℕ} {cols : ℕ} {lines : List ℕ} → r ≡ own text (rightSpan all) → cols ≡ get_or all 6 0 → lines ≡ lines_of words (headedAt words head) → kind ≡ 16 → Refuses (matrixRefused s r cols lines)
-  unfolding headAt kindHead refusedHead refusedPrefix
+  pub refuses-matrix : {r : List ℕ} {cols : ℕ} {lines : List ℕ} → r ≡ own text (right_span all) → cols ≡ get_or all 6 0 → lines ≡ lines_of words (headed_at words head) → kind ≡ 16 → Refuses (matrix_refused s r cols lines)
+  unfolding head_at kind_head refused_head refused_prefix
   refuses-matrix b c l e = rw (e, b, c, l, w, left_is)
 
   pub refuses-other : (kind ≡ 1 → ⊥) → (kind ≡ 2 → ⊥) → (kind ≡ 3 → ⊥) → (kind ≡ 4 → ⊥) → (kind ≡ 5 → ⊥) → (kind ≡ 6 → ⊥) → (kind ≡ 7 → ⊥) → (kind ≡ 8 → ⊥) → (kind ≡ 9 → ⊥) → (kind ≡ 10 → ⊥) → (kind ≡ 11 → ⊥) → (kind ≡ 12 → ⊥) → (kind ≡ 14 → ⊥) → (kind ≡ 15 → ⊥) → (kind ≡ 16 → ⊥) → Refuses false
-  unfolding headAt
-  refuses-other n1 n2 n3 n4 n5 n6 n7 n8 n9 n10 n11 n12 n14 n15 n16 = refuses-none text (drop head words) (lines_of words (headedAt words head)) mode.Keep kind n1 n2 n3 n4 n5 n6 n7 n8 n9 n10 n11 n12 n14 n15 n16
+  unfolding head_at
+  refuses-other n1 n2 n3 n4 n5 n6 n7 n8 n9 n10 n11 n12 n14 n15 n16 = refuses-none text (drop head words) (lines_of words (headed_at words head)) mode.Keep kind n1 n2 n3 n4 n5 n6 n7 n8 n9 n10 n11 n12 n14 n15 n16

@@ -10,8 +10,8 @@ use Rattle.mathml_rules.proofs.Escapes.{written-append}
 pub then-written : {a b c : List ℕ} {e f g : ℕ} (x y : List Piece) → Put a e b f (written x) → Put b f c g (written y) → Put a e c g (written (x ++ y))
 then-written x y p q = put_as (sym (written-append x y)) (then p q)
 
-pub pieces-as : {a b : List ℕ} {e f : ℕ} {x y : List Piece} → x ≡ y → Put a e b f (written x) → Put a e b f (written y)
-pieces-as u p = put_as (ap written u) p
+pub pieces_as : {a b : List ℕ} {e f : ℕ} {x y : List Piece} → x ≡ y → Put a e b f (written x) → Put a e b f (written y)
+pieces_as u p = put_as (ap written u) p
 
 -- one piece, and an element with nothing in it
 pub one : {a b : List ℕ} {e f : ℕ} (p : Piece) → Put a e b f (bytes_of p) → Put a e b f (written (p ∷ []))

@@ -1,11 +1,11 @@
 // What a node's children need of it: what stands before each, the mode that it is handed, whether they are exchanged.
 ghost use Rattle.std.specs.Prelude.{◌≡◌};
 ghost use Rattle.writer.specs.Put.{Put};
-ghost use Rattle.tree.specs.Walk.{headAt};
+ghost use Rattle.tree.specs.Walk.{head_at};
 ghost use Rattle.mathml_rules.specs.Pieces.{written};
-ghost use Rattle.mathml_rules.specs.Mathml.{textMode, simpleMode, funcMode, handed};
-ghost use Rattle.mathml_rules.specs.Parts.{betweenFunc, betweenRows, before, swaps, colsOf, cellsLeft};
-ghost use Rattle.mathml_heads.specs.Spans.{scriptOf};
+ghost use Rattle.mathml_rules.specs.Mathml.{text_mode, simple_mode, func_mode, handed};
+ghost use Rattle.mathml_rules.specs.Parts.{between_func, between_rows, before, swaps, cols_of, cells_left};
+ghost use Rattle.mathml_heads.specs.Spans.{script_of};
 
 use crate::script::{arguments_of, put_finish_script};
 use crate::span::left_text;
@@ -20,7 +20,7 @@ use tree::walk::{own_words, word};
 
 // Before a function's argument: the end tag of the script's element, then the sign of application.
 fn put_between_func(out: &mut [u8], at: usize, script: u32, name: &[u8], i: usize) -> usize
-    ensures { Put out.old at out.new result (written (betweenFunc (scriptOf script) name.now i)) }
+    ensures { Put out.old at out.new result (written (between_func (script_of script) name.now i)) }
 {
     if i == arguments_of(script) {
         let end = put_finish_script(out, at, script);
@@ -31,7 +31,7 @@ fn put_between_func(out: &mut [u8], at: usize, script: u32, name: &[u8], i: usiz
 
 // Where a row is full, the next one begins.
 fn put_between_rows(out: &mut [u8], at: usize, left: usize) -> usize
-    ensures { Put out.old at out.new result (written (betweenRows left)) }
+    ensures { Put out.old at out.new result (written (between_rows left)) }
 {
     if left == 0 {
         let end = put_end(out, at, elements::MTR);
@@ -51,7 +51,7 @@ pub fn put_before(
     i: usize,
     left: usize,
 ) -> usize
-    ensures { Put out.old at out.new result (written (before text.now (headAt words.now kind head) i left)) }
+    ensures { Put out.old at out.new result (written (before text.now (head_at words.now kind head) i left)) }
 {
     match kind {
         NODE_FUNC => {
@@ -65,7 +65,7 @@ pub fn put_before(
 
 // The columns of a matrix; 0 for any other node.
 pub fn columns(words: &[u32], kind: u32, head: usize) -> usize
-    ensures { result ≡ colsOf (headAt words.now kind head) }
+    ensures { result ≡ cols_of (head_at words.now kind head) }
 {
     if kind == NODE_MATRIX {
         word(own_words(words, head), 6) as usize
@@ -76,7 +76,7 @@ pub fn columns(words: &[u32], kind: u32, head: usize) -> usize
 
 // How many cells are left in the row behind the next one.
 pub fn cells_left(cols: usize, left: usize) -> usize
-    ensures { result ≡ cellsLeft cols left }
+    ensures { result ≡ cells_left cols left }
 {
     if left > 0 {
         left - 1
@@ -88,7 +88,7 @@ pub fn cells_left(cols: usize, left: usize) -> usize
 }
 
 fn text_mode(s: &[u8]) -> Mode
-    ensures { result ≡ textMode s.now }
+    ensures { result ≡ text_mode s.now }
 {
     if is_text(s) {
         Mode::Text
@@ -98,7 +98,7 @@ fn text_mode(s: &[u8]) -> Mode
 }
 
 fn simple_mode(script: u32, m: Mode, i: usize) -> Mode
-    ensures { result ≡ simpleMode (scriptOf script) m i }
+    ensures { result ≡ simple_mode (script_of script) m i }
 {
     if arguments_of(script) == 0 {
         m
@@ -110,7 +110,7 @@ fn simple_mode(script: u32, m: Mode, i: usize) -> Mode
 }
 
 fn func_mode(script: u32, i: usize) -> Mode
-    ensures { result ≡ funcMode (scriptOf script) i }
+    ensures { result ≡ func_mode (script_of script) i }
 {
     if i < arguments_of(script) {
         Mode::Argument
@@ -121,7 +121,7 @@ fn func_mode(script: u32, i: usize) -> Mode
 
 // The mode of child i, where the node's own is m.
 pub fn mode_below(words: &[u32], text: &[u8], kind: u32, head: usize, m: Mode, i: usize) -> Mode
-    ensures { result ≡ handed text.now m (headAt words.now kind head) i }
+    ensures { result ≡ handed text.now m (head_at words.now kind head) i }
 {
     let own = own_words(words, head);
     match kind {
@@ -136,7 +136,7 @@ pub fn mode_below(words: &[u32], text: &[u8], kind: u32, head: usize, m: Mode, i
 
 // root, stackrel, overset and underset have their children exchanged.
 pub fn swaps_children(words: &[u32], text: &[u8], kind: u32, head: usize) -> bool
-    ensures { result ≡ swaps text.now (headAt words.now kind head) }
+    ensures { result ≡ swaps text.now (head_at words.now kind head) }
 {
     if kind == NODE_BINARY {
         is_exchanging(left_text(text, own_words(words, head)))

@@ -1,10 +1,10 @@
 // What closes a node.
 ghost use Rattle.std.specs.Prelude.{◌++◌};
 ghost use Rattle.writer.specs.Put.{Put};
-ghost use Rattle.tree.specs.Walk.{headAt};
+ghost use Rattle.tree.specs.Walk.{head_at};
 ghost use Rattle.mathml_rules.specs.Pieces.{written};
 ghost use Rattle.mathml_rules.specs.Parts.{finish, kept, closing};
-ghost use Rattle.mathml_heads.specs.Spans.{matrixClosing};
+ghost use Rattle.mathml_heads.specs.Spans.{matrix_closing};
 
 use crate::opening::put_kept;
 use crate::script::put_finish_script;
@@ -30,7 +30,7 @@ fn put_group(out: &mut [u8], at: usize, m: Mode, left: &[u8], right: &[u8]) -> u
 
 // The end tags of the last row and of the table, and the right bracket.
 fn put_matrix(out: &mut [u8], at: usize, right: &[u8]) -> usize
-    ensures { Put out.old at out.new result (written (matrixClosing right.now)) }
+    ensures { Put out.old at out.new result (written (matrix_closing right.now)) }
 {
     let a = put_end(out, at, elements::MTR);
     let b = put_end(out, a, elements::MTABLE);
@@ -48,7 +48,7 @@ pub fn put_closing(
     head: usize,
     m: Mode,
 ) -> usize
-    ensures { Put out.old at out.new result (written (closing text.now m (headAt words.now kind head))) }
+    ensures { Put out.old at out.new result (written (closing text.now m (head_at words.now kind head))) }
 {
     let own = own_words(words, head);
     let s = left_text(text, own);

@@ -1,12 +1,12 @@
 // What opens a node.
 ghost use Rattle.std.specs.Prelude.{[], ◌++◌};
 ghost use Rattle.writer.specs.Put.{Put};
-ghost use Rattle.tree.specs.Walk.{headAt};
+ghost use Rattle.tree.specs.Walk.{head_at};
 ghost use Rattle.mathml_rules.specs.Forms.{shown};
 ghost use Rattle.mathml_rules.specs.Pieces.{written, E, L};
-ghost use Rattle.mathml_rules.specs.Mathml.{symbolElement};
+ghost use Rattle.mathml_rules.specs.Mathml.{symbol_element};
 ghost use Rattle.mathml_rules.specs.Parts.{begin, kept, opening};
-ghost use Rattle.mathml_heads.specs.Spans.{class_of, sfuncOpening, funcOpening, matrixOpening};
+ghost use Rattle.mathml_heads.specs.Spans.{class_of, sfunc_opening, func_opening, matrix_opening};
 
 use crate::script::put_begin_script;
 use crate::span::{left_text, right_text};
@@ -35,7 +35,7 @@ fn put_empty(out: &mut [u8], at: usize, e: usize) -> usize
 }
 
 fn put_symbol(out: &mut [u8], at: usize, class: u32, s: &[u8]) -> usize
-    ensures { Put out.old at out.new result (written (L (symbolElement (class_of class)) (shown s.now))) }
+    ensures { Put out.old at out.new result (written (L (symbol_element (class_of class)) (shown s.now))) }
 {
     match class {
         2 => put_drawn(out, at, elements::MO_SYMBOL, s),
@@ -57,7 +57,7 @@ fn put_signed(out: &mut [u8], at: usize, e: usize, s: &[u8]) -> usize
 
 // A function's name in a simple place.
 fn put_sfunc(out: &mut [u8], at: usize, s: &[u8]) -> usize
-    ensures { Put out.old at out.new result (written (sfuncOpening s.now)) }
+    ensures { Put out.old at out.new result (written (sfunc_opening s.now)) }
 {
     let a = put_start(out, at, elements::MROW_SFUNC);
     let b = put_leaf(out, a, elements::MI, s);
@@ -65,7 +65,7 @@ fn put_sfunc(out: &mut [u8], at: usize, s: &[u8]) -> usize
 }
 
 fn put_func(out: &mut [u8], at: usize, script: u32, s: &[u8]) -> usize
-    ensures { Put out.old at out.new result (written (funcOpening script s.now)) }
+    ensures { Put out.old at out.new result (written (func_opening script s.now)) }
 {
     let a = put_start(out, at, elements::MROW_FUNC);
     let b = put_begin_script(out, a, script);
@@ -98,7 +98,7 @@ fn put_group(out: &mut [u8], at: usize, m: Mode, left: &[u8], right: &[u8]) -> u
 
 // The left bracket, the table's start tag and that of its first row.
 fn put_matrix(out: &mut [u8], at: usize, left: &[u8], cols: usize, lines: &[u32]) -> usize
-    ensures { Put out.old at out.new result (written (matrixOpening left.now cols lines.now)) }
+    ensures { Put out.old at out.new result (written (matrix_opening left.now cols lines.now)) }
 {
     let a = put_start(out, at, elements::MROW_MATRIX);
     let b = put_bracket(out, a, left);
@@ -116,7 +116,7 @@ pub fn put_opening(
     head: usize,
     m: Mode,
 ) -> usize
-    ensures { Put out.old at out.new result (written (opening text.now m (headAt words.now kind head))) }
+    ensures { Put out.old at out.new result (written (opening text.now m (head_at words.now kind head))) }
 {
     let own = own_words(words, head);
     let s = left_text(text, own);

@@ -1,8 +1,8 @@
 // Whether a node by itself is refused by 11.
 ghost use Rattle.std.specs.Prelude.{◌≡◌};
-ghost use Rattle.tree.specs.Walk.{headAt};
-ghost use Rattle.mathml_rules.specs.Refusal.{refusedHead};
-ghost use Rattle.mathml_heads.specs.Spans.{unaryRefused, binaryRefused, bracketsRefused, matrixRefused};
+ghost use Rattle.tree.specs.Walk.{head_at};
+ghost use Rattle.mathml_rules.specs.Refusal.{refused_head};
+ghost use Rattle.mathml_heads.specs.Spans.{unary_refused, binary_refused, brackets_refused, matrix_refused};
 
 use crate::span::{left_text, right_text};
 use mathml_commands::refused::{has_control, is_refused_binary, is_refused_unary, refuses_lines};
@@ -14,7 +14,7 @@ use tree::kinds::{
 use tree::walk::{lines_at, own_words, word};
 
 fn refuses_unary(s: &[u8]) -> bool
-    ensures { result ≡ unaryRefused s.now }
+    ensures { result ≡ unary_refused s.now }
 {
     if has_control(s) {
         return true;
@@ -23,7 +23,7 @@ fn refuses_unary(s: &[u8]) -> bool
 }
 
 fn refuses_binary(s: &[u8]) -> bool
-    ensures { result ≡ binaryRefused s.now }
+    ensures { result ≡ binary_refused s.now }
 {
     if has_control(s) {
         return true;
@@ -32,7 +32,7 @@ fn refuses_binary(s: &[u8]) -> bool
 }
 
 fn refuses_brackets(left: &[u8], right: &[u8]) -> bool
-    ensures { result ≡ bracketsRefused left.now right.now }
+    ensures { result ≡ brackets_refused left.now right.now }
 {
     if has_control(left) {
         return true;
@@ -41,7 +41,7 @@ fn refuses_brackets(left: &[u8], right: &[u8]) -> bool
 }
 
 fn refuses_matrix(left: &[u8], right: &[u8], cols: usize, lines: &[u32]) -> bool
-    ensures { result ≡ matrixRefused left.now right.now cols lines.now }
+    ensures { result ≡ matrix_refused left.now right.now cols lines.now }
 {
     if refuses_brackets(left, right) {
         return true;
@@ -51,7 +51,7 @@ fn refuses_matrix(left: &[u8], right: &[u8], cols: usize, lines: &[u32]) -> bool
 
 // Whether the node of this kind whose own words begin at `head` is refused, its children aside.
 pub fn is_refused(words: &[u32], text: &[u8], kind: u32, head: usize) -> bool
-    ensures { result ≡ refusedHead text.now (headAt words.now kind head) }
+    ensures { result ≡ refused_head text.now (head_at words.now kind head) }
 {
     let own = own_words(words, head);
     let s = left_text(text, own);

@@ -3,14 +3,14 @@ ghost use Rattle.std.specs.Prelude.{◌≡◌};
 ghost use Rattle.writer.specs.Put.{Put};
 ghost use Rattle.mathml_rules.specs.Pieces.{written};
 ghost use Rattle.mathml_rules.specs.Mathml.{arguments};
-ghost use Rattle.mathml_rules.specs.Parts.{beginScript, finishScript};
-ghost use Rattle.mathml_heads.specs.Spans.{scriptOf};
+ghost use Rattle.mathml_rules.specs.Parts.{begin_script, finish_script};
+ghost use Rattle.mathml_heads.specs.Spans.{script_of};
 
 use mathml_tags::elements;
 use mathml_tags::tags::{put_end, put_start};
 
 pub(crate) fn put_begin_script(out: &mut [u8], at: usize, script: u32) -> usize
-    ensures { Put out.old at out.new result (written (beginScript (scriptOf script))) }
+    ensures { Put out.old at out.new result (written (begin_script (script_of script))) }
 {
     match script {
         1 => put_start(out, at, elements::MSUB),
@@ -21,7 +21,7 @@ pub(crate) fn put_begin_script(out: &mut [u8], at: usize, script: u32) -> usize
 }
 
 pub(crate) fn put_finish_script(out: &mut [u8], at: usize, script: u32) -> usize
-    ensures { Put out.old at out.new result (written (finishScript (scriptOf script))) }
+    ensures { Put out.old at out.new result (written (finish_script (script_of script))) }
 {
     match script {
         1 => put_end(out, at, elements::MSUB),
@@ -33,7 +33,7 @@ pub(crate) fn put_finish_script(out: &mut [u8], at: usize, script: u32) -> usize
 
 // How many arguments it has.
 pub(crate) fn arguments_of(script: u32) -> usize
-    ensures { result ≡ arguments (scriptOf script) }
+    ensures { result ≡ arguments (script_of script) }
 {
     match script {
         1 => 1,

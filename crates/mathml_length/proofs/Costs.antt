@@ -7,42 +7,42 @@ use lib.ListN.{length, take, drop}
 use Rattle.tokens.specs.declared.token.SymbolClass.{SymbolClass}
 use Rattle.tokens.specs.declared.token.SymbolClass.TheVariants as class
 use Rattle.tokens.specs.Lexeme.{Span}
-use Rattle.tokens.proofs.Cases.{by-test}
+use Rattle.tokens.proofs.Cases.{by_test}
 use Rattle.tree.specs.Tree.{Script, Head, Atom, Prefix, Node, node, Nodes, end, ◌▸◌, ◌⧺◌, count}
 use Rattle.mathml_rules.specs.declared.Mode.{Mode}
 use Rattle.mathml_rules.specs.declared.Mode.TheVariants as mode
-use Rattle.mathml_rules.specs.Elements.{elements, elementOf}
+use Rattle.mathml_rules.specs.Elements.{elements, element_of}
 use Rattle.mathml_rules.specs.Pieces.{Piece, L}
-use Rattle.mathml_rules.specs.Mathml.{own, together, child, symbolElement, atom, S, arguments, dropped, group, handed, join, out, outs, root, mathmlOf}
+use Rattle.mathml_rules.specs.Mathml.{own, together, child, symbol_element, atom, S, arguments, dropped, group, handed, join, out, outs, root, mathml_of}
 use Rattle.mathml_rules.proofs.Children.{outs-length}
 use Rattle.mathml_length.proofs.Widths.{width, tags, widths, width-within, total, total-cons, total-none, total-split, child-first, esc-length, shown-length, own-length, bracket-width, around, named, unary-width, binary-width, table-width}
 
 -- a script's two tags
-abbrev pub scriptCost : Script → ℕ
-scriptCost Script.none = 0
-scriptCost Script.sub = 13
-scriptCost Script.super = 13
-scriptCost Script.subsuper = 19
+abbrev pub script_cost : Script → ℕ
+script_cost Script.none = 0
+script_cost Script.sub = 13
+script_cost Script.super = 13
+script_cost Script.subsuper = 19
 
-script-width : (sc : Script) (x y : List Piece) → width (S sc x y) ≤ scriptCost sc + width x + width y
-unfolding S tags elementOf elements
+script-width : (sc : Script) (x y : List Piece) → width (S sc x y) ≤ script_cost sc + width x + width y
+unfolding S tags element_of elements
 script-width Script.none x y = omega arith
 script-width Script.sub x y = simp widths (omega arith)
 script-width Script.super x y = simp widths (omega arith)
 script-width Script.subsuper x y = simp widths (omega arith)
 
 -- a leaf of n bytes
-abbrev atomCost : Atom → ℕ → ℕ
-atomCost Atom.number n = 9 + 5 * n
-atomCost Atom.text n = 15 + 5 * n
-atomCost Atom.ident n = 9 + 5 * n
-atomCost Atom.operator n = 9 + 5 * n
-atomCost Atom.sign n = 9 + 5 * n
-atomCost Atom.space n = 32
-atomCost (Atom.symbol c) n = 31 + 5 * n
+abbrev atom_cost : Atom → ℕ → ℕ
+atom_cost Atom.number n = 9 + 5 * n
+atom_cost Atom.text n = 15 + 5 * n
+atom_cost Atom.ident n = 9 + 5 * n
+atom_cost Atom.operator n = 9 + 5 * n
+atom_cost Atom.sign n = 9 + 5 * n
+atom_cost Atom.space n = 32
+atom_cost (Atom.symbol c) n = 31 + 5 * n
 
-symbol-tags : (c : SymbolClass) → tags (symbolElement c) ≤ 31
-unfolding symbolElement tags elementOf elements
+symbol-tags : (c : SymbolClass) → tags (symbol_element c) ≤ 31
+unfolding symbol_element tags element_of elements
 symbol-tags class.Glyph = omega arith
 symbol-tags class.Name = omega arith
 symbol-tags class.Joining = omega arith
@@ -54,32 +54,32 @@ symbol-tags class.Separator = omega arith
 
 module _ (text : List ℕ) where
   -- the bytes that a node with n children puts around them
-  abbrev headCost : Head → ℕ → ℕ
-  headCost Head.missing n = 13
-  headCost (Head.atom a sp) n = atomCost a sp.len
-  headCost (Head.prefix Prefix.signed sp) n = 22 + 5 * sp.len
-  headCost (Head.prefix Prefix.ssigned sp) n = 22 + 5 * sp.len
-  headCost (Head.prefix Prefix.unary sp) n = around (own text sp)
-  headCost (Head.prefix Prefix.sfunc sp) n = 13 + named (own text sp)
-  headCost (Head.prefix Prefix.binary sp) n = 17
-  headCost (Head.simple sc) n = scriptCost sc
-  headCost (Head.func sp sc) n = 13 + named (own text sp) + scriptCost sc
-  headCost Head.frac n = 15
-  headCost Head.cell n = 11
-  headCost (Head.group a b) n = 13 + 14 * a.len + 14 * b.len
+  abbrev head_cost : Head → ℕ → ℕ
+  head_cost Head.missing n = 13
+  head_cost (Head.atom a sp) n = atom_cost a sp.len
+  head_cost (Head.prefix Prefix.signed sp) n = 22 + 5 * sp.len
+  head_cost (Head.prefix Prefix.ssigned sp) n = 22 + 5 * sp.len
+  head_cost (Head.prefix Prefix.unary sp) n = around (own text sp)
+  head_cost (Head.prefix Prefix.sfunc sp) n = 13 + named (own text sp)
+  head_cost (Head.prefix Prefix.binary sp) n = 17
+  head_cost (Head.simple sc) n = script_cost sc
+  head_cost (Head.func sp sc) n = 13 + named (own text sp) + script_cost sc
+  head_cost Head.frac n = 15
+  head_cost Head.cell n = 11
+  head_cost (Head.group a b) n = 13 + 14 * a.len + 14 * b.len
   -- 11 for a row, and there are no more rows than children
-  headCost (Head.matrix a b cols lines) n = 38 + 14 * a.len + 14 * b.len + 6 * cols + 11 * n
+  head_cost (Head.matrix a b cols lines) n = 38 + 14 * a.len + 14 * b.len + 6 * cols + 11 * n
 
   unfoldable mutual
     pub cost : Node → ℕ
-    cost (node h l) = headCost h (count l) + costs l
+    cost (node h l) = head_cost h (count l) + costs l
 
     pub costs : Nodes → ℕ
     costs end = 0
     costs (x ▸ l) = cost x + costs l
 
-  atom-width : (a : Atom) (sp : Span) → width (atom a (own text sp)) ≤ atomCost a sp.len
-  unfolding atom tags elementOf elements
+  atom-width : (a : Atom) (sp : Span) → width (atom a (own text sp)) ≤ atom_cost a sp.len
+  unfolding atom tags element_of elements
   atom-width Atom.number sp = simp widths (omega (arith, own-length text sp, esc-length (own text sp)))
   atom-width Atom.text sp = simp widths (omega (arith, own-length text sp, esc-length (own text sp)))
   atom-width Atom.ident sp = simp widths (omega (arith, own-length text sp, esc-length (own text sp)))
@@ -91,9 +91,9 @@ module _ (text : List ℕ) where
 
   group-width : (m : Mode) (a b : Span) (x : List Piece) →
       width (group m (own text a) (own text b) x) ≤ 13 + 14 * a.len + 14 * b.len + width x
-  unfolding group tags elementOf elements
+  unfolding group tags element_of elements
   group-width m a b x =
-      by-test (dropped m (own text a) (own text b)) (λ e. rw (e, group) (simp widths (omega arith)))
+      by_test (dropped m (own text a) (own text b)) (λ e. rw (e, group) (simp widths (omega arith)))
       (λ e. rw (e, group) (simp widths (omega (
         arith,
         own-length text a,
@@ -102,8 +102,8 @@ module _ (text : List ℕ) where
         bracket-width (own text b),
       ))))
 
-  joined : (m : Mode) (h : Head) (cs : List (List Piece)) → width (join text m h cs) ≤ headCost h (length cs) + total cs
-  unfolding join named total tags elementOf elements
+  joined : (m : Mode) (h : Head) (cs : List (List Piece)) → width (join text m h cs) ≤ head_cost h (length cs) + total cs
+  unfolding join named total tags element_of elements
   joined m Head.missing cs = simp widths (omega arith)
   joined m (Head.atom a sp) cs = omega (arith, atom-width a sp)
   joined m (Head.prefix Prefix.signed sp) cs =
@@ -159,10 +159,10 @@ module _ (text : List ℕ) where
         )
 
   -- the root has 72 bytes around its items
-  pub mathml-length : (tree : Nodes) → length (mathmlOf text tree) ≤ 72 + costs tree
-  unfolding mathmlOf root
-  mathml-length tree =
-      unfold width total tags elementOf elements in
+  pub mathml_length : (tree : Nodes) → length (mathml_of text tree) ≤ 72 + costs tree
+  unfolding mathml_of root
+  mathml_length tree =
+      unfold width total tags element_of elements in
       omega (
         arith,
         width-within 19 [] (together (outs text mode.Keep Head.cell 0 tree)),

@@ -8,15 +8,15 @@ use native.Mathlib.Omega.{arith}
 use lib.ListN.{length, get_or, get_elem?}
 use Rattle.tokens.specs.declared.token.Token.{Token}
 use Rattle.tokens.specs.declared.token.Token.TheVariants as token
-use Rattle.tokens.proofs.Cases.{by-test, by-option, clash}
+use Rattle.tokens.proofs.Cases.{by_test, by_option, clash}
 use Rattle.tree.specs.Tree.{Head, Atom, Node, Nodes, end, ◌▸◌, ◌⧺◌, count, leaf}
 use Rattle.reading.specs.Stop.{Stop}
 use Rattle.reading.specs.Entries.{Entry, is}
-use Rattle.reading.specs.Reading.{State, M, return, ◌>>=◌, if◌then◌else◌, here, current, closed, Mark, openMark, matrixMark, slot, Try, made, lost, nought, Readers, advance, failed, giveUp, attempt, argument, nextScript, nextScriptFunc, nextIntermediate, intermediates, Row, Rows, nextMatrixRow, rowCells, moreRows, nextMatrixRows, makesMatrix, matrixBody, tryMatrix, nextOpenGroup, barBody, nextOpenCloseGroup, nextBracket, begun, nextSimple, step, level, parse, start, parseEntries, last_of, prefixes, spaced, any, marksScript, heads, begins, is_at, isBar, unscripted}
+use Rattle.reading.specs.Reading.{State, M, return, ◌>>=◌, if◌then◌else◌, here, current, closed, Mark, open_mark, matrix_mark, slot, Try, made, lost, nought, Readers, advance, failed, give_up, attempt, argument, next_script, next_script_func, next_intermediate, intermediates, Row, Rows, next_matrix_row, row_cells, more_rows, next_matrix_rows, makes_matrix, matrix_body, try_matrix, next_open_group, bar_body, next_open_close_group, next_bracket, begun, next_simple, step, level, parse, start, parse_entries, last_of, prefixes, spaced, any, marks_script, heads, begins, is_at, is_bar, unscripted}
 use Rattle.bounds.proofs.Columns.{rows_of}
-use Rattle.mathml_length.proofs.Costs.{scriptCost, cost, costs, costs-join}
-use Rattle.mathml_length.proofs.Prices.{priceOf, pays, paid, paid-next, worth}
-use Rattle.mathml_length.proofs.Matrices.{rowCost, rowsCost, matrix-cost}
+use Rattle.mathml_length.proofs.Costs.{script_cost, cost, costs, costs-join}
+use Rattle.mathml_length.proofs.Prices.{price_of, pays, paid, paid-next, worth}
+use Rattle.mathml_length.proofs.Matrices.{row_cost, rows_cost, matrix-cost}
 use Rattle.mathml_length.proofs.Closers.{bar-at, closer-at}
 
 module _ (text : List ℕ) (es : List Entry) (rem : Bool) where
@@ -75,8 +75,8 @@ module _ (text : List ℕ) (es : List Entry) (rem : Bool) where
       P (advance text es ok s)
   unfolding advance
   advance-by ok s P h k =
-      by-option (get_elem? es s.pos) (λ x. rw (x, advance) (h s refl))
-      (λ e x. by-test (ok e) (λ y. rw (x, advance, y) (k e _ x y refl)) (λ y. rw (x, advance, y) (h _ refl)))
+      by_option (get_elem? es s.pos) (λ x. rw (x, advance) (h s refl))
+      (λ e x. by_test (ok e) (λ y. rw (x, advance, y) (k e _ x y refl)) (λ y. rw (x, advance, y) (h _ refl)))
 
   taking : {A : Type 0} {p c : ℕ} (ok : Entry → Bool) {f : Option Entry → M A} {d : A → ℕ} →
       ((t : Option Entry) → Taken ok p t → Pays (past p t) (c + got t) (f t) d) → Pays p c (advance text es ok >>= f) d
@@ -90,27 +90,27 @@ module _ (text : List ℕ) (es : List Entry) (rem : Bool) where
       }
 
   -- An attempt that is given back leaves what it was given.
-  abbrev tryCost : ℕ → Try → ℕ
-  tryCost c (made x) = cost text x
-  tryCost c lost = 0
-  tryCost c nought = c
+  abbrev try_cost : ℕ → Try → ℕ
+  try_cost c (made x) = cost text x
+  try_cost c lost = 0
+  try_cost c nought = c
 
   abbrev or_else : ℕ → Option Node → ℕ
   or_else c none = c
   or_else c (some x) = cost text x
 
-  attempt-pays : {p c : ℕ} (m : Mark) (i : ℕ) {body : M Try} → Pays p c body (tryCost c) →
+  attempt-pays : {p c : ℕ} (m : Mark) (i : ℕ) {body : M Try} → Pays p c body (try_cost c) →
       Pays p c (attempt text es rem m i body) (or_else c)
-  unfolding attempt failed ◌>>=◌ current if◌then◌else◌ return giveUp
+  unfolding attempt failed ◌>>=◌ current if◌then◌else◌ return give_up
   attempt-pays {p} {c} m i {body} h = record { run = λ s e. known s e (rem && get_or s.marks (slot m i) false) }
     where
       settle : State → Try → M (Option Node)
-      settle o t = elim t [ made x ↦ return (some x) | lost ↦ giveUp text es rem m i o | nought ↦ return none ]
+      settle o t = elim t [ made x ↦ return (some x) | lost ↦ give_up text es rem m i o | nought ↦ return none ]
 
       done : (s : State) → s.pos ≡ p → (t : Try) → (body s).0 ≡ t → Covers p c (or_else c) (settle s t (body s).1)
-      done s e (made x) q = omega (arith, h.run s e, ap (tryCost c) q)
+      done s e (made x) q = omega (arith, h.run s e, ap (try_cost c) q)
       done s e lost q = rw e (omega arith)
-      done s e nought q = omega (arith, h.run s e, ap (tryCost c) q)
+      done s e nought q = omega (arith, h.run s e, ap (try_cost c) q)
 
       known : (s : State) → s.pos ≡ p → (x : Bool) →
           Covers p c (or_else c) ((if x then return none else (body >>= settle s)) s)
@@ -134,14 +134,14 @@ module _ (text : List ℕ) (es : List Entry) (rem : Bool) where
   perhaps d (some a) = d a
 
   -- a row's cells, with six bytes of the attribute columnlines for each
-  abbrev fullCost : Nodes → ℕ
-  fullCost l = rowCost text l + 6 * count l
+  abbrev full_cost : Nodes → ℕ
+  full_cost l = row_cost text l + 6 * count l
 
   -- What the entry taken pays at least: the mark of a script, the closer of a matrix.
-  marks-worth : (e : Entry) → marksScript e ≡ true → 34 ≤ priceOf text e.token e.span
-  unfolding marksScript
+  marks-worth : (e : Entry) → marks_script e ≡ true → 34 ≤ price_of text e.token e.span
+  unfolding marks_script
   marks-worth e h =
-      by-test (is token.Super e) (λ y. omega (arith, worth text token.Super e y))
+      by_test (is token.Super e) (λ y. omega (arith, worth text token.Super e y))
       (λ y. omega (arith, worth text token.Sub e (rw y at h)))
 
   heads-sign : (sg : Bool) (e : Entry) → heads sg e ≡ true → is token.Function e ≡ false → is token.Sign e ≡ true
@@ -149,8 +149,8 @@ module _ (text : List ℕ) (es : List Entry) (rem : Bool) where
   heads-sign true e h n = rw n at h
   heads-sign false e h n = clash false (rw n at h) refl
 
-  closer-worth : (o : Entry) (i : ℕ) (r : Rows) (p : ℕ) → makesMatrix text es o i r p ≡ true → (e : Entry) →
-      get_elem? es p ≡ some e → 34 + 14 * e.span.len ≤ priceOf text e.token e.span
+  closer-worth : (o : Entry) (i : ℕ) (r : Rows) (p : ℕ) → makes_matrix text es o i r p ≡ true → (e : Entry) →
+      get_elem? es p ≡ some e → 34 + 14 * e.span.len ≤ price_of text e.token e.span
   closer-worth o i r p h e q =
       closer-at text es o i r p h e q (λ y. omega (arith, worth text token.CloseBracket e y))
       (λ y. omega (arith, worth text token.OpenCloseBracket e y))
@@ -175,7 +175,7 @@ module _ (text : List ℕ) (es : List Entry) (rem : Bool) where
   -- A reader that answers something leaves what the first entry it took pays for the Space before it.
   record Paying (R : Readers) : Type 0 where
     simple : (p : ℕ) (stop : Stop) (sg : Bool) → Pays p 0 (R.simple stop sg) (found p)
-    scriptFunc : (p : ℕ) (stop : Stop) (sg : Bool) → Pays p 0 (R.scriptFunc stop sg) (found p)
+    script_func : (p : ℕ) (stop : Stop) (sg : Bool) → Pays p 0 (R.script_func stop sg) (found p)
 
   module _ (R : Readers) (paying : Paying R) where
     -- an argument may be Missing
@@ -187,10 +187,10 @@ module _ (text : List ℕ) (es : List Entry) (rem : Bool) where
           | some x ↦ ret _ (omega arith)
         ]
 
-    nextScript-pays : (p : ℕ) → Pays p 0 (nextScript text es rem R) (λ q. scriptCost q.0 + costs text q.1)
-    unfolding nextScript cost
-    nextScript-pays p =
-        taking marksScript λ t. elim t [
+    next_script-pays : (p : ℕ) → Pays p 0 (next_script text es rem R) (λ q. script_cost q.0 + costs text q.1)
+    unfolding next_script cost
+    next_script-pays p =
+        taking marks_script λ t. elim t [
           | none ↦ λ h. ret _ (omega arith)
           | some e ↦ λ h.
               let w = marks-worth e h.1 in
@@ -203,42 +203,42 @@ module _ (text : List ℕ) (es : List Entry) (rem : Bool) where
               ])
         ]
 
-    nextScriptFunc-pays : (p : ℕ) (stop : Stop) (sg : Bool) → Pays p 0 (nextScriptFunc text es rem R stop sg) (found p)
-    unfolding nextScriptFunc cost
-    nextScriptFunc-pays p stop sg =
+    next_script_func-pays : (p : ℕ) (stop : Stop) (sg : Bool) → Pays p 0 (next_script_func text es rem R stop sg) (found p)
+    unfolding next_script_func cost
+    next_script_func-pays p stop sg =
         taking (heads sg) λ t. elim t [
           | none ↦ λ h. bind (paying.simple p stop sg) (omega arith) λ q a. elim a [
             | none ↦ ret _ (omega arith)
-            | some x ↦ bind (nextScript-pays q) (omega arith) λ r y. ret _ (omega arith)
+            | some x ↦ bind (next_script-pays q) (omega arith) λ r y. ret _ (omega arith)
           ]
           | some e ↦ λ h.
               let g = gap_is p e h.0 in
               by_cases (is token.Function e)
               (λ y.
               let w = worth text token.Function e y in
-              bind (nextScript-pays _) (omega arith) λ q z.
-              bind (paying.scriptFunc q Stop.none true) (omega arith) λ r a. elim a [
+              bind (next_script-pays _) (omega arith) λ q z.
+              bind (paying.script_func q Stop.none true) (omega arith) λ r a. elim a [
                 | none ↦ ret _ (omega (arith, costs-join text z.1 (unscripted (leaf Head.missing) ▸ end)))
                 | some x ↦ ret _ (omega (arith, costs-join text z.1 (x ▸ end)))
               ])
               (λ y.
               let w = worth text token.Sign e (heads-sign sg e h.1 y) in
-              bind (paying.scriptFunc _ stop true) (omega arith) λ q a. elim a [
+              bind (paying.script_func _ stop true) (omega arith) λ q a. elim a [
                 | none ↦ ret _ (omega arith)
                 | some x ↦ ret _ (omega arith)
               ])
         ]
 
-    nextIntermediate-pays : (p : ℕ) (stop : Stop) (sg : Bool) → Pays p 0 (nextIntermediate text es rem R stop sg) (found p)
-    unfolding nextIntermediate cost
-    nextIntermediate-pays p stop sg =
-        bind (paying.scriptFunc p stop sg) (omega arith) λ q a. elim a [
+    next_intermediate-pays : (p : ℕ) (stop : Stop) (sg : Bool) → Pays p 0 (next_intermediate text es rem R stop sg) (found p)
+    unfolding next_intermediate cost
+    next_intermediate-pays p stop sg =
+        bind (paying.script_func p stop sg) (omega arith) λ q a. elim a [
           | none ↦ ret _ (omega arith)
           | some x ↦ taking (is token.Frac) λ t. elim t [
             | none ↦ λ h. ret _ (omega arith)
             | some e ↦ λ h.
                 let w = worth text token.Frac e h.1 in
-                bind (paying.scriptFunc _ Stop.none true) (omega arith) λ r b. elim b [
+                bind (paying.script_func _ Stop.none true) (omega arith) λ r b. elim b [
                   | none ↦ ret _ (omega arith)
                   | some z ↦ ret _ (omega arith)
                 ]
@@ -251,52 +251,52 @@ module _ (text : List ℕ) (es : List Entry) (rem : Bool) where
     intermediates-pays zero p until stop before = ret _ (omega arith)
     intermediates-pays (suc f) p until stop before =
         placed λ q e. by_cases _ (λ y. ret _ (omega arith))
-        (λ y. bind (nextIntermediate-pays p stop (prefixes before)) (omega arith) λ r a. elim a [
+        (λ y. bind (next_intermediate-pays p stop (prefixes before)) (omega arith) λ r a. elim a [
           | none ↦ ret _ (omega arith)
           | some x ↦ bind (intermediates-pays f r until stop (some x)) (omega arith) λ r' l.
               ret _ (omega (arith, spaced-cost before q x l, ap gap e))
         ])
 
     -- a cell's Sep or bracket has paid for the cell, the tags of a row and an entry of the attribute columnlines
-    rowCells-pays : (f p : ℕ) → Pays p 0 (rowCells text es rem R f) (perhaps (λ (m : Nodes × Entry). fullCost m.0))
-    unfolding rowCells cost
-    rowCells-pays zero p = ret _ (omega arith)
-    rowCells-pays (suc f) p =
+    row_cells-pays : (f p : ℕ) → Pays p 0 (row_cells text es rem R f) (perhaps (λ (m : Nodes × Entry). full_cost m.0))
+    unfolding row_cells cost
+    row_cells-pays zero p = ret _ (omega arith)
+    row_cells-pays (suc f) p =
         bind (intermediates-pays _ p none Stop.sep none) (omega arith) λ q l. taking any λ t. elim t [
           | none ↦ λ h. ret _ (omega arith)
           | some e ↦ λ h. by_cases (is token.Sep e)
               (λ y.
               let w = worth text token.Sep e y in
-              bind (rowCells-pays f _) (omega arith) λ r a. elim a [ none ↦ ret _ (omega arith) | some m ↦ ret _ (omega arith) ])
+              bind (row_cells-pays f _) (omega arith) λ r a. elim a [ none ↦ ret _ (omega arith) | some m ↦ ret _ (omega arith) ])
               (λ y. by_cases (is token.CloseBracket e)
               (λ z. let w = worth text token.CloseBracket e z in ret _ (omega arith)) (λ z. ret _ (omega arith)))
         ]
 
     -- a row's opening bracket, for the attribute's name
-    nextMatrixRow-pays : (p : ℕ) → Pays p 0 (nextMatrixRow text es rem R) (perhaps (λ (r : Row). 8 + fullCost r.cells))
-    unfolding nextMatrixRow
-    nextMatrixRow-pays p =
+    next_matrix_row-pays : (p : ℕ) → Pays p 0 (next_matrix_row text es rem R) (perhaps (λ (r : Row). 8 + full_cost r.cells))
+    unfolding next_matrix_row
+    next_matrix_row-pays p =
         placed λ i at. taking any λ t. elim t [
           | none ↦ λ h. ret _ (omega arith)
           | some o ↦ λ h. by_cases (is token.OpenBracket o)
               (λ y.
               let w = worth text token.OpenBracket o y in
-              bind (rowCells-pays _ _) (omega arith) λ q a. elim a [
+              bind (row_cells-pays _ _) (omega arith) λ q a. elim a [
                 | none ↦ ret _ (omega arith)
                 | some m ↦ noted i _ (omega arith)
               ])
               (λ y. ret _ (omega arith))
         ]
 
-    moreRows-pays : (f p : ℕ) (h : Row) → Pays p 0 (moreRows text es rem R f h) (perhaps (rowsCost text))
-    unfolding moreRows
-    moreRows-pays zero p h = ret _ (omega arith)
-    moreRows-pays (suc f) p h =
+    more_rows-pays : (f p : ℕ) (h : Row) → Pays p 0 (more_rows text es rem R f h) (perhaps (rows_cost text))
+    unfolding more_rows
+    more_rows-pays zero p h = ret _ (omega arith)
+    more_rows-pays (suc f) p h =
         placed λ i at. by_cases _
-        (λ y. taking any λ t k. bind (nextMatrixRow-pays _) (omega arith) λ q a. elim a [
+        (λ y. taking any λ t k. bind (next_matrix_row-pays _) (omega arith) λ q a. elim a [
           | none ↦ ret _ (omega arith)
           | some r ↦ by_cases _
-              (λ z. bind (moreRows-pays f q h) (omega arith) λ r' l. elim l [
+              (λ z. bind (more_rows-pays f q h) (omega arith) λ r' l. elim l [
                 | none ↦ ret _ (omega arith)
                 | some m ↦ ret _ (omega arith)
               ])
@@ -304,15 +304,15 @@ module _ (text : List ℕ) (es : List Entry) (rem : Bool) where
         ])
         (λ y. ret _ (omega arith))
 
-    nextMatrixRows-pays : (p : ℕ) →
-        Pays p 0 (nextMatrixRows text es rem R)
-        (perhaps (λ (r : Rows). 8 + 6 * count r.head.cells + rowsCost text (rows_of r)))
-    unfolding nextMatrixRows
-    nextMatrixRows-pays p =
-        bind (nextMatrixRow-pays p) (omega arith) λ q a. elim a [
+    next_matrix_rows-pays : (p : ℕ) →
+        Pays p 0 (next_matrix_rows text es rem R)
+        (perhaps (λ (r : Rows). 8 + 6 * count r.head.cells + rows_cost text (rows_of r)))
+    unfolding next_matrix_rows
+    next_matrix_rows-pays p =
+        bind (next_matrix_row-pays p) (omega arith) λ q a. elim a [
           | none ↦ ret _ (omega arith)
           | some h ↦ by_cases _
-              (λ y. bind (moreRows-pays _ q h) (omega arith) λ r l. elim l [
+              (λ y. bind (more_rows-pays _ q h) (omega arith) λ r l. elim l [
                 | none ↦ ret _ (omega arith)
                 | some m ↦ ret _ (omega arith)
               ])
@@ -324,12 +324,12 @@ module _ (text : List ℕ) (es : List Entry) (rem : Bool) where
       abbrev opener : ℕ
       opener = 34 + 14 * o.span.len
 
-      matrixBody-pays : (p : ℕ) → Pays p opener (matrixBody text es rem R o i) (tryCost opener)
-      unfolding matrixBody
-      matrixBody-pays p =
-          bind (nextMatrixRows-pays p) (omega arith) λ q a. elim a [
+      matrix_body-pays : (p : ℕ) → Pays p opener (matrix_body text es rem R o i) (try_cost opener)
+      unfolding matrix_body
+      matrix_body-pays p =
+          bind (next_matrix_rows-pays p) (omega arith) λ q a. elim a [
             | none ↦ ret _ (omega arith)
-            | some r ↦ placed λ j at. by_cases (makesMatrix text es o i r j)
+            | some r ↦ placed λ j at. by_cases (makes_matrix text es o i r j)
                 (λ y. taking any λ t. elim t [
                   | none ↦ λ h. ret _ (omega arith)
                   | some c ↦ λ h.
@@ -339,13 +339,13 @@ module _ (text : List ℕ) (es : List Entry) (rem : Bool) where
                 (λ y. ret _ (omega arith))
           ]
 
-      barBody-pays : (p : ℕ) (stop : Stop) → Pays p opener (barBody text es rem R o i stop) (tryCost opener)
-      unfolding barBody cost
-      barBody-pays p stop =
-          bind (nextIntermediate-pays p stop true) (omega arith) λ q a. elim a [
+      bar_body-pays : (p : ℕ) (stop : Stop) → Pays p opener (bar_body text es rem R o i stop) (try_cost opener)
+      unfolding bar_body cost
+      bar_body-pays p stop =
+          bind (next_intermediate-pays p stop true) (omega arith) λ q a. elim a [
             | none ↦ ret _ (omega arith)
             | some x ↦ bind (intermediates-pays _ q (some o) stop (some x)) (omega arith) λ r l.
-                placed λ j at. by_cases (is_at text es (isBar text es o) j)
+                placed λ j at. by_cases (is_at text es (is_bar text es o) j)
                 (λ y. taking any λ t. elim t [
                   | none ↦ λ h. ret _ (omega arith)
                   | some c ↦ λ h.
@@ -355,32 +355,32 @@ module _ (text : List ℕ) (es : List Entry) (rem : Bool) where
                 (λ y. ret _ (omega arith))
           ]
 
-      nextOpenGroup-pays : (p : ℕ) → Pays p opener (nextOpenGroup text es rem R o i) (cost text)
-      unfolding nextOpenGroup cost
-      nextOpenGroup-pays p =
+      next_open_group-pays : (p : ℕ) → Pays p opener (next_open_group text es rem R o i) (cost text)
+      unfolding next_open_group cost
+      next_open_group-pays p =
           bind (intermediates-pays _ p none Stop.none none) (omega arith) λ q l. taking (is token.CloseBracket) λ t. elim t [
             | none ↦ λ h. ret _ (omega arith)
             | some c ↦ λ h. let w = worth text token.CloseBracket c h.1 in noted i _ (omega arith)
           ]
 
-      tryMatrix-pays : (p : ℕ) → Pays p opener (tryMatrix text es rem R o i) (or_else opener)
-      unfolding tryMatrix
-      tryMatrix-pays p = by_cases _ (λ y. attempt-pays matrixMark i (matrixBody-pays p)) (λ y. ret _ (omega arith))
+      try_matrix-pays : (p : ℕ) → Pays p opener (try_matrix text es rem R o i) (or_else opener)
+      unfolding try_matrix
+      try_matrix-pays p = by_cases _ (λ y. attempt-pays matrix_mark i (matrix_body-pays p)) (λ y. ret _ (omega arith))
 
-      nextBracket-pays : (p : ℕ) → Pays p opener (nextBracket text es rem R o i) (cost text)
-      unfolding nextBracket
-      nextBracket-pays p =
-          bind (tryMatrix-pays p) (omega arith) λ q m. elim m [
+      next_bracket-pays : (p : ℕ) → Pays p opener (next_bracket text es rem R o i) (cost text)
+      unfolding next_bracket
+      next_bracket-pays p =
+          bind (try_matrix-pays p) (omega arith) λ q m. elim m [
             | some x ↦ ret _ (omega arith)
-            | none ↦ spare (nextOpenGroup-pays q) (λ x. omega arith)
+            | none ↦ spare (next_open_group-pays q) (λ x. omega arith)
           ]
 
-      nextOpenCloseGroup-pays : (p : ℕ) (stop : Stop) → Pays p opener (nextOpenCloseGroup text es rem R o i stop) (cost text)
-      unfolding nextOpenCloseGroup cost
-      nextOpenCloseGroup-pays p stop =
-          bind (tryMatrix-pays p) (omega arith) λ q m. elim m [
+      next_open_close_group-pays : (p : ℕ) (stop : Stop) → Pays p opener (next_open_close_group text es rem R o i stop) (cost text)
+      unfolding next_open_close_group cost
+      next_open_close_group-pays p stop =
+          bind (try_matrix-pays p) (omega arith) λ q m. elim m [
             | some x ↦ ret _ (omega arith)
-            | none ↦ bind (attempt-pays (openMark stop) i (barBody-pays q stop)) (omega arith) λ r g. elim g [
+            | none ↦ bind (attempt-pays (open_mark stop) i (bar_body-pays q stop)) (omega arith) λ r g. elim g [
               | none ↦ ret _ (omega arith)
               | some x ↦ ret _ (omega arith)
             ]
@@ -388,7 +388,7 @@ module _ (text : List ℕ) (es : List Entry) (rem : Bool) where
 
     -- what a token begins, by its price
     begun-pays : (k : Token) (e : Entry) (i p : ℕ) (stop : Stop) (sg : Bool) →
-        Pays p (priceOf text k e.span) (begun text es rem R k e i stop sg) (perhaps (cost text))
+        Pays p (price_of text k e.span) (begun text es rem R k e i stop sg) (perhaps (cost text))
     unfolding begun cost
     begun-pays token.Number e i p stop sg = ret _ (omega arith)
     begun-pays token.Text e i p stop sg = ret _ (omega arith)
@@ -405,9 +405,9 @@ module _ (text : List ℕ) (es : List Entry) (rem : Bool) where
     begun-pays token.Function e i p stop sg = bind (argument-pays p) (omega arith) λ q a. ret _ (omega arith)
     begun-pays token.Binary e i p stop sg =
         bind (argument-pays p) (omega arith) λ q a. bind (argument-pays q) (omega arith) λ r b. ret _ (omega arith)
-    begun-pays token.OpenBracket e i p stop sg = bind (nextBracket-pays e i p) (omega arith) λ q a. ret _ (omega arith)
+    begun-pays token.OpenBracket e i p stop sg = bind (next_bracket-pays e i p) (omega arith) λ q a. ret _ (omega arith)
     begun-pays token.OpenCloseBracket e i p stop sg =
-        bind (nextOpenCloseGroup-pays e i p stop) (omega arith) λ q a. ret _ (omega arith)
+        bind (next_open_close_group-pays e i p stop) (omega arith) λ q a. ret _ (omega arith)
     begun-pays token.Sep e i p stop sg = ret _ (omega arith)
     begun-pays token.Frac e i p stop sg = ret _ (omega arith)
     begun-pays token.Super e i p stop sg = ret _ (omega arith)
@@ -415,9 +415,9 @@ module _ (text : List ℕ) (es : List Entry) (rem : Bool) where
     begun-pays token.CloseBracket e i p stop sg = ret _ (omega arith)
     begun-pays token.Space e i p stop sg = ret _ (omega arith)
 
-    nextSimple-pays : (p : ℕ) (stop : Stop) (sg : Bool) → Pays p 0 (nextSimple text es rem R stop sg) (found p)
-    unfolding nextSimple
-    nextSimple-pays p stop sg =
+    next_simple-pays : (p : ℕ) (stop : Stop) (sg : Bool) → Pays p 0 (next_simple text es rem R stop sg) (found p)
+    unfolding next_simple
+    next_simple-pays p stop sg =
         placed λ i at. taking (begins stop) λ t. elim t [
           | none ↦ λ h. ret _ (omega arith)
           | some e ↦ λ h.
@@ -427,11 +427,11 @@ module _ (text : List ℕ) (es : List Entry) (rem : Bool) where
 
     step-pays : Paying (step text es rem R)
     unfolding step
-    step-pays = record { simple = nextSimple-pays; scriptFunc = nextScriptFunc-pays }
+    step-pays = record { simple = next_simple-pays; script_func = next_script_func-pays }
 
   level-pays : (r : ℕ) → Paying (level text es rem r)
   unfolding level
-  level-pays zero = record { simple = λ p stop sg. ret _ (omega arith); scriptFunc = λ p stop sg. ret _ (omega arith) }
+  level-pays zero = record { simple = λ p stop sg. ret _ (omega arith); script_func = λ p stop sg. ret _ (omega arith) }
   level-pays (suc r) = step-pays (level text es rem r) (level-pays r)
 
   -- an unmatched closer pays for the group that it closes
@@ -452,7 +452,7 @@ module _ (text : List ℕ) (es : List Entry) (rem : Bool) where
 
 -- The tree costs no more than the entries up to some place pay.
 pub tree-paid : (text : List ℕ) (es : List Entry) (rem : Bool) →
-    costs text (parseEntries text es rem).0 ≤ paid text es (parseEntries text es rem).1.pos
-unfolding parseEntries costs
+    costs text (parse_entries text es rem).0 ≤ paid text es (parse_entries text es rem).1.pos
+unfolding parse_entries costs
 tree-paid text es rem =
     omega (arith, (parse-pays text es rem (suc (length es)) 256 0 end).run (start text es rem) refl)

@@ -13,15 +13,15 @@ use Rattle.tree.specs.Tree.{Head, Nodes}
 use Rattle.mathml_rules.specs.declared.Mode.TheVariants as mode
 use Rattle.mathml_rules.specs.Run.{run}
 use Rattle.mathml_rules.specs.Utf8.{encoded, utf8}
-use Rattle.mathml_rules.specs.Elements.{Element, element, elements, elementOf}
+use Rattle.mathml_rules.specs.Elements.{Element, element, elements, element_of}
 use Rattle.mathml_rules.specs.Pieces.{Piece, Escape, escapes, escaped, esc, bytes_of, written, within}
 use Rattle.mathml_rules.specs.Commands.{unaries}
-use Rattle.mathml_rules.specs.Mathml.{together, columnlines, outs, root, mathmlOf}
+use Rattle.mathml_rules.specs.Mathml.{together, columnlines, outs, root, mathml_of}
 use Rattle.mathml_rules.specs.Nested.{Stack, State, popped, closed, step, reads, is_whole, nested}
 use Rattle.mathml_rules.proofs.Run.{run-append, run-cons}
 use Rattle.mathml_rules.proofs.Lists.{All, all, all-at, every, passed, both}
 use Rattle.mathml_rules.proofs.Closed.{Closed, all-fine, closed-items}
-use Rattle.mathml_rules.proofs.Escapes.{Plain, plain, by-escape, columnlines-pass, written-append}
+use Rattle.mathml_rules.proofs.Escapes.{Plain, plain, by_escape, columnlines-pass, written-append}
 
 same_self : (s : List ℕ) → same s s ≡ true
 unfolding same
@@ -69,8 +69,8 @@ elements-sound : every sound elements ≡ true
 unfolding elements letter
 elements-sound = refl
 
-sound-at : (e : ℕ) → sound (elementOf e) ≡ true
-unfolding elementOf letter
+sound-at : (e : ℕ) → sound (element_of e) ≡ true
+unfolding element_of letter
 sound-at e = all-at (λ x. sound x ≡ true) elements (element "mrow" "") (passed sound elements elements-sound) refl e
 
 -- Behind the name n of a start tag, and perhaps in its attributes.
@@ -121,11 +121,11 @@ named-open st (c ∷ s) e =
     rw (opened-joins st c h.0) (spelled (λ n. State.starting n st) (starting-joins st) s (c ∷ []) h.1)
 
 start-pushes : (e : ℕ) (more : List ℕ) → tailed more ≡ true → (st : Stack) →
-    reads (State.content st) (bytes_of (Piece.start e more)) ≡ State.content ((elementOf e).name ∷ st)
+    reads (State.content st) (bytes_of (Piece.start e more)) ≡ State.content ((element_of e).name ∷ st)
 unfolding bytes_of
 start-pushes e more t st =
-    let n = (elementOf e).name in
-    let a = (elementOf e).attributes in
+    let n = (element_of e).name in
+    let a = (element_of e).attributes in
     let h = both (lettered n) (tailed a) (sound-at e) in
     let o = behind n st (behind n st Open.named a h.1) more t in
     rw (
@@ -147,11 +147,11 @@ closes : (n : List ℕ) (st : Stack) → closed n (n ∷ st) ≡ popped st
 unfolding closed
 closes n st = rw (same_self n, closed)
 
-end-pops : (e : ℕ) (st : Stack) → reads (State.content ((elementOf e).name ∷ st)) (bytes_of (Piece.end e)) ≡ popped st
+end-pops : (e : ℕ) (st : Stack) → reads (State.content ((element_of e).name ∷ st)) (bytes_of (Piece.end e)) ≡ popped st
 unfolding run bytes_of step letter
 end-pops e st =
-    let n = (elementOf e).name in
-    let h = both (lettered n) (tailed (elementOf e).attributes) (sound-at e) in
+    let n = (element_of e).name in
+    let h = both (lettered n) (tailed (element_of e).attributes) (sound-at e) in
     rw (
       run-append step (State.ending [] (n ∷ st)) n (62 ∷ []),
       spelled (λ m. State.ending m (n ∷ st)) (ending-joins (n ∷ st)) n [] (letters n h.0),
@@ -167,14 +167,14 @@ kept-both s u p q t st = rw (run-append step (State.content (t ∷ st)) s u, p t
 -- "esc gives no byte 60 or 62"
 plain-kept : (c : ℕ) → Plain c → Kept (c ∷ [])
 unfolding run step
-plain-kept c p t st = rw (p.no_less, p.no-greater, step)
+plain-kept c p t st = rw (p.no_less, p.no_greater, step)
 
 instead-kept : All (λ (r : Escape). Kept r.instead) escapes
 unfolding escapes utf8 encoded run step
 instead-kept = search arith
 
 escaped-kept : (c : ℕ) → Kept (escaped c)
-escaped-kept c = by-escape Kept c escapes instead-kept (λ p. plain-kept c (plain c p))
+escaped-kept c = by_escape Kept c escapes instead-kept (λ p. plain-kept c (plain c p))
 
 esc-kept : (s : List ℕ) → Kept (esc s)
 unfolding esc run
@@ -186,7 +186,7 @@ element-pops : (e : ℕ) (more : List ℕ) (x : List Piece) → tailed more ≡ 
     reads (State.content st) (written (within e more x)) ≡ popped st
 unfolding written within
 element-pops e more x t k st =
-    let n = (elementOf e).name in
+    let n = (element_of e).name in
     let a = bytes_of (Piece.start e more) in
     let z = bytes_of (Piece.end e) in
     rw (
@@ -217,8 +217,8 @@ nests = record {
 }
 
 -- "for every text and tree: `nested bytes ≡ true`"
-pub nested-output : (text : List ℕ) (tree : Nodes) → nested (mathmlOf text tree) ≡ true
-unfolding nested mathmlOf root popped is_whole
+pub nested-output : (text : List ℕ) (tree : Nodes) → nested (mathml_of text tree) ≡ true
+unfolding nested mathml_of root popped is_whole
 nested-output text tree =
     rw (element-pops 19 [] (together (outs text mode.Keep Head.cell 0 tree)) refl
     (closed-items nests text tree (all-fine (λ s. Unit {0}) text (λ sp. tt) tree)) [])

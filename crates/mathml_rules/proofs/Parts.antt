@@ -11,41 +11,41 @@ use lib.Dec.{eqb, ltb}
 use borrow.Author.Tests.{eq-eqb, ne_eqb, eqb-true, eqb-false, ltb-true, ltb-false}
 use Rattle.tokens.specs.Bytes.{bytes, same}
 use Rattle.tokens.specs.Lexeme.{Span}
-use Rattle.tokens.proofs.Cases.{by-test, by-lt}
+use Rattle.tokens.proofs.Cases.{by_test, by_lt}
 use Rattle.tree.specs.Tree.{Script, Head, Prefix, Node, node, Nodes, end, ◌▸◌, ◌⧺◌, count}
 use Rattle.tree.specs.WellFormed.{Lines, Simple, Cells, Arguments, ScriptFunc, Intermediate, Expression, Behind}
 use Rattle.tree.specs.Decode as tree
 use Rattle.mathml_rules.specs.declared.Mode.{Mode}
 use Rattle.mathml_rules.specs.Pieces.{Piece, within, E, L}
-use Rattle.mathml_rules.specs.Commands.{Command, unaries, exchanging, mark, unaryBy, unary, binaryBy, binary}
-use Rattle.mathml_rules.specs.Mathml.{own, together, atom, S, arguments, A, B, dropped, group, has, lineEntry, lineEntries, columnlines, tableRows, table, handed, child, join, out, outs}
+use Rattle.mathml_rules.specs.Commands.{Command, unaries, exchanging, mark, unary_by, unary, binary_by, binary}
+use Rattle.mathml_rules.specs.Mathml.{own, together, atom, S, arguments, A, B, dropped, group, has, line_entry, line_entries, columnlines, table_rows, table, handed, child, join, out, outs}
 use Rattle.mathml_rules.proofs.Children.{outs-length}
-use Rattle.mathml_rules.specs.Parts.{begin, finish, beginScript, finishScript, beginUnary, finishUnary, binaryElement, exchanges, kept, notBefore, firstIs, entryFor, entriesFrom, lineAttribute, opening, closing, betweenFunc, oneLess, cellsLeft, colsOf, before, woven, swaps, between, WholeRows, Whole, Wholes}
+use Rattle.mathml_rules.specs.Parts.{begin, finish, begin_script, finish_script, begin_unary, finish_unary, binary_element, exchanges, kept, not_before, first_is, entry_for, entries_from, line_attribute, opening, closing, between_func, one_less, cells_left, cols_of, before, woven, swaps, between, WholeRows, Whole, Wholes}
 
 ruleset flat = (append_assoc, append-nil)
 
-unary-parts : (rs : List Command) (s : List ℕ) (c : List Piece) → unaryBy rs s c ≡ beginUnary rs s ++ (c ++ finishUnary rs s)
-unfolding unaryBy beginUnary finishUnary within
+unary-parts : (rs : List Command) (s : List ℕ) (c : List Piece) → unary_by rs s c ≡ begin_unary rs s ++ (c ++ finish_unary rs s)
+unfolding unary_by begin_unary finish_unary within
 unary-parts [] s c = simp flat
 unary-parts (r ∷ rs) s c =
     elim (same r.name s) as (λ t.
-    elim t [ true ↦ E r.element (mark r.left ++ (c ++ mark r.right)) | false ↦ unaryBy rs s c ] ≡
-    elim t [ true ↦ begin r.element ++ mark r.left | false ↦ beginUnary rs s ] ++
-    (c ++ elim t [ true ↦ mark r.right ++ finish r.element | false ↦ finishUnary rs s ])
+    elim t [ true ↦ E r.element (mark r.left ++ (c ++ mark r.right)) | false ↦ unary_by rs s c ] ≡
+    elim t [ true ↦ begin r.element ++ mark r.left | false ↦ begin_unary rs s ] ++
+    (c ++ elim t [ true ↦ mark r.right ++ finish r.element | false ↦ finish_unary rs s ])
     ) [ true ↦ simp flat | false ↦ unary-parts rs s c ]
 
 -- with the element's children in the order in which they are written
 binary-parts : (rs : List Command) (s : List ℕ) (c1 c2 : List Piece) →
-    binaryBy rs s c1 c2
-    ≡ begin (binaryElement rs s) ++ (elim (exchanges rs s) [ true ↦ c2 ++ c1 | false ↦ c1 ++ c2 ] ++ finish (binaryElement rs s))
-unfolding binaryBy binaryElement exchanges within
+    binary_by rs s c1 c2
+    ≡ begin (binary_element rs s) ++ (elim (exchanges rs s) [ true ↦ c2 ++ c1 | false ↦ c1 ++ c2 ] ++ finish (binary_element rs s))
+unfolding binary_by binary_element exchanges within
 binary-parts [] s c1 c2 = refl
 binary-parts (r ∷ rs) s c1 c2 =
-    by-test (same r.name s) (λ e. rw (e, binaryBy, binaryElement, exchanges))
-    (λ e. rw (e, binaryBy, binaryElement, exchanges) (binary-parts rs s c1 c2))
+    by_test (same r.name s) (λ e. rw (e, binary_by, binary_element, exchanges))
+    (λ e. rw (e, binary_by, binary_element, exchanges) (binary-parts rs s c1 c2))
 
-script-parts : (sc : Script) (base args : List Piece) → (sc ≡ Script.none → args ≡ []) → S sc base args ≡ beginScript sc ++ (base ++ (args ++ finishScript sc))
-unfolding S beginScript finishScript within
+script-parts : (sc : Script) (base args : List Piece) → (sc ≡ Script.none → args ≡ []) → S sc base args ≡ begin_script sc ++ (base ++ (args ++ finish_script sc))
+unfolding S begin_script finish_script within
 script-parts Script.none base args e = rw (e refl) (simp flat)
 script-parts Script.sub base args e = simp flat
 script-parts Script.super base args e = simp flat
@@ -54,7 +54,7 @@ script-parts Script.subsuper base args e = simp flat
 group-parts : (m : Mode) (l r : List ℕ) (x : List Piece) → group m l r x ≡ (begin 15 ++ kept m l r l) ++ (x ++ (kept m l r r ++ finish 15))
 unfolding group kept within
 group-parts m l r x =
-    by-test (dropped m l r) (λ e. rw (e, group, kept)) (λ e. rw (e, group, kept) (simp flat))
+    by_test (dropped m l r) (λ e. rw (e, group, kept)) (λ e. rw (e, group, kept) (simp flat))
 
 -- children with nothing between them
 plain-woven : (text : List ℕ) (h : Head) → ((i left : ℕ) → before text h i left ≡ []) → (i left : ℕ) (cs : List (List Piece)) →
@@ -62,57 +62,57 @@ plain-woven : (text : List ℕ) (h : Head) → ((i left : ℕ) → before text h
 unfolding woven together
 plain-woven text h e i left [] = refl
 plain-woven text h e i left (c ∷ cs) =
-    rw (e i left) (ap (λ (x : List Piece). c ++ x) (plain-woven text h e (suc i) (cellsLeft (colsOf h) left) cs))
+    rw (e i left) (ap (λ (x : List Piece). c ++ x) (plain-woven text h e (suc i) (cells_left (cols_of h) left) cs))
 
 plain-between : (text : List ℕ) (h : Head) → swaps text h ≡ false → ((i left : ℕ) → before text h i left ≡ []) → (cs : List (List Piece)) →
     between text h cs ≡ together cs
 unfolding between
-plain-between text h s e cs = rw (s, between) (plain-woven text h e 0 (colsOf h) cs)
+plain-between text h s e cs = rw (s, between) (plain-woven text h e 0 (cols_of h) cs)
 
 -- the last child of a function behind what stands before it alone
 woven-last : (text : List ℕ) (sp : Span) (sc : Script) (i left : ℕ) (cs : List (List Piece)) (c : List Piece) →
-    ((j : ℕ) → j < i + length cs → betweenFunc sc (own text sp) j ≡ []) →
-    woven text (Head.func sp sc) i left (cs ++ (c ∷ [])) ≡ together cs ++ (betweenFunc sc (own text sp) (i + length cs) ++ c)
+    ((j : ℕ) → j < i + length cs → between_func sc (own text sp) j ≡ []) →
+    woven text (Head.func sp sc) i left (cs ++ (c ∷ [])) ≡ together cs ++ (between_func sc (own text sp) (i + length cs) ++ c)
 unfolding woven together before
 woven-last text sp sc i left [] c h = let e : i + 0 ≡ i = omega arith in rw e (simp flat)
 woven-last text sp sc i left (a ∷ cs) c h =
     let e : i + suc (length cs) ≡ suc i + length cs = omega arith in
     rw (h i (omega arith), e)
-    (ap (λ x. a ++ x) (woven-last text sp sc (suc i) (cellsLeft 0 left) cs c (λ j k. h j (omega arith))) ∙ simp flat)
+    (ap (λ x. a ++ x) (woven-last text sp sc (suc i) (cells_left 0 left) cs c (λ j k. h j (omega arith))) ∙ simp flat)
 
 -- the cells of a matrix, of which so many are left in the row
-unfoldable wovenCells : ℕ → ℕ → List (List Piece) → List Piece
-wovenCells cols left [] = []
-wovenCells cols zero (c ∷ cs) = finish 32 ++ (begin 32 ++ (c ++ wovenCells cols (oneLess cols) cs))
-wovenCells cols (suc left) (c ∷ cs) = c ++ wovenCells cols left cs
+unfoldable woven_cells : ℕ → ℕ → List (List Piece) → List Piece
+woven_cells cols left [] = []
+woven_cells cols zero (c ∷ cs) = finish 32 ++ (begin 32 ++ (c ++ woven_cells cols (one_less cols) cs))
+woven_cells cols (suc left) (c ∷ cs) = c ++ woven_cells cols left cs
 
 cells-woven : (text : List ℕ) (a b : Span) (cols : ℕ) (lines : List ℕ) (i left : ℕ) (cs : List (List Piece)) →
-    woven text (Head.matrix a b cols lines) i left cs ≡ wovenCells cols left cs
-unfolding woven wovenCells before
+    woven text (Head.matrix a b cols lines) i left cs ≡ woven_cells cols left cs
+unfolding woven woven_cells before
 cells-woven text a b cols lines i left [] = refl
 cells-woven text a b cols lines i zero (c ∷ cs) =
-    ap (λ (x : List Piece). finish 32 ++ (begin 32 ++ (c ++ x))) (cells-woven text a b cols lines (suc i) (oneLess cols) cs)
+    ap (λ (x : List Piece). finish 32 ++ (begin 32 ++ (c ++ x))) (cells-woven text a b cols lines (suc i) (one_less cols) cs)
 cells-woven text a b cols lines i (suc left) (c ∷ cs) = ap (λ (x : List Piece). c ++ x) (cells-woven text a b cols lines (suc i) left cs)
 
 cells-between : (text : List ℕ) (a b : Span) (cols : ℕ) (lines : List ℕ) (cs : List (List Piece)) →
-    between text (Head.matrix a b cols lines) cs ≡ wovenCells cols cols cs
+    between text (Head.matrix a b cols lines) cs ≡ woven_cells cols cols cs
 unfolding between swaps
 cells-between text a b cols lines cs = cells-woven text a b cols lines 0 cols cs
 
 -- the cells: the rest of the row, then new rows
-cells-split : (cols k : ℕ) (cs : List (List Piece)) → k ≤ length cs → wovenCells cols k cs ≡ together (take k cs) ++ wovenCells cols zero (drop k cs)
-unfolding wovenCells together
+cells-split : (cols k : ℕ) (cs : List (List Piece)) → k ≤ length cs → woven_cells cols k cs ≡ together (take k cs) ++ woven_cells cols zero (drop k cs)
+unfolding woven_cells together
 cells-split cols zero cs h = refl
 cells-split cols (suc k) [] h = absurd (omega arith)
 cells-split cols (suc k) (c ∷ cs) h = ap (λ x. c ++ x) (cells-split cols k cs (omega arith)) ∙ simp flat
 
-row_new : (d : ℕ) (cs : List (List Piece)) → 0 < length cs → wovenCells (suc d) zero cs ≡ finish 32 ++ (begin 32 ++ wovenCells (suc d) (suc d) cs)
-unfolding wovenCells
+row_new : (d : ℕ) (cs : List (List Piece)) → 0 < length cs → woven_cells (suc d) zero cs ≡ finish 32 ++ (begin 32 ++ woven_cells (suc d) (suc d) cs)
+unfolding woven_cells
 row_new d [] h = absurd (omega arith)
 row_new d (c ∷ cs) h = refl
 
-no_rows : (f cols : ℕ) (cs : List (List Piece)) → length cs ≡ 0 → (tableRows f cols cs ≡ []) × (wovenCells cols zero cs ≡ [])
-unfolding tableRows wovenCells
+no_rows : (f cols : ℕ) (cs : List (List Piece)) → length cs ≡ 0 → (table_rows f cols cs ≡ []) × (woven_cells cols zero cs ≡ [])
+unfolding table_rows woven_cells
 no_rows zero cols [] e = (refl, refl)
 no_rows (suc f) cols [] e = (refl, refl)
 no_rows f cols (c ∷ cs) e = absurd (omega arith)
@@ -125,8 +125,8 @@ next_row : (x z b y : List Piece) → (x ++ z) ++ (b ++ (y ++ z)) ≡ (x ++ (z +
 next_row x z b y = simp flat
 
 rows-parts : (f r d : ℕ) (cs : List (List Piece)) → length cs ≡ suc r * suc d → length cs ≤ f →
-    tableRows f (suc d) cs ≡ begin 32 ++ (wovenCells (suc d) (suc d) cs ++ finish 32)
-unfolding tableRows within
+    table_rows f (suc d) cs ≡ begin 32 ++ (woven_cells (suc d) (suc d) cs ++ finish 32)
+unfolding table_rows within
 rows-parts zero r d cs e h = let m = suc-mul r (suc d) in absurd (omega arith)
 rows-parts (suc f) r d [] e h = let m = suc-mul r (suc d) in absurd (omega arith)
 rows-parts (suc f) zero d (c ∷ cs) e h =
@@ -141,7 +141,7 @@ rows-parts (suc f) (suc r) d (c ∷ cs) e h =
     let later = rows-parts f r d (drop d cs) b (simp length-drop (omega arith)) in
     rw (cells-split (suc d) (suc d) (c ∷ cs) (omega arith), later, row_new d (drop d cs) (omega arith))
     (ap (λ x. Piece.start 32 [] ∷ x)
-    (next_row (together (take (suc d) (c ∷ cs))) (finish 32) (begin 32) (wovenCells (suc d) (suc d) (drop d cs))))
+    (next_row (together (take (suc d) (c ∷ cs))) (finish 32) (begin 32) (woven_cells (suc d) (suc d) (drop d cs))))
 
 -- How many children a node of each kind has, and that column lines are in order, in a well-formed tree.
 abbrev pub Fits : Head → List (List Piece) → Type 0
@@ -165,18 +165,18 @@ no_arguments sc [] e n = refl
 no_arguments sc (a ∷ args) e n = absurd (omega (arith, rw n at e))
 
 simple-parts : (sc : Script) (c : List Piece) (args : List (List Piece)) → length args ≡ arguments sc →
-    S sc c (together (take (arguments sc) args)) ≡ beginScript sc ++ ((c ++ together args) ++ finishScript sc)
+    S sc c (together (take (arguments sc) args)) ≡ begin_script sc ++ ((c ++ together args) ++ finish_script sc)
 simple-parts sc c args e =
     rw (take_all (arguments sc) args (omega arith)) (script-parts sc c (together args) (no_arguments sc args e) ∙ simp flat)
 
 -- between the arguments of a script nothing, and before the function's argument the rest
-no-between : (sc : Script) (name : List ℕ) (j : ℕ) → j < arguments sc → betweenFunc sc name j ≡ []
-unfolding betweenFunc
-no-between sc name j h = rw (ne_eqb j (arguments sc) (λ e. omega arith), betweenFunc)
+no_between : (sc : Script) (name : List ℕ) (j : ℕ) → j < arguments sc → between_func sc name j ≡ []
+unfolding between_func
+no_between sc name j h = rw (ne_eqb j (arguments sc) (λ e. omega arith), between_func)
 
-at-argument : (sc : Script) (name : List ℕ) → betweenFunc sc name (arguments sc) ≡ finishScript sc ++ A name
-unfolding betweenFunc
-at-argument sc name = rw (eq-eqb (arguments sc) (arguments sc) refl, betweenFunc)
+at_argument : (sc : Script) (name : List ℕ) → between_func sc name (arguments sc) ≡ finish_script sc ++ A name
+unfolding between_func
+at_argument sc name = rw (eq-eqb (arguments sc) (arguments sc) refl, between_func)
 
 func-flat : (b l t f a c z : List Piece) → ((b ++ (l ++ (t ++ f))) ++ (a ++ c)) ++ z ≡ (b ++ l) ++ ((t ++ ((f ++ a) ++ c)) ++ z)
 func-flat b l t f a c z = simp flat
@@ -184,7 +184,7 @@ func-flat b l t f a c z = simp flat
 func-parts : (text : List ℕ) (sp : Span) (sc : Script) (args : List (List Piece)) (c : List Piece) → length args ≡ arguments sc →
     let name = own text sp in
     E 14 (S sc (L 3 name) (together (take (arguments sc) (args ++ (c ∷ [])))) ++ (A name ++ child (args ++ (c ∷ [])) (arguments sc))) ≡
-    (begin 14 ++ (beginScript sc ++ L 3 name)) ++ (woven text (Head.func sp sc) 0 0 (args ++ (c ∷ [])) ++ finish 14)
+    (begin 14 ++ (begin_script sc ++ L 3 name)) ++ (woven text (Head.func sp sc) 0 0 (args ++ (c ∷ [])) ++ finish 14)
 unfolding within
 func-parts text sp sc args c e =
     let name = own text sp in
@@ -193,11 +193,11 @@ func-parts text sp sc args c e =
       take_at args (c ∷ []) (arguments sc) e,
       get_or_at args c [] [] (arguments sc) e,
       script-parts sc (L 3 name) (together args) (no_arguments sc args e),
-      woven-last text sp sc 0 0 args c (λ j h. no-between sc name j (omega arith)),
+      woven-last text sp sc 0 0 args c (λ j h. no_between sc name j (omega arith)),
       z,
-      at-argument sc name,
+      at_argument sc name,
     )
-    (ap (λ x. Piece.start 14 [] ∷ x) (func-flat (beginScript sc) (L 3 name) (together args) (finishScript sc) (A name) c (finish 14)))
+    (ap (λ x. Piece.start 14 [] ∷ x) (func-flat (begin_script sc) (L 3 name) (together args) (finish_script sc) (A name) c (finish 14)))
 
 matrix-flat : (l o b w z y r t : List Piece) → (l ++ ((o ++ ((b ++ (w ++ z)) ++ y)) ++ r)) ++ t ≡ (l ++ (o ++ b)) ++ (w ++ (z ++ (y ++ (r ++ t))))
 matrix-flat l o b w z y r t = simp flat
@@ -205,49 +205,49 @@ matrix-flat l o b w z y r t = simp flat
 matrix-parts : (l r : List ℕ) (n d : ℕ) (lines : List ℕ) (cs : List (List Piece)) → length cs ≡ suc n * suc d →
     E 16 (B l ++ (table (suc d) lines cs ++ B r)) ≡
     (begin 16 ++ (B l ++ (Piece.start 31 (columnlines (suc d) lines) ∷ begin 32))) ++
-    (wovenCells (suc d) (suc d) cs ++ (finish 32 ++ (finish 31 ++ (B r ++ finish 16))))
+    (woven_cells (suc d) (suc d) cs ++ (finish 32 ++ (finish 31 ++ (B r ++ finish 16))))
 unfolding table within
 matrix-parts l r n d lines cs e =
     rw (rows-parts (length cs) n d cs e (omega arith))
     (ap (λ x. Piece.start 16 [] ∷ x)
-    (matrix-flat (B l) (Piece.start 31 (columnlines (suc d) lines) ∷ []) (begin 32) (wovenCells (suc d) (suc d) cs) (finish 32) (finish 31) (B r) (finish 16)))
+    (matrix-flat (B l) (Piece.start 31 (columnlines (suc d) lines) ∷ []) (begin 32) (woven_cells (suc d) (suc d) cs) (finish 32) (finish 31) (B r) (finish 16)))
 
 -- The attribute of a table, its lines in order.
-has-passed : (j k : ℕ) → k ≤ j → (lines : List ℕ) → has j (notBefore k lines) ≡ has j lines
-unfolding has notBefore
+has-passed : (j k : ℕ) → k ≤ j → (lines : List ℕ) → has j (not_before k lines) ≡ has j lines
+unfolding has not_before
 has-passed j k h [] = refl
 has-passed j k h (b ∷ l) =
-    by-test (ltb b k)
-    (λ e. let n : eqb j b ≡ false = ne_eqb j b (λ z. omega (arith, ltb-true b k e)) in rw (e, notBefore, n) (has-passed j k h l))
-    (λ e. rw (e, notBefore))
+    by_test (ltb b k)
+    (λ e. let n : eqb j b ≡ false = ne_eqb j b (λ z. omega (arith, ltb-true b k e)) in rw (e, not_before, n) (has-passed j k h l))
+    (λ e. rw (e, not_before))
 
-in_order : {cols b : ℕ} (k : ℕ) (l : List ℕ) → Lines cols b l → Lines cols k (notBefore k l)
-unfolding notBefore
+in_order : {cols b : ℕ} (k : ℕ) (l : List ℕ) → Lines cols b l → Lines cols k (not_before k l)
+unfolding not_before
 in_order k [] Lines.none = Lines.none
 in_order k (c ∷ l) (Lines.line u v w) =
-    by-test (ltb c k) (λ e. rw (e, notBefore) (in_order k l w)) (λ e. rw (e, notBefore) (Lines.line {b = k} {c = c} (omega (arith, ltb-false c k e)) v w))
+    by_test (ltb c k) (λ e. rw (e, not_before) (in_order k l w)) (λ e. rw (e, not_before) (Lines.line {b = k} {c = c} (omega (arith, ltb-false c k e)) v w))
 
 none_before : {cols b : ℕ} (j : ℕ) (l : List ℕ) → j < b → Lines cols b l → has j l ≡ false
 unfolding has
 none_before j [] h Lines.none = refl
 none_before j (c ∷ l) h (Lines.line u v w) = rw (ne_eqb j c (λ z. omega arith)) (none_before j l (omega arith) w)
 
-first-has : {cols : ℕ} (j : ℕ) (l : List ℕ) → Lines cols j l → has j l ≡ firstIs j l
+first-has : {cols : ℕ} (j : ℕ) (l : List ℕ) → Lines cols j l → has j l ≡ first_is j l
 unfolding has
 first-has j [] w = refl
 first-has j (c ∷ l) (Lines.line u v w) =
-    by-test (eqb c j)
+    by_test (eqb c j)
     (λ e. let z = eqb-true c j e in rw (e, eq-eqb j c (sym z)))
     (λ e.
     let f = eqb-false c j e in
     let n : eqb j c ≡ false = ne_eqb j c (λ z. f (sym z)) in
     let o : (j ≡ c → ⊥) = λ z. f (sym z) in
-    rw (e, n) (none_before j l (omega (arith, by-ne j c u o)) w))
+    rw (e, n) (none_before j l (omega (arith, by_ne j c u o)) w))
   where
-    by-ne : (a b : ℕ) → a ≤ b → (a ≡ b → ⊥) → a < b
-    by-ne a b h f = by-lt a b (λ l. l) (λ l. absurd (f (omega arith)))
+    by_ne : (a b : ℕ) → a ≤ b → (a ≡ b → ⊥) → a < b
+    by_ne a b h f = by_lt a b (λ l. l) (λ l. absurd (f (omega arith)))
 
-entry-is : (t : Bool) → elim t [ true ↦ bytes "solid" | false ↦ bytes "none" ] ≡ entryFor t
+entry-is : (t : Bool) → elim t [ true ↦ bytes "solid" | false ↦ bytes "none" ] ≡ entry_for t
 entry-is true = refl
 entry-is false = refl
 
@@ -256,27 +256,27 @@ module _ (lines : List ℕ) where
   abbrev Rest : ℕ → List ℕ → Type 0
   Rest j l = (k : ℕ) → j ≤ k → has k l ≡ has k lines
 
-  rest-on : (j : ℕ) (l : List ℕ) → Rest j l → Rest j (notBefore j l)
+  rest-on : (j : ℕ) (l : List ℕ) → Rest j l → Rest j (not_before j l)
   rest-on j l r k h = has-passed k j h l ∙ r k h
 
-  first_entry : {cols b : ℕ} (j : ℕ) (l : List ℕ) → Lines cols b l → Rest j l → entryFor (firstIs j (notBefore j l)) ≡ lineEntry lines j
-  unfolding lineEntry
+  first_entry : {cols b : ℕ} (j : ℕ) (l : List ℕ) → Lines cols b l → Rest j l → entry_for (first_is j (not_before j l)) ≡ line_entry lines j
+  unfolding line_entry
   first_entry j l w r =
-      ap entryFor (sym (first-has j (notBefore j l) (in_order j l w)) ∙ rest-on j l r j (omega arith)) ∙ sym (entry-is (has j lines))
+      ap entry_for (sym (first-has j (not_before j l) (in_order j l w)) ∙ rest-on j l r j (omega arith)) ∙ sym (entry-is (has j lines))
 
-  entries-are : {cols b : ℕ} (j n : ℕ) (l : List ℕ) → Lines cols b l → Rest j l → entriesFrom j n l ≡ lineEntries lines j n
-  unfolding entriesFrom lineEntries
+  entries-are : {cols b : ℕ} (j n : ℕ) (l : List ℕ) → Lines cols b l → Rest j l → entries_from j n l ≡ line_entries lines j n
+  unfolding entries_from line_entries
   entries-are j zero l w r = refl
   entries-are j (suc n) l w r =
-      rw (first_entry j l w r, entries-are (suc j) n (notBefore j l) (in_order j l w) (λ k h. rest-on j l r k (omega arith)))
+      rw (first_entry j l w r, entries-are (suc j) n (not_before j l) (in_order j l w) (λ k h. rest-on j l r k (omega arith)))
 
-pub attribute-is : {cols : ℕ} (n : ℕ) (lines : List ℕ) → Lines cols 0 lines → lineAttribute n lines ≡ columnlines n lines
-unfolding lineAttribute columnlines
-attribute-is zero lines w = refl
-attribute-is (suc zero) lines w = refl
-attribute-is (suc (suc n)) lines w =
+pub attribute_is : {cols : ℕ} (n : ℕ) (lines : List ℕ) → Lines cols 0 lines → line_attribute n lines ≡ columnlines n lines
+unfolding line_attribute columnlines
+attribute_is zero lines w = refl
+attribute_is (suc zero) lines w = refl
+attribute_is (suc (suc n)) lines w =
     let r : Rest lines 1 lines = λ k h. refl in
-    rw (first_entry lines 1 lines w r, entries-are lines 2 n (notBefore 1 lines) (in_order 1 lines w) (λ k h. rest-on lines 1 lines r k (omega arith)))
+    rw (first_entry lines 1 lines w r, entries-are lines 2 n (not_before 1 lines) (in_order 1 lines w) (λ k h. rest-on lines 1 lines r k (omega arith)))
 
 -- one child, and two
 one-between : (text : List ℕ) (h : Head) → swaps text h ≡ false → ((i left : ℕ) → before text h i left ≡ []) → (a : List Piece) →
@@ -311,38 +311,38 @@ module _ (text : List ℕ) (m : Mode) where
   one-child p sp a s e = instead (Head.prefix p sp) (a ∷ []) a (one-between text (Head.prefix p sp) (s []) (λ i left. refl) a) e
 
   -- "A node's bytes are `open h`, before each child i `between h i`, `close h`."
-  pub front-to-back : (h : Head) (cs : List (List Piece)) → Fits h cs → Around h cs (between text h cs)
+  pub front-to_back : (h : Head) (cs : List (List Piece)) → Fits h cs → Around h cs (between text h cs)
   unfolding join opening swaps before closing unary binary within together
-  front-to-back Head.missing cs f = rw f (instead Head.missing [] [] (plain-between text Head.missing refl (λ i left. refl) []) refl)
-  front-to-back (Head.atom a sp) cs f =
+  front-to_back Head.missing cs f = rw f (instead Head.missing [] [] (plain-between text Head.missing refl (λ i left. refl) []) refl)
+  front-to_back (Head.atom a sp) cs f =
       rw f (instead (Head.atom a sp) [] [] (plain-between text (Head.atom a sp) refl (λ i left. refl) []) (simp flat))
-  front-to-back (Head.prefix Prefix.signed sp) cs f = rw f.1 (one-child Prefix.signed sp f.0 (λ s. refl) (simp flat))
-  front-to-back (Head.prefix Prefix.ssigned sp) cs f = rw f.1 (one-child Prefix.ssigned sp f.0 (λ s. refl) (simp flat))
-  front-to-back (Head.prefix Prefix.unary sp) cs f =
+  front-to_back (Head.prefix Prefix.signed sp) cs f = rw f.1 (one-child Prefix.signed sp f.0 (λ s. refl) (simp flat))
+  front-to_back (Head.prefix Prefix.ssigned sp) cs f = rw f.1 (one-child Prefix.ssigned sp f.0 (λ s. refl) (simp flat))
+  front-to_back (Head.prefix Prefix.unary sp) cs f =
       rw f.1 (one-child Prefix.unary sp f.0 (λ s. refl) (unary-parts unaries (own text sp) f.0))
-  front-to-back (Head.prefix Prefix.sfunc sp) cs f = rw f.1 (one-child Prefix.sfunc sp f.0 (λ s. refl) (simp flat))
-  front-to-back (Head.prefix Prefix.binary sp) cs f =
+  front-to_back (Head.prefix Prefix.sfunc sp) cs f = rw f.1 (one-child Prefix.sfunc sp f.0 (λ s. refl) (simp flat))
+  front-to_back (Head.prefix Prefix.binary sp) cs f =
       rw f.1.1
       (instead (Head.prefix Prefix.binary sp) (f.0 ∷ f.1.0 ∷ []) _ (two-between text sp f.0 f.1.0)
       (binary-parts exchanging (own text sp) f.0 f.1.0))
-  front-to-back (Head.simple sc) cs f =
+  front-to_back (Head.simple sc) cs f =
       rw f.1.1.0
       (instead (Head.simple sc) (f.0 ∷ f.1.0) _ (plain-between text (Head.simple sc) refl (λ i left. refl) (f.0 ∷ f.1.0))
       (simple-parts sc f.0 f.1.0 f.1.1.1))
-  front-to-back (Head.func sp sc) cs f =
+  front-to_back (Head.func sp sc) cs f =
       rw f.1.1.0
       (instead (Head.func sp sc) (f.0 ++ (f.1.0 ∷ [])) _ (func-between text sp sc (f.0 ++ (f.1.0 ∷ [])))
       (func-parts text sp sc f.0 f.1.0 f.1.1.1))
-  front-to-back Head.frac cs f =
+  front-to_back Head.frac cs f =
       rw f.1.1
       (instead Head.frac (f.0 ∷ f.1.0 ∷ []) _ (plain-between text Head.frac refl (λ i left. refl) (f.0 ∷ f.1.0 ∷ [])) (simp flat))
-  front-to-back Head.cell cs f = instead Head.cell cs _ (plain-between text Head.cell refl (λ i left. refl) cs) refl
-  front-to-back (Head.group a b) cs f =
+  front-to_back Head.cell cs f = instead Head.cell cs _ (plain-between text Head.cell refl (λ i left. refl) cs) refl
+  front-to_back (Head.group a b) cs f =
       instead (Head.group a b) cs _ (plain-between text (Head.group a b) refl (λ i left. refl) cs)
       (group-parts m (own text a) (own text b) (together cs))
-  front-to-back (Head.matrix a b cols lines) cs f =
+  front-to_back (Head.matrix a b cols lines) cs f =
       instead (Head.matrix a b cols lines) cs _ (cells-between text a b cols lines cs)
-      (rw (attribute-is cols lines f.0, f.1.1.1.0) (matrix-parts (own text a) (own text b) f.1.0 f.1.1.0 lines cs f.1.1.1.1))
+      (rw (attribute_is cols lines f.0, f.1.1.1.0) (matrix-parts (own text a) (own text b) f.1.0 f.1.1.0 lines cs f.1.1.1.1))
 
 -- nodes behind others
 behind-wholes : (x : Node) (l : Nodes) → Wholes l → Whole x → Wholes (l ⧺ (x ▸ end))
@@ -425,7 +425,7 @@ module _ (text : List ℕ) (m : Mode) where
   pub in_parts : (h : Head) (l : Nodes) → count l ≡ tree.below h (count l) → WholeRows h l →
       out text m (node h l) ≡ opening text m h ++ (between text h (below h l) ++ closing text m h)
   unfolding out
-  in_parts h l e w = front-to-back text m h (below h l) (fits h l e w)
+  in_parts h l e w = front-to_back text m h (below h l) (fits h l e w)
 
 -- Every well-formed tree has whole rows.
 mutual
@@ -436,33 +436,33 @@ mutual
   simple-whole (Simple.unary a) = (tt, (simple-whole a, tt))
   simple-whole (Simple.sfunc a) = (tt, (simple-whole a, tt))
   simple-whole (Simple.binary a b) = (tt, (simple-whole a, (simple-whole b, tt)))
-  simple-whole (Simple.group e) = (tt, expression-whole e)
+  simple-whole (Simple.group e) = (tt, expression_whole e)
   simple-whole (Simple.matrix c rows m k ls) = ((ls, (rows, (m, omega arith))), cells_whole c)
 
   cells_whole : {l : Nodes} → Cells l → Wholes l
-  cells_whole Cells.no-more-cells = tt
-  cells_whole (Cells.cell e m) = ((tt, expression-whole e), cells_whole m)
+  cells_whole Cells.no_more_cells = tt
+  cells_whole (Cells.cell e m) = ((tt, expression_whole e), cells_whole m)
 
   arguments-whole : {sc : Script} {l : Nodes} → Arguments sc l → Wholes l
-  arguments-whole Arguments.no-script = tt
+  arguments-whole Arguments.no_script = tt
   arguments-whole (Arguments.sub a) = (simple-whole a, tt)
   arguments-whole (Arguments.super a) = (simple-whole a, tt)
   arguments-whole (Arguments.subsuper a b) = (simple-whole a, (simple-whole b, tt))
 
-  scriptFunc-whole : {x : Node} → ScriptFunc x → Whole x
-  scriptFunc-whole (ScriptFunc.simple a q) = (tt, (simple-whole a, arguments-whole q))
-  scriptFunc-whole (ScriptFunc.func {x = x} {l = l} q a e) = (tt, rw e (behind-wholes x l (arguments-whole q) (scriptFunc-whole a)))
-  scriptFunc-whole (ScriptFunc.signed a) = (tt, (scriptFunc-whole a, tt))
+  script_func-whole : {x : Node} → ScriptFunc x → Whole x
+  script_func-whole (ScriptFunc.simple a q) = (tt, (simple-whole a, arguments-whole q))
+  script_func-whole (ScriptFunc.func {x = x} {l = l} q a e) = (tt, rw e (behind-wholes x l (arguments-whole q) (script_func-whole a)))
+  script_func-whole (ScriptFunc.signed a) = (tt, (script_func-whole a, tt))
 
-  intermediate-whole : {x : Node} → Intermediate x → Whole x
-  intermediate-whole (Intermediate.scriptFunc a) = scriptFunc-whole a
-  intermediate-whole (Intermediate.frac a b) = (tt, (scriptFunc-whole a, (scriptFunc-whole b, tt)))
+  intermediate_whole : {x : Node} → Intermediate x → Whole x
+  intermediate_whole (Intermediate.script_func a) = script_func-whole a
+  intermediate_whole (Intermediate.frac a b) = (tt, (script_func-whole a, (script_func-whole b, tt)))
 
-  pub expression-whole : {l : Nodes} → Expression l → Wholes l
-  expression-whole Expression.empty = tt
-  expression-whole (Expression.items a m) = (intermediate-whole a, behind-whole m)
+  pub expression_whole : {l : Nodes} → Expression l → Wholes l
+  expression_whole Expression.empty = tt
+  expression_whole (Expression.items a m) = (intermediate_whole a, behind-whole m)
 
   behind-whole : {l : Nodes} → Behind l → Wholes l
   behind-whole Behind.no_more = tt
-  behind-whole (Behind.item a m) = (intermediate-whole a, behind-whole m)
-  behind-whole (Behind.space k a m) = ((tt, tt), (intermediate-whole a, behind-whole m))
+  behind-whole (Behind.item a m) = (intermediate_whole a, behind-whole m)
+  behind-whole (Behind.space k a m) = ((tt, tt), (intermediate_whole a, behind-whole m))

@@ -11,7 +11,7 @@ use Rattle.tokens.specs.Bytes.{same}
 use Rattle.lexing.specs.Spellings.{Row, rows}
 use Rattle.lexing.proofs.Moves.{same-is}
 use Rattle.mathml_rules.specs.Utf8.{encoded, utf8}
-use Rattle.mathml_rules.specs.Forms.{Form, typed, formOr, forms, shownBy, shown}
+use Rattle.mathml_rules.specs.Forms.{Form, typed, form_or, forms, shown_by, shown}
 use Rattle.mathml_rules.proofs.Lists.{all-at, every, passed}
 
 abbrev spelled : Row → List ℕ
@@ -25,38 +25,38 @@ unfolding forms rows
 same-spellings = refl
 
 -- "301 of the 429 rows have a form, 806 bytes in all, at most 6 each"
-abbrev formLength : Option (List ℕ) → ℕ
-formLength none = 0
-formLength (some s) = length s
+abbrev form_length : Option (List ℕ) → ℕ
+form_length none = 0
+form_length (some s) = length s
 
-abbrev drawnRows : List Form → ℕ
-drawnRows [] = 0
-drawnRows (f ∷ l) = elim f.form [ none ↦ drawnRows l | some s ↦ suc (drawnRows l) ]
+abbrev drawn_rows : List Form → ℕ
+drawn_rows [] = 0
+drawn_rows (f ∷ l) = elim f.form [ none ↦ drawn_rows l | some s ↦ suc (drawn_rows l) ]
 
-abbrev drawnBytes : List Form → ℕ
-drawnBytes [] = 0
-drawnBytes (f ∷ l) = formLength f.form + drawnBytes l
+abbrev drawn_bytes : List Form → ℕ
+drawn_bytes [] = 0
+drawn_bytes (f ∷ l) = form_length f.form + drawn_bytes l
 
-pub forms-counted : (length forms ≡ 429) × (drawnRows forms ≡ 301) × (drawnBytes forms ≡ 806) × (every (λ f. leb (formLength f.form) 6) forms ≡ true)
+pub forms-counted : (length forms ≡ 429) × (drawn_rows forms ≡ 301) × (drawn_bytes forms ≡ 806) × (every (λ f. leb (form_length f.form) 6) forms ≡ true)
 unfolding forms utf8 encoded
 forms-counted = (refl, refl, refl, refl)
 
 -- each row's form is what its own spelling shows
 answered : Form → Bool
-answered f = same (shown f.spelling) (formOr f.spelling f.form)
+answered f = same (shown f.spelling) (form_or f.spelling f.form)
 
 all-answered : every answered forms ≡ true
-unfolding answered shown shownBy forms same utf8 encoded
+unfolding answered shown shown_by forms same utf8 encoded
 all-answered = refl
 
-pub shown-row : (k : ℕ) → let f = get_or forms k (typed "\\") in shown f.spelling ≡ formOr f.spelling f.form
-unfolding answered shown shownBy forms same
+pub shown-row : (k : ℕ) → let f = get_or forms k (typed "\\") in shown f.spelling ≡ form_or f.spelling f.form
+unfolding answered shown shown_by forms same
 shown-row k =
     let f = get_or forms k (typed "\\") in
-    same-is (shown f.spelling) (formOr f.spelling f.form)
+    same-is (shown f.spelling) (form_or f.spelling f.form)
     (all-at (λ g. answered g ≡ true) forms (typed "\\") (passed answered forms all-answered) refl k)
 
 -- a bracket that stands for no token shows nothing
 pub shown-empty : shown [] ≡ []
-unfolding shown shownBy forms same
+unfolding shown shown_by forms same
 shown-empty = refl

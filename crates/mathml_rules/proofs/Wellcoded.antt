@@ -18,12 +18,12 @@ use Rattle.mathml_rules.specs.Forms.{Form, forms}
 use Rattle.mathml_rules.specs.Elements.{elements}
 use Rattle.mathml_rules.specs.Pieces.{Piece, Escape, escapes, escaped, esc, bytes_of, written, within}
 use Rattle.mathml_rules.specs.Commands.{unaries}
-use Rattle.mathml_rules.specs.Mathml.{own, together, columnlines, outs, root, mathmlOf}
+use Rattle.mathml_rules.specs.Mathml.{own, together, columnlines, outs, root, mathml_of}
 use Rattle.mathml_rules.specs.Wellcoded.{Reference, due_or, refer, Coding, between, coded}
 use Rattle.mathml_rules.proofs.Run.{run-append, run_on}
 use Rattle.mathml_rules.proofs.Lists.{All, all, all_map, all_take, all_drop, every, passed, both, every_of}
-use Rattle.mathml_rules.proofs.Closed.{Closed, formPasses, forms-good, markPasses, marks-good, all-fine, closed-items}
-use Rattle.mathml_rules.proofs.Escapes.{Plain, plain, by_row, by-escape, Tags, start-passes, end-passes, written-append}
+use Rattle.mathml_rules.proofs.Closed.{Closed, form_passes, forms-good, mark_passes, marks-good, all-fine, closed-items}
+use Rattle.mathml_rules.proofs.Escapes.{Plain, plain, by_row, by_escape, Tags, start-passes, end-passes, written-append}
 
 module _ {Q : Type 0} (step : Q → ℕ → Q) (home : Q) where
   abbrev Home : List ℕ → Type 0
@@ -48,16 +48,16 @@ module _ {Q : Type 0} (step : Q → ℕ → Q) (home : Q) where
         (rw (written-append x (Piece.end e ∷ []), append-nil) (home-both (written x) z p (quiet-home z (end-passes quiet t e))))
 
 -- The references. Every byte but `&` stays at home, and esc leaves no other `&`.
-abbrev noAnd : ℕ → Bool
-noAnd c = not (eqb c 38)
+abbrev no_and : ℕ → Bool
+no_and c = not (eqb c 38)
 
-stays_out : (c : ℕ) → noAnd c ≡ true → refer Reference.home c ≡ Reference.home
+stays_out : (c : ℕ) → no_and c ≡ true → refer Reference.home c ≡ Reference.home
 unfolding refer
 stays_out c e = rw (not-true (eqb c 38) e, refer)
 
-tags-noAnd : Tags noAnd
+tags-no_and : Tags no_and
 unfolding elements
-tags-noAnd = record {
+tags-no_and = record {
   table = refl;
   default = refl;
   lines = record { front = refl; solid = refl; none = refl; back = refl; blank = refl };
@@ -75,14 +75,14 @@ instead-referred = search arith
 
 plain-referred : (c : ℕ) → Plain c → Referred (c ∷ [])
 unfolding run
-plain-referred c p = stays_out c (rw p.no-and)
+plain-referred c p = stays_out c (rw p.no_and_lem)
 
 esc-referred : (s : List ℕ) → Referred (esc s)
 unfolding esc run
 esc-referred [] = refl
 esc-referred (c ∷ s) =
     home-both refer Reference.home (escaped c) (esc s)
-    (by-escape Referred c escapes instead-referred (λ p. plain-referred c (plain c p))) (esc-referred s)
+    (by_escape Referred c escapes instead-referred (λ p. plain-referred c (plain c p))) (esc-referred s)
 
 refers : Closed (λ s. Unit {0}) (λ x. Referred (written x))
 unfolding written bytes_of run
@@ -90,15 +90,15 @@ refers = record {
   nothing = refl;
   both = λ x y p q. rw (written-append x y) (home-both refer Reference.home (written x) (written y) p q);
   chars = λ s g. home-both refer Reference.home (esc s) [] (esc-referred s) refl;
-  element = element-home refer Reference.home noAnd stays_out tags-noAnd;
+  element = element-home refer Reference.home no_and stays_out tags-no_and;
   forms = λ s g. tt;
   marks = all (λ r. Unit {0} × Unit {0}) (λ r. (tt, tt)) unaries;
   apply = tt;
 }
 
 -- "`&` begins only one of the three references"
-pub references-output : (text : List ℕ) (tree : Nodes) → run refer Reference.home (mathmlOf text tree) ≡ Reference.home
-unfolding mathmlOf root columnlines
+pub references-output : (text : List ℕ) (tree : Nodes) → run refer Reference.home (mathml_of text tree) ≡ Reference.home
+unfolding mathml_of root columnlines
 references-output text tree =
     refers.element 19 0 [] (together (outs text mode.Keep Head.cell 0 tree))
     (closed-items refers text tree (all-fine (λ s. Unit {0}) text (λ sp. tt) tree))
@@ -146,14 +146,14 @@ unfolding esc run
 esc-coded [] q = refl
 esc-coded (c ∷ s) q = rw (run-append coded q (escaped c) (esc s), escaped-coded q c) (esc-coded s (coded q c))
 
-abbrev isHome : Coding → Bool
-isHome Coding.home = true
-isHome Coding.wrong = false
-isHome Coding.one = false
-isHome Coding.two = false
-isHome Coding.high = false
+abbrev is_home : Coding → Bool
+is_home Coding.home = true
+is_home Coding.wrong = false
+is_home Coding.one = false
+is_home Coding.two = false
+is_home Coding.high = false
 
-at_home : (q : Coding) → isHome q ≡ true → q ≡ Coding.home
+at_home : (q : Coding) → is_home q ≡ true → q ≡ Coding.home
 at_home Coding.home e = refl
 at_home Coding.wrong e = clash false e refl
 at_home Coding.one e = clash false e refl
@@ -161,16 +161,16 @@ at_home Coding.two e = clash false e refl
 at_home Coding.high e = clash false e refl
 
 abbrev codes : List ℕ → Bool
-codes s = isHome (run coded Coding.home s)
+codes s = is_home (run coded Coding.home s)
 
 codes-means : (s : List ℕ) → codes s ≡ true → Coded s
 codes-means s e = at_home (run coded Coding.home s) e
 
-forms-code : every (λ (f : Form). formPasses Coded codes codes-means f.form) forms ≡ true
+forms-code : every (λ (f : Form). form_passes Coded codes codes-means f.form) forms ≡ true
 unfolding forms utf8 encoded run coded between
 forms-code = refl
 
-marks-code : every (markPasses Coded codes codes-means) unaries ≡ true
+marks-code : every (mark_passes Coded codes codes-means) unaries ≡ true
 unfolding unaries utf8 encoded run coded between
 marks-code = refl
 
@@ -187,8 +187,8 @@ utf8s = record {
 }
 
 -- "the output is UTF-8": of a text of bytes below 128, as every accepted text is
-pub utf8-output : (text : List ℕ) → every ascii text ≡ true → (tree : Nodes) → run coded Coding.home (mathmlOf text tree) ≡ Coding.home
-unfolding mathmlOf root columnlines own
+pub utf8-output : (text : List ℕ) → every ascii text ≡ true → (tree : Nodes) → run coded Coding.home (mathml_of text tree) ≡ Coding.home
+unfolding mathml_of root columnlines own
 utf8-output text e tree =
     let ok : ℕ → Type 0 = λ c. ascii c ≡ true in
     let good : (sp : Span) → Coded (own text sp) = λ sp.

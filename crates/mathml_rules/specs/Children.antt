@@ -4,7 +4,7 @@ use Rattle.std.specs.Prelude.{Bool, true, false, List, [], ◌∷◌, ℕ, ◌+�
 use Prim.Native.String.{String}
 use Rattle.tokens.specs.Bytes.{bytes, same}
 use Rattle.mathml_rules.specs.Run.{run}
-use Rattle.mathml_rules.specs.Elements.{elementOf}
+use Rattle.mathml_rules.specs.Elements.{element_of}
 use Rattle.mathml_rules.specs.Pieces.{Piece}
 
 -- so many child elements; any number of them; characters only; rows of a table only; cells of a row only
@@ -50,7 +50,7 @@ shape_by [] n = Shape.exactly 0
 shape_by (h ∷ l) n = elim (same h.name n) [ true ↦ h.shape | false ↦ shape_by l n ]
 
 unfoldable pub shape : ℕ → Shape
-shape e = shape_by shapes (elementOf e).name
+shape e = shape_by shapes (element_of e).name
 
 -- "mtr only in mtable and mtd only in mtr"
 pub data Sort : Type 0 where
@@ -58,10 +58,10 @@ pub data Sort : Type 0 where
 
 unfoldable pub sort : ℕ → Sort
 sort e =
-    elim (same (elementOf e).name (bytes "mtr")) [
+    elim (same (element_of e).name (bytes "mtr")) [
       | true ↦ Sort.row
       | false ↦
-          elim (same (elementOf e).name (bytes "mtd")) [ true ↦ Sort.cell | false ↦ Sort.plain ]
+          elim (same (element_of e).name (bytes "mtd")) [ true ↦ Sort.cell | false ↦ Sort.plain ]
     ]
 
 abbrev pub allows : Shape → Sort → Bool
@@ -89,19 +89,19 @@ full Shape.characters k = true
 full Shape.rows k = true
 full Shape.cells k = true
 
-abbrev pub isCells : Shape → Bool
-isCells (Shape.exactly n) = false
-isCells Shape.any = false
-isCells Shape.characters = false
-isCells Shape.rows = false
-isCells Shape.cells = true
+abbrev pub is_cells : Shape → Bool
+is_cells (Shape.exactly n) = false
+is_cells Shape.any = false
+is_cells Shape.characters = false
+is_cells Shape.rows = false
+is_cells Shape.cells = true
 
-abbrev pub isCharacters : Shape → Bool
-isCharacters (Shape.exactly n) = false
-isCharacters Shape.any = false
-isCharacters Shape.characters = true
-isCharacters Shape.rows = false
-isCharacters Shape.cells = false
+abbrev pub is_characters : Shape → Bool
+is_characters (Shape.exactly n) = false
+is_characters Shape.any = false
+is_characters Shape.characters = true
+is_characters Shape.rows = false
+is_characters Shape.cells = false
 
 -- "mtr only mtd, `cols` of them": as many as the table's start tag says, by what stands there behind the table's attributes. For one
 -- column that is nothing, else ` columnlines="V"`, "V having cols − 1 entries, one for each place between two columns, with one byte
@@ -110,8 +110,8 @@ unfoldable pub blanks : List ℕ → ℕ
 blanks [] = 0
 blanks (b ∷ s) = elim (eqb b 32) [ true ↦ blanks s + 1 | false ↦ blanks s ]
 
-abbrev pub columnsOf : List ℕ → ℕ
-columnsOf more = blanks more + 1
+abbrev pub columns_of : List ℕ → ℕ
+columns_of more = blanks more + 1
 
 -- An open element: its shape, its child elements so far, and, if it is a table, how many cells each row has.
 pub data Frame : Type 0 where
@@ -124,17 +124,17 @@ pub data Held? : Type 0 where
 -- An element begins: the outermost one, which is no row and no cell, or a child.
 unfoldable pub entered : ℕ → List ℕ → List Frame → Held?
 entered e more [] =
-    elim (allows Shape.any (sort e)) [ true ↦ Held?.inside (frame (shape e) 0 (columnsOf more) ∷ []) | false ↦ Held?.wrong ]
+    elim (allows Shape.any (sort e)) [ true ↦ Held?.inside (frame (shape e) 0 (columns_of more) ∷ []) | false ↦ Held?.wrong ]
 entered e more (frame s k w ∷ st) =
     elim (allows s (sort e)) [
-      | true ↦ Held?.inside (frame (shape e) 0 (columnsOf more) ∷ frame s (k + 1) w ∷ st)
+      | true ↦ Held?.inside (frame (shape e) 0 (columns_of more) ∷ frame s (k + 1) w ∷ st)
       | false ↦ Held?.wrong
     ]
 
 -- a row of n cells ends
-unfoldable pub rowLeft : ℕ → List Frame → Held?
-rowLeft n [] = Held?.wrong
-rowLeft n (frame s k w ∷ st) = elim (eqb n w) [ true ↦ Held?.inside (frame s k w ∷ st) | false ↦ Held?.wrong ]
+unfoldable pub row_left : ℕ → List Frame → Held?
+row_left n [] = Held?.wrong
+row_left n (frame s k w ∷ st) = elim (eqb n w) [ true ↦ Held?.inside (frame s k w ∷ st) | false ↦ Held?.wrong ]
 
 -- an element ends
 unfoldable pub left : List Frame → Held?
@@ -145,13 +145,13 @@ unfoldable pub ended : List Frame → Held?
 ended [] = Held?.wrong
 ended (frame s k w ∷ st) =
     elim (full s k) [
-      | true ↦ elim (isCells s) [ true ↦ rowLeft k st | false ↦ left st ]
+      | true ↦ elim (is_cells s) [ true ↦ row_left k st | false ↦ left st ]
       | false ↦ Held?.wrong
     ]
 
 unfoldable pub lettered : List Frame → Held?
 lettered [] = Held?.wrong
-lettered (frame s k w ∷ st) = elim (isCharacters s) [ true ↦ Held?.inside (frame s k w ∷ st) | false ↦ Held?.wrong ]
+lettered (frame s k w ∷ st) = elim (is_characters s) [ true ↦ Held?.inside (frame s k w ∷ st) | false ↦ Held?.wrong ]
 
 unfoldable pub stepped : Held? → Piece → Held?
 stepped (Held?.inside st) (Piece.start e more) = entered e more st

@@ -47,16 +47,16 @@ mark [] = []
 mark (b ∷ s) = L 4 (b ∷ s)
 
 -- "text, mbox: c1 alone, no element"; "an unknown unary is c1"
-unfoldable pub unaryBy : List Command → List ℕ → List Piece → List Piece
-unaryBy [] s c1 = c1
-unaryBy (r ∷ rs) s c1 =
+unfoldable pub unary_by : List Command → List ℕ → List Piece → List Piece
+unary_by [] s c1 = c1
+unary_by (r ∷ rs) s c1 =
     elim (same r.name s) [
       | true ↦ E r.element (mark r.left ++ (c1 ++ mark r.right))
-      | false ↦ unaryBy rs s c1
+      | false ↦ unary_by rs s c1
     ]
 
 unfoldable pub unary : List ℕ → List Piece → List Piece
-unary s c1 = unaryBy unaries s c1
+unary s c1 = unary_by unaries s c1
 
 -- "root: E 30 (c2, c1); stackrel, overset: E 28 (c2, c1); underset: E 29 (c2, c1)"
 unfoldable pub exchanging : List Command
@@ -64,10 +64,10 @@ exchanging =
     command "root" 30 "" "" ∷ command "stackrel" 28 "" "" ∷ command "overset" 28 "" "" ∷ command "underset" 29 "" "" ∷ []
 
 -- "frac: E 12 (c1, c2)"; "an unknown binary E 12 (c1, c2)"
-unfoldable pub binaryBy : List Command → List ℕ → List Piece → List Piece → List Piece
-binaryBy [] s c1 c2 = E 12 (c1 ++ c2)
-binaryBy (r ∷ rs) s c1 c2 =
-    elim (same r.name s) [ true ↦ E r.element (c2 ++ c1) | false ↦ binaryBy rs s c1 c2 ]
+unfoldable pub binary_by : List Command → List ℕ → List Piece → List Piece → List Piece
+binary_by [] s c1 c2 = E 12 (c1 ++ c2)
+binary_by (r ∷ rs) s c1 c2 =
+    elim (same r.name s) [ true ↦ E r.element (c2 ++ c1) | false ↦ binary_by rs s c1 c2 ]
 
 unfoldable pub binary : List ℕ → List Piece → List Piece → List Piece
-binary s c1 c2 = binaryBy exchanging s c1 c2
+binary s c1 c2 = binary_by exchanging s c1 c2

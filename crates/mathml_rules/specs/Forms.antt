@@ -452,13 +452,13 @@ forms =
     []
 
 -- "shown s: the display form of the row whose spelling is s, if it has one (it may be empty); else s."
-abbrev pub formOr : List ℕ → Option (List ℕ) → List ℕ
-formOr s none = s
-formOr s (some t) = t
+abbrev pub form_or : List ℕ → Option (List ℕ) → List ℕ
+form_or s none = s
+form_or s (some t) = t
 
-unfoldable pub shownBy : List Form → List ℕ → List ℕ
-shownBy [] s = s
-shownBy (r ∷ rs) s = elim (same r.spelling s) [ true ↦ formOr s r.form | false ↦ shownBy rs s ]
+unfoldable pub shown_by : List Form → List ℕ → List ℕ
+shown_by [] s = s
+shown_by (r ∷ rs) s = elim (same r.spelling s) [ true ↦ form_or s r.form | false ↦ shown_by rs s ]
 
 unfoldable pub shown : List ℕ → List ℕ
-shown s = shownBy forms s
+shown s = shown_by forms s

@@ -23,15 +23,15 @@ together [] = []
 together (x ∷ l) = x ++ together l
 
 -- "symbol: L 22 (shown own) if the class is 0 Glyph, 1 Name or 6 Space, else L 7 (shown own)"
-unfoldable pub symbolElement : SymbolClass → ℕ
-symbolElement class.Glyph = 22
-symbolElement class.Name = 22
-symbolElement class.Joining = 7
-symbolElement class.JoiningName = 7
-symbolElement class.Leading = 7
-symbolElement class.LeadingName = 7
-symbolElement class.Space = 22
-symbolElement class.Separator = 7
+unfoldable pub symbol_element : SymbolClass → ℕ
+symbol_element class.Glyph = 22
+symbol_element class.Name = 22
+symbol_element class.Joining = 7
+symbol_element class.JoiningName = 7
+symbol_element class.Leading = 7
+symbol_element class.LeadingName = 7
+symbol_element class.Space = 22
+symbol_element class.Separator = 7
 
 -- "number, text, ident: L 1 own, L 2 own, L 3 own; operator: L 4 own; sign: L 5 (shown own); space: E 6 nothing"
 unfoldable pub atom : Atom → List ℕ → List Piece
@@ -41,7 +41,7 @@ atom Atom.ident s = L 3 s
 atom Atom.operator s = L 4 s
 atom Atom.sign s = L 5 (shown s)
 atom Atom.space s = E 6 []
-atom (Atom.symbol c) s = L (symbolElement c) (shown s)
+atom (Atom.symbol c) s = L (symbol_element c) (shown s)
 
 -- "S script base args: none → base alone (no element); sub → E 13, super → E 20, subsuper → E 21 of (base, args)."
 unfoldable pub S : Script → List Piece → List Piece → List Piece
@@ -85,13 +85,13 @@ unfoldable pub has : ℕ → List ℕ → Bool
 has j [] = false
 has j (b ∷ l) = eqb j b || has j l
 
-unfoldable pub lineEntry : List ℕ → ℕ → List ℕ
-lineEntry lines j = elim (has j lines) [ true ↦ bytes "solid" | false ↦ bytes "none" ]
+unfoldable pub line_entry : List ℕ → ℕ → List ℕ
+line_entry lines j = elim (has j lines) [ true ↦ bytes "solid" | false ↦ bytes "none" ]
 
 -- n more entries, from j on, "with one byte 32 between"
-unfoldable pub lineEntries : List ℕ → ℕ → ℕ → List ℕ
-lineEntries lines j zero = []
-lineEntries lines j (suc n) = 32 ∷ (lineEntry lines j ++ lineEntries lines (suc j) n)
+unfoldable pub line_entries : List ℕ → ℕ → ℕ → List ℕ
+line_entries lines j zero = []
+line_entries lines j (suc n) = 32 ∷ (line_entry lines j ++ line_entries lines (suc j) n)
 
 -- "If cols is 2 or more the start tag is `<mtable columnlines="V">`, V having cols − 1 entries, one for each place between two
 -- columns .. With one column there is no such place and the start tag is `<mtable>`."
@@ -99,33 +99,33 @@ unfoldable pub columnlines : ℕ → List ℕ → List ℕ
 columnlines zero lines = []
 columnlines (suc zero) lines = []
 columnlines (suc (suc n)) lines =
-    bytes " columnlines=\"" ++ (lineEntry lines 1 ++ (lineEntries lines 2 n ++ bytes "\""))
+    bytes " columnlines=\"" ++ (line_entry lines 1 ++ (line_entries lines 2 n ++ bytes "\""))
 
 -- "for each row E 32 (its `cols` cells)"; at most f rows
-unfoldable pub tableRows : ℕ → ℕ → List (List Piece) → List Piece
-tableRows zero cols cells = []
-tableRows (suc f) cols [] = []
-tableRows (suc f) cols (c ∷ cells) =
-    E 32 (together (take cols (c ∷ cells))) ++ tableRows f cols (drop cols (c ∷ cells))
+unfoldable pub table_rows : ℕ → ℕ → List (List Piece) → List Piece
+table_rows zero cols cells = []
+table_rows (suc f) cols [] = []
+table_rows (suc f) cols (c ∷ cells) =
+    E 32 (together (take cols (c ∷ cells))) ++ table_rows f cols (drop cols (c ∷ cells))
 
 -- "`start 31`, for each row .., `end 31`"
 unfoldable pub table : ℕ → List ℕ → List (List Piece) → List Piece
-table cols lines cells = within 31 (columnlines cols lines) (tableRows (length cells) cols cells)
+table cols lines cells = within 31 (columnlines cols lines) (table_rows (length cells) cols cells)
 
 -- The modes of children that differ: "unary: ARGUMENT; text and mbox: TEXT"
-unfoldable pub textMode : List ℕ → Mode
-textMode s = elim (same s (bytes "text") || same s (bytes "mbox")) [ true ↦ mode.Text | false ↦ mode.Argument ]
+unfoldable pub text_mode : List ℕ → Mode
+text_mode s = elim (same s (bytes "text") || same s (bytes "mbox")) [ true ↦ mode.Text | false ↦ mode.Argument ]
 
 -- "simple: c1: script none → the node's own mode, else KEEP; c2, c3: ARGUMENT"
-unfoldable pub simpleMode : Script → Mode → ℕ → Mode
-simpleMode Script.none m i = m
-simpleMode Script.sub m i = elim (eqb i 0) [ true ↦ mode.Keep | false ↦ mode.Argument ]
-simpleMode Script.super m i = elim (eqb i 0) [ true ↦ mode.Keep | false ↦ mode.Argument ]
-simpleMode Script.subsuper m i = elim (eqb i 0) [ true ↦ mode.Keep | false ↦ mode.Argument ]
+unfoldable pub simple_mode : Script → Mode → ℕ → Mode
+simple_mode Script.none m i = m
+simple_mode Script.sub m i = elim (eqb i 0) [ true ↦ mode.Keep | false ↦ mode.Argument ]
+simple_mode Script.super m i = elim (eqb i 0) [ true ↦ mode.Keep | false ↦ mode.Argument ]
+simple_mode Script.subsuper m i = elim (eqb i 0) [ true ↦ mode.Keep | false ↦ mode.Argument ]
 
 -- "func: script arguments ARGUMENT, argument KEEP"
-unfoldable pub funcMode : Script → ℕ → Mode
-funcMode sc i = elim (ltb i (arguments sc)) [ true ↦ mode.Argument | false ↦ mode.Keep ]
+unfoldable pub func_mode : Script → ℕ → Mode
+func_mode sc i = elim (ltb i (arguments sc)) [ true ↦ mode.Argument | false ↦ mode.Keep ]
 
 -- The mode of a node's child i (from 0), the node's own mode being m: these, "frac, binary: ARGUMENT", and all others KEEP.
 unfoldable pub handed : List ℕ → Mode → Head → ℕ → Mode
@@ -133,11 +133,11 @@ handed text m Head.missing i = mode.Keep
 handed text m (Head.atom a sp) i = mode.Keep
 handed text m (Head.prefix Prefix.signed sp) i = mode.Keep
 handed text m (Head.prefix Prefix.ssigned sp) i = mode.Keep
-handed text m (Head.prefix Prefix.unary sp) i = textMode (own text sp)
+handed text m (Head.prefix Prefix.unary sp) i = text_mode (own text sp)
 handed text m (Head.prefix Prefix.sfunc sp) i = mode.Keep
 handed text m (Head.prefix Prefix.binary sp) i = mode.Argument
-handed text m (Head.simple sc) i = simpleMode sc m i
-handed text m (Head.func sp sc) i = funcMode sc i
+handed text m (Head.simple sc) i = simple_mode sc m i
+handed text m (Head.func sp sc) i = func_mode sc i
 handed text m Head.frac i = mode.Argument
 handed text m Head.cell i = mode.Keep
 handed text m (Head.group a b) i = mode.Keep
@@ -180,5 +180,5 @@ unfoldable pub root : List ℕ → Nodes → List Piece
 root text tree = E 19 (together (outs text mode.Keep Head.cell 0 tree))
 
 -- the MathML of a text with its tree
-unfoldable pub mathmlOf : List ℕ → Nodes → List ℕ
-mathmlOf text tree = written (root text tree)
+unfoldable pub mathml_of : List ℕ → Nodes → List ℕ
+mathml_of text tree = written (root text tree)

@@ -17,30 +17,30 @@ abbrev pub finish : ℕ → List Piece
 finish e = Piece.end e ∷ []
 
 -- the element of a script, if it has one
-unfoldable pub beginScript : Script → List Piece
-beginScript Script.none = []
-beginScript Script.sub = begin 13
-beginScript Script.super = begin 20
-beginScript Script.subsuper = begin 21
+unfoldable pub begin_script : Script → List Piece
+begin_script Script.none = []
+begin_script Script.sub = begin 13
+begin_script Script.super = begin 20
+begin_script Script.subsuper = begin 21
 
-unfoldable pub finishScript : Script → List Piece
-finishScript Script.none = []
-finishScript Script.sub = finish 13
-finishScript Script.super = finish 20
-finishScript Script.subsuper = finish 21
+unfoldable pub finish_script : Script → List Piece
+finish_script Script.none = []
+finish_script Script.sub = finish 13
+finish_script Script.super = finish 20
+finish_script Script.subsuper = finish 21
 
-unfoldable pub beginUnary : List Command → List ℕ → List Piece
-beginUnary [] s = []
-beginUnary (r ∷ rs) s = elim (same r.name s) [ true ↦ begin r.element ++ mark r.left | false ↦ beginUnary rs s ]
+unfoldable pub begin_unary : List Command → List ℕ → List Piece
+begin_unary [] s = []
+begin_unary (r ∷ rs) s = elim (same r.name s) [ true ↦ begin r.element ++ mark r.left | false ↦ begin_unary rs s ]
 
-unfoldable pub finishUnary : List Command → List ℕ → List Piece
-finishUnary [] s = []
-finishUnary (r ∷ rs) s = elim (same r.name s) [ true ↦ mark r.right ++ finish r.element | false ↦ finishUnary rs s ]
+unfoldable pub finish_unary : List Command → List ℕ → List Piece
+finish_unary [] s = []
+finish_unary (r ∷ rs) s = elim (same r.name s) [ true ↦ mark r.right ++ finish r.element | false ↦ finish_unary rs s ]
 
 -- the element of a binary command, and whether it exchanges its children
-unfoldable pub binaryElement : List Command → List ℕ → ℕ
-binaryElement [] s = 12
-binaryElement (r ∷ rs) s = elim (same r.name s) [ true ↦ r.element | false ↦ binaryElement rs s ]
+unfoldable pub binary_element : List Command → List ℕ → ℕ
+binary_element [] s = 12
+binary_element (r ∷ rs) s = elim (same r.name s) [ true ↦ r.element | false ↦ binary_element rs s ]
 
 unfoldable pub exchanges : List Command → List ℕ → Bool
 exchanges [] s = false
@@ -52,30 +52,30 @@ kept m left right s = elim (dropped m left right) [ true ↦ [] | false ↦ B s 
 
 -- The attribute of a table from its lines in order: lines before boundary j are passed over, then the first one left tells whether
 -- boundary j has a line.
-unfoldable pub notBefore : ℕ → List ℕ → List ℕ
-notBefore j [] = []
-notBefore j (b ∷ l) = elim (ltb b j) [ true ↦ notBefore j l | false ↦ b ∷ l ]
+unfoldable pub not_before : ℕ → List ℕ → List ℕ
+not_before j [] = []
+not_before j (b ∷ l) = elim (ltb b j) [ true ↦ not_before j l | false ↦ b ∷ l ]
 
-abbrev pub firstIs : ℕ → List ℕ → Bool
-firstIs j [] = false
-firstIs j (b ∷ l) = eqb b j
+abbrev pub first_is : ℕ → List ℕ → Bool
+first_is j [] = false
+first_is j (b ∷ l) = eqb b j
 
-abbrev pub entryFor : Bool → List ℕ
-entryFor true = bytes "solid"
-entryFor false = bytes "none"
+abbrev pub entry_for : Bool → List ℕ
+entry_for true = bytes "solid"
+entry_for false = bytes "none"
 
 -- n more entries, from j on
-unfoldable pub entriesFrom : ℕ → ℕ → List ℕ → List ℕ
-entriesFrom j zero lines = []
-entriesFrom j (suc n) lines =
-    let l = notBefore j lines in 32 ∷ (entryFor (firstIs j l) ++ entriesFrom (suc j) n l)
+unfoldable pub entries_from : ℕ → ℕ → List ℕ → List ℕ
+entries_from j zero lines = []
+entries_from j (suc n) lines =
+    let l = not_before j lines in 32 ∷ (entry_for (first_is j l) ++ entries_from (suc j) n l)
 
-unfoldable pub lineAttribute : ℕ → List ℕ → List ℕ
-lineAttribute zero lines = []
-lineAttribute (suc zero) lines = []
-lineAttribute (suc (suc n)) lines =
-    let l = notBefore 1 lines in
-    bytes " columnlines=\"" ++ (entryFor (firstIs 1 l) ++ (entriesFrom 2 n l ++ bytes "\""))
+unfoldable pub line_attribute : ℕ → List ℕ → List ℕ
+line_attribute zero lines = []
+line_attribute (suc zero) lines = []
+line_attribute (suc (suc n)) lines =
+    let l = not_before 1 lines in
+    bytes " columnlines=\"" ++ (entry_for (first_is 1 l) ++ (entries_from 2 n l ++ bytes "\""))
 
 -- "open h"
 unfoldable pub opening : List ℕ → Mode → Head → List Piece
@@ -83,15 +83,15 @@ opening text m Head.missing = E 0 []
 opening text m (Head.atom a sp) = atom a (own text sp)
 opening text m (Head.prefix Prefix.signed sp) = begin 8 ++ L 5 (shown (own text sp))
 opening text m (Head.prefix Prefix.ssigned sp) = begin 9 ++ L 5 (shown (own text sp))
-opening text m (Head.prefix Prefix.unary sp) = beginUnary unaries (own text sp)
+opening text m (Head.prefix Prefix.unary sp) = begin_unary unaries (own text sp)
 opening text m (Head.prefix Prefix.sfunc sp) = begin 11 ++ (L 3 (own text sp) ++ A (own text sp))
-opening text m (Head.prefix Prefix.binary sp) = begin (binaryElement exchanging (own text sp))
-opening text m (Head.simple sc) = beginScript sc
-opening text m (Head.func sp sc) = begin 14 ++ (beginScript sc ++ L 3 (own text sp))
+opening text m (Head.prefix Prefix.binary sp) = begin (binary_element exchanging (own text sp))
+opening text m (Head.simple sc) = begin_script sc
+opening text m (Head.func sp sc) = begin 14 ++ (begin_script sc ++ L 3 (own text sp))
 opening text m Head.frac = begin 18
 opening text m Head.cell = begin 17
 opening text m (Head.group a b) = begin 15 ++ kept m (own text a) (own text b) (own text a)
-opening text m (Head.matrix a b cols lines) = begin 16 ++ (B (own text a) ++ (Piece.start 31 (lineAttribute cols lines) ∷ begin 32))
+opening text m (Head.matrix a b cols lines) = begin 16 ++ (B (own text a) ++ (Piece.start 31 (line_attribute cols lines) ∷ begin 32))
 
 -- "close h"
 unfoldable pub closing : List ℕ → Mode → Head → List Piece
@@ -99,10 +99,10 @@ closing text m Head.missing = []
 closing text m (Head.atom a sp) = []
 closing text m (Head.prefix Prefix.signed sp) = finish 8
 closing text m (Head.prefix Prefix.ssigned sp) = finish 9
-closing text m (Head.prefix Prefix.unary sp) = finishUnary unaries (own text sp)
+closing text m (Head.prefix Prefix.unary sp) = finish_unary unaries (own text sp)
 closing text m (Head.prefix Prefix.sfunc sp) = finish 11
-closing text m (Head.prefix Prefix.binary sp) = finish (binaryElement exchanging (own text sp))
-closing text m (Head.simple sc) = finishScript sc
+closing text m (Head.prefix Prefix.binary sp) = finish (binary_element exchanging (own text sp))
+closing text m (Head.simple sc) = finish_script sc
 closing text m (Head.func sp sc) = finish 14
 closing text m Head.frac = finish 18
 closing text m Head.cell = finish 17
@@ -110,33 +110,33 @@ closing text m (Head.group a b) = kept m (own text a) (own text b) (own text b) 
 closing text m (Head.matrix a b cols lines) = finish 32 ++ (finish 31 ++ (B (own text b) ++ finish 16))
 
 -- "`between` is empty but for func (before its argument: end tag of the script element, then U+2061)": what stands before child i
-unfoldable pub betweenFunc : Script → List ℕ → ℕ → List Piece
-betweenFunc sc name i = elim (eqb i (arguments sc)) [ true ↦ finishScript sc ++ A name | false ↦ [] ]
+unfoldable pub between_func : Script → List ℕ → ℕ → List Piece
+between_func sc name i = elim (eqb i (arguments sc)) [ true ↦ finish_script sc ++ A name | false ↦ [] ]
 
 -- "and matrix (before cell i: `</mtr>` and `<mtr>` when the running column is back at 0)": so many cells are left in the row
-abbrev pub betweenRows : ℕ → List Piece
-betweenRows zero = finish 32 ++ begin 32
-betweenRows (suc left) = []
+abbrev pub between_rows : ℕ → List Piece
+between_rows zero = finish 32 ++ begin 32
+between_rows (suc left) = []
 
 -- how many are left behind the next one, of `cols` in a row
-abbrev pub oneLess : ℕ → ℕ
-oneLess zero = zero
-oneLess (suc n) = n
+abbrev pub one_less : ℕ → ℕ
+one_less zero = zero
+one_less (suc n) = n
 
-abbrev pub cellsLeft : ℕ → ℕ → ℕ
-cellsLeft cols zero = oneLess cols
-cellsLeft cols (suc left) = left
+abbrev pub cells_left : ℕ → ℕ → ℕ
+cells_left cols zero = one_less cols
+cells_left cols (suc left) = left
 
-abbrev pub colsOf : Head → ℕ
-colsOf Head.missing = 0
-colsOf (Head.atom a sp) = 0
-colsOf (Head.prefix p sp) = 0
-colsOf (Head.simple sc) = 0
-colsOf (Head.func sp sc) = 0
-colsOf Head.frac = 0
-colsOf Head.cell = 0
-colsOf (Head.group a b) = 0
-colsOf (Head.matrix a b cols lines) = cols
+abbrev pub cols_of : Head → ℕ
+cols_of Head.missing = 0
+cols_of (Head.atom a sp) = 0
+cols_of (Head.prefix p sp) = 0
+cols_of (Head.simple sc) = 0
+cols_of (Head.func sp sc) = 0
+cols_of Head.frac = 0
+cols_of Head.cell = 0
+cols_of (Head.group a b) = 0
+cols_of (Head.matrix a b cols lines) = cols
 
 -- what stands before child i, with so many cells left in its row
 unfoldable pub before : List ℕ → Head → ℕ → ℕ → List Piece
@@ -144,16 +144,16 @@ before text Head.missing i left = []
 before text (Head.atom a sp) i left = []
 before text (Head.prefix p sp) i left = []
 before text (Head.simple sc) i left = []
-before text (Head.func sp sc) i left = betweenFunc sc (own text sp) i
+before text (Head.func sp sc) i left = between_func sc (own text sp) i
 before text Head.frac i left = []
 before text Head.cell i left = []
 before text (Head.group a b) i left = []
-before text (Head.matrix a b cols lines) i left = betweenRows left
+before text (Head.matrix a b cols lines) i left = between_rows left
 
 -- the children from child i on, each behind what stands before it
 unfoldable pub woven : List ℕ → Head → ℕ → ℕ → List (List Piece) → List Piece
 woven text h i left [] = []
-woven text h i left (c ∷ cs) = before text h i left ++ (c ++ woven text h (suc i) (cellsLeft (colsOf h) left) cs)
+woven text h i left (c ∷ cs) = before text h i left ++ (c ++ woven text h (suc i) (cells_left (cols_of h) left) cs)
 
 -- root, stackrel, overset and underset have their children exchanged
 unfoldable pub swaps : List ℕ → Head → Bool
@@ -174,7 +174,7 @@ swaps text (Head.matrix a b cols lines) = false
 -- the children with what stands between them
 unfoldable pub between : List ℕ → Head → List (List Piece) → List Piece
 between text h cs =
-    elim (swaps text h) [ true ↦ child cs 1 ++ child cs 0 | false ↦ woven text h 0 (colsOf h) cs ]
+    elim (swaps text h) [ true ↦ child cs 1 ++ child cs 0 | false ↦ woven text h 0 (cols_of h) cs ]
 
 -- What the walk needs of a tree beside its layout (crates/tree/specs/Laid.antt): a matrix has whole rows, and its column lines are in
 -- order. Every well-formed tree is so.

@@ -3,7 +3,7 @@
 use Rattle.std.specs.Prelude.{true, false, List, [], ◌∷◌, ◌++◌, ℕ, eqb}
 use Prim.Native.String.{String}
 use Rattle.mathml_rules.specs.Utf8.{utf8}
-use Rattle.mathml_rules.specs.Elements.{elementOf}
+use Rattle.mathml_rules.specs.Elements.{element_of}
 
 -- `start` has the number of an element and what stands behind the table's attributes: nothing but for mtable (section 6)
 pub data Piece : Type 0 where
@@ -31,20 +31,20 @@ escapes =
     escape 32 "\u{a0}" ∷
     []
 
-unfoldable pub escapedBy : List Escape → ℕ → List ℕ
-escapedBy [] c = c ∷ []
-escapedBy (r ∷ rs) c = elim (eqb c r.byte) [ true ↦ r.instead | false ↦ escapedBy rs c ]
+unfoldable pub escaped_by : List Escape → ℕ → List ℕ
+escaped_by [] c = c ∷ []
+escaped_by (r ∷ rs) c = elim (eqb c r.byte) [ true ↦ r.instead | false ↦ escaped_by rs c ]
 
 abbrev pub escaped : ℕ → List ℕ
-escaped c = escapedBy escapes c
+escaped c = escaped_by escapes c
 
 unfoldable pub esc : List ℕ → List ℕ
 esc [] = []
 esc (c ∷ s) = escaped c ++ esc s
 
 unfoldable pub bytes_of : Piece → List ℕ
-bytes_of (Piece.start e more) = 60 ∷ ((elementOf e).name ++ ((elementOf e).attributes ++ (more ++ (62 ∷ []))))
-bytes_of (Piece.end e) = 60 ∷ 47 ∷ ((elementOf e).name ++ (62 ∷ []))
+bytes_of (Piece.start e more) = 60 ∷ ((element_of e).name ++ ((element_of e).attributes ++ (more ++ (62 ∷ []))))
+bytes_of (Piece.end e) = 60 ∷ 47 ∷ ((element_of e).name ++ (62 ∷ []))
 bytes_of (Piece.chars s) = esc s
 
 unfoldable pub written : List Piece → List ℕ

@@ -10,8 +10,8 @@ one_of [] s = false
 one_of (n ∷ l) s = same s (bytes n) || one_of l s
 
 -- "a binary node whose span is `id`, `class` or `color`"
-unfoldable pub refusedBinaries : List String
-refusedBinaries = "id" ∷ "class" ∷ "color" ∷ []
+unfoldable pub refused_binaries : List String
+refused_binaries = "id" ∷ "class" ∷ "color" ∷ []
 
 -- "a unary node whose span is one of the 20 from `bb` to `bbfr` in tokenizer.rs's order"
 unfoldable pub fonts : List String
@@ -24,8 +24,8 @@ unfoldable pub twice : List ℕ → Bool
 twice [] = false
 twice (b ∷ l) = has b l || twice l
 
-unfoldable pub refusedLines : ℕ → List ℕ → Bool
-refusedLines cols lines = has 0 lines || (has cols lines || twice lines)
+unfoldable pub refused_lines : ℕ → List ℕ → Bool
+refused_lines cols lines = has 0 lines || (has cols lines || twice lines)
 
 -- "a byte below 32 that is not 9, 10 or 13"
 unfoldable pub control : ℕ → Bool
@@ -35,31 +35,31 @@ unfoldable pub controls : List ℕ → Bool
 controls [] = false
 controls (c ∷ s) = control c || controls s
 
-unfoldable pub refusedPrefix : Prefix → List ℕ → Bool
-refusedPrefix Prefix.signed s = false
-refusedPrefix Prefix.ssigned s = false
-refusedPrefix Prefix.unary s = one_of fonts s
-refusedPrefix Prefix.sfunc s = false
-refusedPrefix Prefix.binary s = one_of refusedBinaries s
+unfoldable pub refused_prefix : Prefix → List ℕ → Bool
+refused_prefix Prefix.signed s = false
+refused_prefix Prefix.ssigned s = false
+refused_prefix Prefix.unary s = one_of fonts s
+refused_prefix Prefix.sfunc s = false
+refused_prefix Prefix.binary s = one_of refused_binaries s
 
 -- a node by itself; "a node one of whose spans (at len, rat rlen) has a byte below 32 .."
-unfoldable pub refusedHead : List ℕ → Head → Bool
-refusedHead text Head.missing = false
-refusedHead text (Head.atom a sp) = controls (own text sp)
-refusedHead text (Head.prefix p sp) = controls (own text sp) || refusedPrefix p (own text sp)
-refusedHead text (Head.simple sc) = false
-refusedHead text (Head.func sp sc) = controls (own text sp)
-refusedHead text Head.frac = false
-refusedHead text Head.cell = false
-refusedHead text (Head.group a b) = controls (own text a) || controls (own text b)
-refusedHead text (Head.matrix a b cols lines) =
-    controls (own text a) || (controls (own text b) || refusedLines cols lines)
+unfoldable pub refused_head : List ℕ → Head → Bool
+refused_head text Head.missing = false
+refused_head text (Head.atom a sp) = controls (own text sp)
+refused_head text (Head.prefix p sp) = controls (own text sp) || refused_prefix p (own text sp)
+refused_head text (Head.simple sc) = false
+refused_head text (Head.func sp sc) = controls (own text sp)
+refused_head text Head.frac = false
+refused_head text Head.cell = false
+refused_head text (Head.group a b) = controls (own text a) || controls (own text b)
+refused_head text (Head.matrix a b cols lines) =
+    controls (own text a) || (controls (own text b) || refused_lines cols lines)
 
 -- "11 exactly if the tree holds one of .."
 unfoldable mutual
-  pub refusedNode : List ℕ → Node → Bool
-  refusedNode text (node h l) = refusedHead text h || refusal11 text l
+  pub refused_node : List ℕ → Node → Bool
+  refused_node text (node h l) = refused_head text h || refusal11 text l
 
   pub refusal11 : List ℕ → Nodes → Bool
   refusal11 text end = false
-  refusal11 text (x ▸ l) = refusedNode text x || refusal11 text l
+  refusal11 text (x ▸ l) = refused_node text x || refusal11 text l

@@ -8,52 +8,52 @@ use lib.ListN.{length, get_or, drop, drop_of_length-le}
 use lib.Seq.{drop-cons}
 use borrow.Author.Tests.{eq-eqb, ne_eqb, lt-ltb, le-ltb}
 use Rattle.tokens.specs.Bytes.{bytes}
-use Rattle.mathml_rules.specs.Elements.{elements, elementOf}
+use Rattle.mathml_rules.specs.Elements.{elements, element_of}
 use Rattle.mathml_rules.specs.Pieces.{Piece, bytes_of}
-use Rattle.mathml_rules.specs.Parts.{notBefore, firstIs, entryFor, entriesFrom, lineAttribute}
+use Rattle.mathml_rules.specs.Parts.{not_before, first_is, entry_for, entries_from, line_attribute}
 
 module _ (lines : List ℕ) (j k : ℕ) where
-  pub before-none : length lines ≤ k → drop k lines ≡ notBefore j (drop k lines)
-  unfolding notBefore
+  pub before-none : length lines ≤ k → drop k lines ≡ not_before j (drop k lines)
+  unfolding not_before
   before-none h = rw (drop_of_length-le lines h)
 
-  pub before_here : k < length lines → j ≤ get_or lines k 0 → drop k lines ≡ notBefore j (drop k lines)
-  unfolding notBefore
-  before_here h l = rw (drop-cons lines k 0 h) (rw (le-ltb (get_or lines k 0) j l, notBefore))
+  pub before_here : k < length lines → j ≤ get_or lines k 0 → drop k lines ≡ not_before j (drop k lines)
+  unfolding not_before
+  before_here h l = rw (drop-cons lines k 0 h) (rw (le-ltb (get_or lines k 0) j l, not_before))
 
-  pub before-next : k < length lines → get_or lines k 0 < j → notBefore j (drop k lines) ≡ notBefore j (drop (suc k) lines)
-  unfolding notBefore
-  before-next h l = rw (drop-cons lines k 0 h) (rw (lt-ltb (get_or lines k 0) j l, notBefore))
+  pub before-next : k < length lines → get_or lines k 0 < j → not_before j (drop k lines) ≡ not_before j (drop (suc k) lines)
+  unfolding not_before
+  before-next h l = rw (drop-cons lines k 0 h) (rw (lt-ltb (get_or lines k 0) j l, not_before))
 
-  pub entry-solid : k < length lines → get_or lines k 0 ≡ j → bytes "solid" ≡ entryFor (firstIs j (drop k lines))
+  pub entry-solid : k < length lines → get_or lines k 0 ≡ j → bytes "solid" ≡ entry_for (first_is j (drop k lines))
   entry-solid h e = rw (drop-cons lines k 0 h) (rw (eq-eqb (get_or lines k 0) j e))
 
-  pub entry_other : k < length lines → (get_or lines k 0 ≡ j → ⊥) → bytes "none" ≡ entryFor (firstIs j (drop k lines))
+  pub entry_other : k < length lines → (get_or lines k 0 ≡ j → ⊥) → bytes "none" ≡ entry_for (first_is j (drop k lines))
   entry_other h e = rw (drop-cons lines k 0 h) (rw (ne_eqb (get_or lines k 0) j e))
 
-  pub entry_past : length lines ≤ k → bytes "none" ≡ entryFor (firstIs j (drop k lines))
+  pub entry_past : length lines ≤ k → bytes "none" ≡ entry_for (first_is j (drop k lines))
   entry_past h = rw (drop_of_length-le lines h)
 
 -- what is put and what is left to put, to boundary `cols`, are all entries
 module _ (lines done all : List ℕ) (cols j i : ℕ) where
-  pub entries_next : (k : ℕ) → j < cols → drop k lines ≡ notBefore j (drop i lines) → done ++ entriesFrom j (cols - j) (drop i lines) ≡ all →
-      (done ++ (32 ∷ entryFor (firstIs j (drop k lines)))) ++ entriesFrom (j + 1) (cols - (j + 1)) (drop k lines) ≡ all
-  unfolding entriesFrom
+  pub entries_next : (k : ℕ) → j < cols → drop k lines ≡ not_before j (drop i lines) → done ++ entries_from j (cols - j) (drop i lines) ≡ all →
+      (done ++ (32 ∷ entry_for (first_is j (drop k lines)))) ++ entries_from (j + 1) (cols - (j + 1)) (drop k lines) ≡ all
+  unfolding entries_from
   entries_next k l e h =
       let n : cols - j ≡ suc (cols - (j + 1)) = omega arith in
-      let h' : done ++ entriesFrom j (suc (cols - (j + 1))) (drop i lines) ≡ all = rw n at h in
-      append_assoc done (32 ∷ entryFor (firstIs j (drop k lines))) (entriesFrom (j + 1) (cols - (j + 1)) (drop k lines)) ∙
+      let h' : done ++ entries_from j (suc (cols - (j + 1))) (drop i lines) ≡ all = rw n at h in
+      append_assoc done (32 ∷ entry_for (first_is j (drop k lines))) (entries_from (j + 1) (cols - (j + 1)) (drop k lines)) ∙
       (rw (e, add-one j) (rw (add-one j) at h'))
 
-  pub entries-all : cols ≤ j → done ++ entriesFrom j (cols - j) (drop i lines) ≡ all → done ≡ all
-  unfolding entriesFrom
+  pub entries-all : cols ≤ j → done ++ entries_from j (cols - j) (drop i lines) ≡ all → done ≡ all
+  unfolding entries_from
   entries-all l h =
       let n : cols - j ≡ 0 = omega arith in
-      let h' : done ++ entriesFrom j 0 (drop i lines) ≡ all = rw n at h in
+      let h' : done ++ entries_from j 0 (drop i lines) ≡ all = rw n at h in
       sym (append-nil done) ∙ h'
 
-pub table-few : (lines : List ℕ) (cols : ℕ) → cols < 2 → bytes "<mtable>" ≡ bytes_of (Piece.start 31 (lineAttribute cols lines))
-unfolding bytes_of elementOf elements lineAttribute
+pub table-few : (lines : List ℕ) (cols : ℕ) → cols < 2 → bytes "<mtable>" ≡ bytes_of (Piece.start 31 (line_attribute cols lines))
+unfolding bytes_of element_of elements line_attribute
 table-few lines zero h = refl
 table-few lines (suc zero) h = refl
 table-few lines (suc (suc n)) h = absurd (omega arith)
@@ -62,15 +62,15 @@ quoted : (e x : List ℕ) → e ++ (x ++ (34 ∷ 62 ∷ [])) ≡ (e ++ (x ++ (34
 quoted e x = sym (append_assoc e (x ++ (34 ∷ [])) (62 ∷ []) ∙ ap (λ (y : List ℕ). e ++ y) (append_assoc x (34 ∷ []) (62 ∷ [])))
 
 table_of : (l : List ℕ) (n : ℕ) →
-    bytes "<mtable columnlines=\"" ++ (entryFor (firstIs 1 l) ++ (entriesFrom 2 n l ++ bytes "\">")) ≡
-    bytes_of (Piece.start 31 (bytes " columnlines=\"" ++ (entryFor (firstIs 1 l) ++ (entriesFrom 2 n l ++ bytes "\""))))
-unfolding bytes_of elementOf elements
-table_of l n = ap (λ (y : List ℕ). bytes "<mtable columnlines=\"" ++ y) (quoted (entryFor (firstIs 1 l)) (entriesFrom 2 n l))
+    bytes "<mtable columnlines=\"" ++ (entry_for (first_is 1 l) ++ (entries_from 2 n l ++ bytes "\">")) ≡
+    bytes_of (Piece.start 31 (bytes " columnlines=\"" ++ (entry_for (first_is 1 l) ++ (entries_from 2 n l ++ bytes "\""))))
+unfolding bytes_of element_of elements
+table_of l n = ap (λ (y : List ℕ). bytes "<mtable columnlines=\"" ++ y) (quoted (entry_for (first_is 1 l)) (entries_from 2 n l))
 
-pub table-many : (lines : List ℕ) (cols i : ℕ) → 2 ≤ cols → drop i lines ≡ notBefore 1 lines →
-    bytes "<mtable columnlines=\"" ++ (entryFor (firstIs 1 (drop i lines)) ++ (entriesFrom 2 (cols - 2) (drop i lines) ++ bytes "\">")) ≡
-    bytes_of (Piece.start 31 (lineAttribute cols lines))
-unfolding lineAttribute
+pub table-many : (lines : List ℕ) (cols i : ℕ) → 2 ≤ cols → drop i lines ≡ not_before 1 lines →
+    bytes "<mtable columnlines=\"" ++ (entry_for (first_is 1 (drop i lines)) ++ (entries_from 2 (cols - 2) (drop i lines) ++ bytes "\">")) ≡
+    bytes_of (Piece.start 31 (line_attribute cols lines))
+unfolding line_attribute
 table-many lines zero i h e = absurd (omega arith)
 table-many lines (suc zero) i h e = absurd (omega arith)
-table-many lines (suc (suc n)) i h e = let k : suc (suc n) - 2 ≡ n = omega arith in rw (k, e) (table_of (notBefore 1 lines) n)
+table-many lines (suc (suc n)) i h e = let k : suc (suc n) - 2 ≡ n = omega arith in rw (k, e) (table_of (not_before 1 lines) n)

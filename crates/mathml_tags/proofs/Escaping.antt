@@ -5,24 +5,24 @@ use mathlib.Core.List.{List, [], ◌∷◌, ◌++◌, append_assoc, append-nil}
 use lib.ListN.{length, get_or, take}
 use lib.Seq.{take-suc}
 use borrow.Author.Tests.{ne_eqb}
-use Rattle.mathml_rules.specs.Pieces.{Escape, escapes, escapedBy, escaped, esc}
+use Rattle.mathml_rules.specs.Pieces.{Escape, escapes, escaped_by, escaped, esc}
 
 module _ (c : ℕ) where
   abbrev NoneOf : List Escape → Type 0
   NoneOf [] = Unit {0}
   NoneOf (r ∷ rs) = (c ≡ r.byte → ⊥) × NoneOf rs
 
-  miss : (r : Escape) (rs : List Escape) → (c ≡ r.byte → ⊥) → escapedBy rs c ≡ escapedBy (r ∷ rs) c
-  unfolding escapedBy
-  miss r rs h = rw (ne_eqb c r.byte h, escapedBy)
+  miss : (r : Escape) (rs : List Escape) → (c ≡ r.byte → ⊥) → escaped_by rs c ≡ escaped_by (r ∷ rs) c
+  unfolding escaped_by
+  miss r rs h = rw (ne_eqb c r.byte h, escaped_by)
 
-  misses : (rs : List Escape) → NoneOf rs → c ∷ [] ≡ escapedBy rs c
-  unfolding escapedBy
+  misses : (rs : List Escape) → NoneOf rs → c ∷ [] ≡ escaped_by rs c
+  unfolding escaped_by
   misses [] h = refl
   misses (r ∷ rs) h = misses rs h.1 ∙ miss r rs h.0
 
   pub itself : (c ≡ 60 → ⊥) → (c ≡ 62 → ⊥) → (c ≡ 38 → ⊥) → (c ≡ 9 → ⊥) → (c ≡ 10 → ⊥) → (c ≡ 13 → ⊥) → (c ≡ 32 → ⊥) → c ∷ [] ≡ escaped c
-  unfolding escapedBy escapes
+  unfolding escaped_by escapes
   itself a b d e f g h = misses escapes (a, (b, (d, (e, (f, (g, (h, tt)))))))
 
 esc-append : (s t : List ℕ) → esc (s ++ t) ≡ esc s ++ esc t

@@ -6,7 +6,7 @@ use mathlib.Core.Logic.{◌⊎◌, inl, inr, ⊎_elim}
 use native.Mathlib.Omega.{arith}
 use lib.ListN.{get_or}
 use Rattle.tokens.specs.Bytes.{bytes}
-use Rattle.mathml_rules.specs.Elements.{Element, element, elements, elementOf}
+use Rattle.mathml_rules.specs.Elements.{Element, element, elements, element_of}
 use Rattle.mathml_rules.specs.Pieces.{Piece, bytes_of}
 
 abbrev mrow : Element
@@ -28,40 +28,40 @@ a ▸ b = (a, b)
 
 -- none of the elements that are no mrow
 pub record Other (e : ℕ) : Type 0 where
-  pub no-1 : e ≡ 1 → ⊥
-  pub no-2 : e ≡ 2 → ⊥
-  pub no-3 : e ≡ 3 → ⊥
-  pub no-4 : e ≡ 4 → ⊥
-  pub no-5 : e ≡ 5 → ⊥
-  pub no-6 : e ≡ 6 → ⊥
-  pub no-7 : e ≡ 7 → ⊥
-  pub no-12 : e ≡ 12 → ⊥
-  pub no-13 : e ≡ 13 → ⊥
-  pub no-17 : e ≡ 17 → ⊥
-  pub no-18 : e ≡ 18 → ⊥
-  pub no-19 : e ≡ 19 → ⊥
-  pub no-20 : e ≡ 20 → ⊥
-  pub no-21 : e ≡ 21 → ⊥
-  pub no-22 : e ≡ 22 → ⊥
-  pub no-23 : e ≡ 23 → ⊥
-  pub no-24 : e ≡ 24 → ⊥
-  pub no-25 : e ≡ 25 → ⊥
-  pub no-26 : e ≡ 26 → ⊥
-  pub no-27 : e ≡ 27 → ⊥
-  pub no-28 : e ≡ 28 → ⊥
-  pub no-29 : e ≡ 29 → ⊥
-  pub no-30 : e ≡ 30 → ⊥
-  pub no-31 : e ≡ 31 → ⊥
-  pub no-32 : e ≡ 32 → ⊥
+  pub no_1 : e ≡ 1 → ⊥
+  pub no_2 : e ≡ 2 → ⊥
+  pub no_3 : e ≡ 3 → ⊥
+  pub no_4 : e ≡ 4 → ⊥
+  pub no_5 : e ≡ 5 → ⊥
+  pub no_6 : e ≡ 6 → ⊥
+  pub no_7 : e ≡ 7 → ⊥
+  pub no_12 : e ≡ 12 → ⊥
+  pub no_13 : e ≡ 13 → ⊥
+  pub no_17 : e ≡ 17 → ⊥
+  pub no_18 : e ≡ 18 → ⊥
+  pub no_19 : e ≡ 19 → ⊥
+  pub no_20 : e ≡ 20 → ⊥
+  pub no_21 : e ≡ 21 → ⊥
+  pub no_22 : e ≡ 22 → ⊥
+  pub no_23 : e ≡ 23 → ⊥
+  pub no_24 : e ≡ 24 → ⊥
+  pub no_25 : e ≡ 25 → ⊥
+  pub no_26 : e ≡ 26 → ⊥
+  pub no_27 : e ≡ 27 → ⊥
+  pub no_28 : e ≡ 28 → ⊥
+  pub no_29 : e ≡ 29 → ⊥
+  pub no_30 : e ≡ 30 → ⊥
+  pub no_31 : e ≡ 31 → ⊥
+  pub no_32 : e ≡ 32 → ⊥
 
-other : (e : ℕ) → Other e → mrow ≡ elementOf e
-unfolding elementOf elements
+other : (e : ℕ) → Other e → mrow ≡ element_of e
+unfolding element_of elements
 other e o =
     mrow-at e 0 e elements (omega arith)
-    (inl refl ▸ inr o.no-1 ▸ inr o.no-2 ▸ inr o.no-3 ▸ inr o.no-4 ▸ inr o.no-5 ▸ inr o.no-6 ▸ inr o.no-7 ▸
-    inl refl ▸ inl refl ▸ inl refl ▸ inl refl ▸ inr o.no-12 ▸ inr o.no-13 ▸ inl refl ▸ inl refl ▸ inl refl ▸
-    inr o.no-17 ▸ inr o.no-18 ▸ inr o.no-19 ▸ inr o.no-20 ▸ inr o.no-21 ▸ inr o.no-22 ▸ inr o.no-23 ▸ inr o.no-24 ▸
-    inr o.no-25 ▸ inr o.no-26 ▸ inr o.no-27 ▸ inr o.no-28 ▸ inr o.no-29 ▸ inr o.no-30 ▸ inr o.no-31 ▸ inr o.no-32 ▸ tt)
+    (inl refl ▸ inr o.no_1 ▸ inr o.no_2 ▸ inr o.no_3 ▸ inr o.no_4 ▸ inr o.no_5 ▸ inr o.no_6 ▸ inr o.no_7 ▸
+    inl refl ▸ inl refl ▸ inl refl ▸ inl refl ▸ inr o.no_12 ▸ inr o.no_13 ▸ inl refl ▸ inl refl ▸ inl refl ▸
+    inr o.no_17 ▸ inr o.no_18 ▸ inr o.no_19 ▸ inr o.no_20 ▸ inr o.no_21 ▸ inr o.no_22 ▸ inr o.no_23 ▸ inr o.no_24 ▸
+    inr o.no_25 ▸ inr o.no_26 ▸ inr o.no_27 ▸ inr o.no_28 ▸ inr o.no_29 ▸ inr o.no_30 ▸ inr o.no_31 ▸ inr o.no_32 ▸ tt)
 
 pub start-else : (e : ℕ) → Other e → bytes "<mrow>" ≡ bytes_of (Piece.start e [])
 unfolding bytes_of

@@ -3,13 +3,13 @@
 ghost use Rattle.std.specs.Prelude.{◌≡◌, ◌-◌, drop};
 ghost use Rattle.writer.specs.Put.{Put};
 ghost use Rattle.mathml_rules.specs.Pieces.{Piece, bytes_of};
-ghost use Rattle.mathml_rules.specs.Parts.{notBefore, firstIs, entryFor, entriesFrom, lineAttribute};
+ghost use Rattle.mathml_rules.specs.Parts.{not_before, first_is, entry_for, entries_from, line_attribute};
 
 use writer::put_bytes;
 
 // The first line from place `i` on that is not before boundary `j`.
 fn not_before(lines: &[u32], i: usize, j: usize) -> usize
-    ensures { drop result lines.now ≡ notBefore j (drop i lines.now) }
+    ensures { drop result lines.now ≡ not_before j (drop i lines.now) }
 {
     let mut k = i;
     while k < lines.len() {
@@ -23,7 +23,7 @@ fn not_before(lines: &[u32], i: usize, j: usize) -> usize
 
 // What stands at boundary `j`, told by the line at place `i`.
 fn put_entry(out: &mut [u8], at: usize, lines: &[u32], i: usize, j: usize) -> usize
-    ensures { Put out.old at out.new result (entryFor (firstIs j (drop i lines.now))) }
+    ensures { Put out.old at out.new result (entry_for (first_is j (drop i lines.now))) }
 {
     if i < lines.len() {
         if lines[i] as usize == j {
@@ -35,7 +35,7 @@ fn put_entry(out: &mut [u8], at: usize, lines: &[u32], i: usize, j: usize) -> us
 
 // The entries from boundary 2 on; `from` is a place in the lines.
 fn put_entries(out: &mut [u8], at: usize, cols: usize, lines: &[u32], from: usize) -> usize
-    ensures { Put out.old at out.new result (entriesFrom 2 (cols - 2) (drop from lines.now)) }
+    ensures { Put out.old at out.new result (entries_from 2 (cols - 2) (drop from lines.now)) }
 {
     let mut end = at;
     let mut i = from;
@@ -50,7 +50,7 @@ fn put_entries(out: &mut [u8], at: usize, cols: usize, lines: &[u32], from: usiz
 }
 
 pub fn put_table(out: &mut [u8], at: usize, cols: usize, lines: &[u32]) -> usize
-    ensures { Put out.old at out.new result (bytes_of (Piece.start 31 (lineAttribute cols lines.now))) }
+    ensures { Put out.old at out.new result (bytes_of (Piece.start 31 (line_attribute cols lines.now))) }
 {
     if cols < 2 {
         return put_bytes(out, at, b"<mtable>");

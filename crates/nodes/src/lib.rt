@@ -2,7 +2,7 @@
 ghost use Rattle.std.specs.Prelude.{◌≡◌, [], ◌∷◌};
 ghost use Rattle.records.specs.Record.{start_of, len_of};
 ghost use Rattle.buffer.specs.Buffer.{stored};
-ghost use Rattle.nodes.specs.Nodes.{groupWords, matrixWords, gapWords, gapItems};
+ghost use Rattle.nodes.specs.Nodes.{group_words, matrix_words, gap_words, gap_items};
 
 use buffer::{fits, put6};
 use leaves::put_node;
@@ -41,7 +41,7 @@ pub fn put_group(
     j: usize,
     count: u32,
 )
-    ensures { tree.new ≡ stored tree.old e (groupWords tok.now work.now n i j count) }
+    ensures { tree.new ≡ stored tree.old e (group_words tok.now work.now n i j count) }
 {
     if j < n {
         put_between(tok, work, tree, e, NODE_GROUP, i, j, count);
@@ -62,7 +62,7 @@ pub fn put_matrix(
     cols: u32,
     lines: u32,
 )
-    ensures { tree.new ≡ stored tree.old e (matrixWords tok.now work.now i j cells cols lines) }
+    ensures { tree.new ≡ stored tree.old e (matrix_words tok.now work.now i j cells cols lines) }
 {
     if fits(tree.len(), e, 8) {
         put_between(tok, work, tree, e, NODE_MATRIX, i, j, cells);
@@ -81,8 +81,8 @@ pub fn put_space(
     e: usize,
     first: bool,
 ) -> u32
-    ensures value { result ≡ gapItems tok.now work.now n first i }
-    ensures tree_after { tree.new ≡ stored tree.old e (gapWords tok.now work.now n first i) }
+    ensures value { result ≡ gap_items tok.now work.now n first i }
+    ensures tree_after { tree.new ≡ stored tree.old e (gap_words tok.now work.now n first i) }
 {
     if first {
         return 0;

@@ -82,12 +82,12 @@ pub wrote-all : {x y w : List ℕ} {e E : ℕ} → Wrote x e y E w → length y 
 wrote-all {x} {y} {w} {e} {E} p h = sym (take_all E y h) ∙ p.body
 
 -- words after others, and before them
-swap-set : (x : List ℕ) (i a : ℕ) (j : ℕ) (v : List ℕ) → i < j → set (sets x j v) i a ≡ sets (set x i a) j v
-swap-set x i a j [] h = refl
-swap-set x i a j (b ∷ v) h = swap-set (set x j b) i a (suc j) v (omega arith) ∙ ap (λ (w : List ℕ). sets w (suc j) v) (set_comm x j i b a (λ z. omega arith))
+swap_set : (x : List ℕ) (i a : ℕ) (j : ℕ) (v : List ℕ) → i < j → set (sets x j v) i a ≡ sets (set x i a) j v
+swap_set x i a j [] h = refl
+swap_set x i a j (b ∷ v) h = swap_set (set x j b) i a (suc j) v (omega arith) ∙ ap (λ (w : List ℕ). sets w (suc j) v) (set_comm x j i b a (λ z. omega arith))
 
-pub sets-before : (x : List ℕ) (i : ℕ) (u v : List ℕ) → sets (sets x (i + length u) v) i u ≡ sets x i (u ++ v)
-sets-before x i [] v = let z : i + 0 ≡ i = omega arith in rw z
-sets-before x i (a ∷ u) v =
+pub sets_before : (x : List ℕ) (i : ℕ) (u v : List ℕ) → sets (sets x (i + length u) v) i u ≡ sets x i (u ++ v)
+sets_before x i [] v = let z : i + 0 ≡ i = omega arith in rw z
+sets_before x i (a ∷ u) v =
     let z : i + suc (length u) ≡ suc i + length u = omega arith in
-    rw z (ap (λ (w : List ℕ). sets w (suc i) u) (swap-set x i a (suc i + length u) v (omega arith)) ∙ sets-before (set x i a) (suc i) u v)
+    rw z (ap (λ (w : List ℕ). sets w (suc i) u) (swap_set x i a (suc i + length u) v (omega arith)) ∙ sets_before (set x i a) (suc i) u v)

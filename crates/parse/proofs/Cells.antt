@@ -11,14 +11,14 @@ use lib.Seq.{sets, length-sets}
 use borrow.Author.Tests.{ltb-true, ltb-false, lt-ltb, le-ltb}
 use Rattle.tokens.specs.declared.token.Token.TheVariants as token
 use Rattle.tree.specs.Tree.{Head, node, Nodes, end, ◌▸◌, ◌⧺◌, count, one}
-use Rattle.tree.specs.Words.{encode, encodes, encodeItems}
+use Rattle.tree.specs.Words.{encode, encodes, encode_items}
 use Rattle.reading.specs.Stop.{Stop}
 use Rattle.reading.specs.Entries.{Entry}
-use Rattle.reading.specs.Reading.{State, intermediates, prefixes, rowCells, nextMatrixRow}
+use Rattle.reading.specs.Reading.{State, intermediates, prefixes, row_cells, next_matrix_row}
 use Rattle.parse.specs.declared.cursor.Cursor.{Cursor}
 use Rattle.parse.specs.declared.cursor.Items.{Items}
 use Rattle.parse.specs.Buffer.{Wrote}
-use Rattle.lookahead.specs.Tests.{testAt, isKind}
+use Rattle.lookahead.specs.Tests.{test_at, is_kind}
 use Rattle.parse.specs.Meet.{Each, Intermediates, onward, passing}
 use Rattle.parse.proofs.Buffer.{fill, seq, back, wrote_none}
 use Rattle.lookahead.proofs.Testing.{test_below}
@@ -29,10 +29,10 @@ use Rattle.parse.specs.declared.cursor.Cells.{Cells}
 use Rattle.columns.specs.Rows as columns
 use Rattle.parse.specs.Matrix.{Filled, Fails, RowCells, MatrixRow}
 use Rattle.parse.proofs.Scripting.{encodes-append, count-append}
-use Rattle.reading_words.specs.Meet.{Input, At, Known, readers, cellsAt, row_at}
+use Rattle.reading_words.specs.Meet.{Input, At, Known, readers, cells_at, row_at}
 use Rattle.stores.proofs.Stores.{kept_refl, kept_trans}
-use Rattle.reading_words.proofs.Kit.{shut, ret-closed, at-shut, at_here, bind, ret, if-false, tick, at_tick, kind-is}
-use Rattle.reading_words.proofs.Steps.{row-taken, turn_end, turn-other, turn-sep, turn-shut, with-one, withCells, took-any, end-any}
+use Rattle.reading_words.proofs.Kit.{shut, ret-closed, at_shut, at_here, bind, ret, if_false, tick, at_tick, kind-is}
+use Rattle.reading_words.proofs.Steps.{row-taken, turn_end, turn-other, turn-sep, turn-shut, with_one, with_cells, took-any, end-any}
 
 -- one token passed, if there is one
 pub passing-in : (n : ℕ) (c : Cursor) → c.pos < n → passing n c ≡ onward c
@@ -58,13 +58,13 @@ passing-within n c h = go (ltb c.pos n) refl
     go false e = omega (arith, ap (λ (q : Cursor). q.pos) (passing-out n c (ltb-false c.pos n e)))
 
 -- a cell's words
-pub cell-words : {k w : ℕ} (l : Nodes) → k ≡ count l → w ≡ length (encodeItems l) → encode (node Head.cell l) ≡ (17 ∷ 0 ∷ 0 ∷ k ∷ w ∷ 0 ∷ []) ++ encodeItems l
+pub cell-words : {k w : ℕ} (l : Nodes) → k ≡ count l → w ≡ length (encode_items l) → encode (node Head.cell l) ≡ (17 ∷ 0 ∷ 0 ∷ k ∷ w ∷ 0 ∷ []) ++ encode_items l
 unfolding encode
 cell-words l hk hw = rw (hk, hw, append-nil)
 
-cells-more-words : (acc l : Nodes) → encodes (acc ⧺ (node Head.cell l ▸ end)) ≡ encodes acc ++ encode (node Head.cell l)
+cells-more_words : (acc l : Nodes) → encodes (acc ⧺ (node Head.cell l ▸ end)) ≡ encodes acc ++ encode (node Head.cell l)
 unfolding encodes
-cells-more-words acc l = encodes-append acc (node Head.cell l ▸ end) ∙ ap (λ (w : List ℕ). encodes acc ++ w) (append-nil (encode (node Head.cell l)))
+cells-more_words acc l = encodes-append acc (node Head.cell l ▸ end) ∙ ap (λ (w : List ℕ). encodes acc ++ w) (append-nil (encode (node Head.cell l)))
 
 cells-snoc : {k : ℕ} {l : Nodes} (m : Nodes) → columns.Cells k l → columns.Cells (k + 1) (l ⧺ (node Head.cell m ▸ end))
 cells-snoc m columns.Cells.none = columns.Cells.cell columns.Cells.none
@@ -77,7 +77,7 @@ pub record Along (X t : List ℕ) (n : ℕ) (L : List ℕ) (d : ℕ) (I : Input)
   pub left : ℕ
   pub acc : Nodes
   pub state : State
-  pub whole : cellsAt d I s ≡ withCells acc (rowCells I.text I.es true (readers d I) (suc left) state)
+  pub whole : cells_at d I s ≡ with_cells acc (row_cells I.text I.es true (readers d I) (suc left) state)
   pub enough : n - cur.pos ≤ left
   pub at : At X t n L cur.pos cur.takes I state
   pub tree : Wrote x e y stp (encodes acc)
@@ -93,10 +93,10 @@ module _ {X t : List ℕ} {n : ℕ} {K : List ℕ} (c : Cursor) (e : ℕ) (x : L
   unfolding encodes
   cells-none k kn = record {
     moves = record { within = k; on = omega arith; depth = refl; room = omega arith; long = refl; kept = kept_refl K; known = kn };
-    along = λ I s at. record { left = length I.es; acc = end; state = s; whole = none_first (cellsAt c.depth I s); enough = omega (arith, at.given.size); at = at; tree = wrote_none x e; number = refl; all = columns.Cells.none };
+    along = λ I s at. record { left = length I.es; acc = end; state = s; whole = none_first (cells_at c.depth I s); enough = omega (arith, at.given.size); at = at; tree = wrote_none x e; number = refl; all = columns.Cells.none };
   }
     where
-      none_first : (r : Option (Nodes × Entry) × State) → r ≡ withCells end r
+      none_first : (r : Option (Nodes × Entry) × State) → r ≡ with_cells end r
       none_first (none, u) = refl
       none_first (some m, u) = refl
 
@@ -114,14 +114,14 @@ module _ {X t : List ℕ} {n : ℕ} {K : List ℕ} (c : Cursor) (e : ℕ) (x : L
     unfolding prefixes
     turn I s a =
         let q = rw i.moves.depth at (whole-items p (omega arith) I a.state a.at none refl refl) in
-        let size : w ≡ length (encodeItems q.answer) = omega (arith, hw, q.tree.upto) in
-        let one : Wrote y stp z g.end ((17 ∷ 0 ∷ 0 ∷ g.count ∷ w ∷ 0 ∷ []) ++ encodeItems q.answer) = rw hz (fill stp (17 ∷ 0 ∷ 0 ∷ g.count ∷ w ∷ 0 ∷ []) q.tree refl (omega (arith, p.moves.room, i.moves.room, i.moves.long))) in
+        let size : w ≡ length (encode_items q.answer) = omega (arith, hw, q.tree.upto) in
+        let one : Wrote y stp z g.end ((17 ∷ 0 ∷ 0 ∷ g.count ∷ w ∷ 0 ∷ []) ++ encode_items q.answer) = rw hz (fill stp (17 ∷ 0 ∷ 0 ∷ g.count ∷ w ∷ 0 ∷ []) q.tree refl (omega (arith, p.moves.room, i.moves.room, i.moves.long))) in
         record {
           l = q.answer;
           u = q.state;
           run = q.runs;
           at = q.at;
-          tree = rw (cells-more-words a.acc q.answer, cell-words q.answer q.besides.0 size) (seq a.tree one);
+          tree = rw (cells-more_words a.acc q.answer, cell-words q.answer q.besides.0 size) (seq a.tree one);
           number = omega (arith, a.number, count-append a.acc (node Head.cell q.answer ▸ end));
         }
 
@@ -139,9 +139,9 @@ module _ {X t : List ℕ} {n : ℕ} {K : List ℕ} (c : Cursor) (e : ℕ) (x : L
       known = p.moves.known;
     }
 
-    pub cells-more : testAt t J n (isKind 3) g.cur.pos ≡ true → Inv X t n K J c e x z (passing n g.cur) g.end (num + 1)
+    pub cells-more : test_at t J n (is_kind 3) g.cur.pos ≡ true → Inv X t n K J c e x z (passing n g.cur) g.end (num + 1)
     cells-more h =
-        let b : g.cur.pos < n = test_below t J n (isKind 3) g.cur.pos h in
+        let b : g.cur.pos < n = test_below t J n (is_kind 3) g.cur.pos h in
         rw (passing-in n g.cur b) (record {
           moves = filled b;
           along = λ I s at.
@@ -150,14 +150,14 @@ module _ {X t : List ℕ} {n : ℕ} {K : List ℕ} (c : Cursor) (e : ℕ) (x : L
               let v = took-any q.at.given q.at.pos b in
               let l1 : a.left ≡ suc (a.left - 1) = omega (arith, a.enough, p.moves.on) in
               let R = readers c.depth I in
-              let rest = rowCells I.text I.es true R a.left (tick q.u) in
+              let rest = row_cells I.text I.es true R a.left (tick q.u) in
               record {
                 left = a.left - 1;
                 acc = a.acc ⧺ (node Head.cell q.l ▸ end);
                 state = tick q.u;
-                whole = a.whole ∙ ap (withCells a.acc) (turn-sep I R a.left q.l a.state q.u q.run v.1 (kind-is token.Sep true v.0.row b h))
-                    ∙ with-one a.acc q.l rest.0 rest.1
-                    ∙ ap (λ (m : ℕ). withCells (a.acc ⧺ (node Head.cell q.l ▸ end)) (rowCells I.text I.es true R m (tick q.u))) l1;
+                whole = a.whole ∙ ap (with_cells a.acc) (turn-sep I R a.left q.l a.state q.u q.run v.1 (kind-is token.Sep true v.0.row b h))
+                    ∙ with_one a.acc q.l rest.0 rest.1
+                    ∙ ap (λ (m : ℕ). with_cells (a.acc ⧺ (node Head.cell q.l ▸ end)) (row_cells I.text I.es true R m (tick q.u))) l1;
                 enough = omega (arith, l1, a.enough, p.moves.on);
                 at = at_tick q.at;
                 tree = q.tree;
@@ -166,10 +166,10 @@ module _ {X t : List ℕ} {n : ℕ} {K : List ℕ} (c : Cursor) (e : ℕ) (x : L
               };
         })
 
-    module _ (h : testAt t J n (isKind 3) g.cur.pos ≡ false) where
-      pub cells-shut : testAt t J n (isKind 21) g.cur.pos ≡ true → RowCells X t n K J c e x z (record { cur = passing n g.cur; end = g.end; count = num + 1; close = close.At g.cur.pos })
+    module _ (h : test_at t J n (is_kind 3) g.cur.pos ≡ false) where
+      pub cells-shut : test_at t J n (is_kind 21) g.cur.pos ≡ true → RowCells X t n K J c e x z (record { cur = passing n g.cur; end = g.end; count = num + 1; close = close.At g.cur.pos })
       cells-shut k =
-          let b : g.cur.pos < n = test_below t J n (isKind 21) g.cur.pos k in
+          let b : g.cur.pos < n = test_below t J n (is_kind 21) g.cur.pos k in
           rw (passing-in n g.cur b) (
             filled b,
             omega arith,
@@ -182,7 +182,7 @@ module _ {X t : List ℕ} {n : ℕ} {K : List ℕ} (c : Cursor) (e : ℕ) (x : L
                   cells = a.acc ⧺ (node Head.cell q.l ▸ end);
                   right = v.0.entry;
                   state = tick q.u;
-                  runs = a.whole ∙ ap (withCells a.acc) (turn-shut I (readers c.depth I) a.left q.l a.state q.u q.run v.1 (kind-is token.Sep false v.0.row b h) (kind-is token.CloseBracket true v.0.row b k));
+                  runs = a.whole ∙ ap (with_cells a.acc) (turn-shut I (readers c.depth I) a.left q.l a.state q.u q.run v.1 (kind-is token.Sep false v.0.row b h) (kind-is token.CloseBracket true v.0.row b k));
                   at = at_tick q.at;
                   there = v.0.there;
                   number = q.number;
@@ -191,7 +191,7 @@ module _ {X t : List ℕ} {n : ℕ} {K : List ℕ} (c : Cursor) (e : ℕ) (x : L
                 },
           )
 
-      pub cells-broken : testAt t J n (isKind 21) g.cur.pos ≡ false → RowCells X t n K J c e x z (record { cur = passing n g.cur; end = g.end; count = num + 1; close = close.Broken })
+      pub cells-broken : test_at t J n (is_kind 21) g.cur.pos ≡ false → RowCells X t n K J c e x z (record { cur = passing n g.cur; end = g.end; count = num + 1; close = close.Broken })
       cells-broken k = (
         record { within = passing-within n g.cur p.moves.within; depth = passing-depth n g.cur ∙ p.moves.depth ∙ i.moves.depth; long = long-z; kept = kept_trans i.moves.kept p.moves.kept; known = p.moves.known },
         λ I s at.
@@ -201,13 +201,13 @@ module _ {X t : List ℕ} {n : ℕ} {K : List ℕ} (c : Cursor) (e : ℕ) (x : L
             go I s a q wr (ltb g.cur.pos n) refl,
       )
         where
-          go : (I : Input) (s : State) (a : Along X t n L c.depth I s e x y cur stp num) (q : Turn I s a) → Wrote x e z e [] → (b : Bool) → ltb g.cur.pos n ≡ b → Fails X t n J (cellsAt c.depth I) I s e x z (passing n g.cur)
+          go : (I : Input) (s : State) (a : Along X t n L c.depth I s e x y cur stp num) (q : Turn I s a) → Wrote x e z e [] → (b : Bool) → ltb g.cur.pos n ≡ b → Fails X t n J (cells_at c.depth I) I s e x z (passing n g.cur)
           go I s a q wr true eq =
               let b : g.cur.pos < n = ltb-true g.cur.pos n eq in
               let v = took-any q.at.given q.at.pos b in
               rw (passing-in n g.cur b) (record {
                 state = tick q.u;
-                runs = a.whole ∙ ap (withCells a.acc) (turn-other I (readers c.depth I) a.left q.l a.state q.u q.run v.1 (kind-is token.Sep false v.0.row b h) (kind-is token.CloseBracket false v.0.row b k));
+                runs = a.whole ∙ ap (with_cells a.acc) (turn-other I (readers c.depth I) a.left q.l a.state q.u q.run v.1 (kind-is token.Sep false v.0.row b h) (kind-is token.CloseBracket false v.0.row b k));
                 at = at_tick q.at;
                 tree = wr;
               })
@@ -215,17 +215,17 @@ module _ {X t : List ℕ} {n : ℕ} {K : List ℕ} (c : Cursor) (e : ℕ) (x : L
               let b : n ≤ g.cur.pos = ltb-false g.cur.pos n eq in
               rw (passing-out n g.cur b) (record {
                 state = q.u;
-                runs = a.whole ∙ ap (withCells a.acc) (turn_end I (readers c.depth I) a.left q.l a.state q.u q.run (end-any q.at.given q.at.pos b));
+                runs = a.whole ∙ ap (with_cells a.acc) (turn_end I (readers c.depth I) a.left q.l a.state q.u q.run (end-any q.at.given q.at.pos b));
                 at = q.at;
                 tree = wr;
               })
 
 -- a row: its bracket and its cells
 module _ (X t : List ℕ) (n : ℕ) (K : List ℕ) (c : Cursor) (e : ℕ) (x : List ℕ) where
-  pub row-met : (L y : List ℕ) (k : ℕ) (d : Cursor) (E : ℕ) (f : Close) → testAt t K n (isKind 20) c.pos ≡ true → RowCells X t n K L (onward c) e x y (record { cur = d; end = E; count = k; close = f })
+  pub row-met : (L y : List ℕ) (k : ℕ) (d : Cursor) (E : ℕ) (f : Close) → test_at t K n (is_kind 20) c.pos ≡ true → RowCells X t n K L (onward c) e x y (record { cur = d; end = E; count = k; close = f })
       → MatrixRow X t n K L c e x y (record { cur = d; end = E; count = k; close = f })
   row-met L y k d E (close.At q) h p =
-      let b : c.pos < n = test_below t K n (isKind 20) c.pos h in (
+      let b : c.pos < n = test_below t K n (is_kind 20) c.pos h in (
         record { within = p.0.within; on = omega (arith, p.0.on); depth = p.0.depth; room = omega (arith, p.0.room); long = p.0.long; kept = p.0.kept; known = p.0.known },
         p.1,
         b,
@@ -237,7 +237,7 @@ module _ (X t : List ℕ) (n : ℕ) (K : List ℕ) (c : Cursor) (e : ℕ) (x : L
               row = record { left = v.0.entry; right = w.right; cells = w.cells };
               state = shut s.pos w.state;
               runs = row-taken I (readers c.depth I) s (tick s) v.0.entry (some (w.cells, w.right)) w.state v.1 (kind-is token.OpenBracket true v.0.row b h) w.runs ∙ ret-closed _ _ _;
-              at = at-shut s.pos w.at;
+              at = at_shut s.pos w.at;
               left = v.0.there;
               right = w.there;
               number = w.number;
@@ -246,7 +246,7 @@ module _ (X t : List ℕ) (n : ℕ) (K : List ℕ) (c : Cursor) (e : ℕ) (x : L
             },
       )
   row-met L y k d E close.Broken h p =
-      let b : c.pos < n = test_below t K n (isKind 20) c.pos h in (
+      let b : c.pos < n = test_below t K n (is_kind 20) c.pos h in (
         record { within = p.0.within; depth = p.0.depth; long = p.0.long; kept = p.0.kept; known = p.0.known },
         λ I s at.
             let v = took-any at.given at.pos b in
@@ -259,8 +259,8 @@ module _ (X t : List ℕ) (n : ℕ) (K : List ℕ) (c : Cursor) (e : ℕ) (x : L
             },
       )
 
-  pub row-none : testAt t K n (isKind 20) c.pos ≡ false → c.pos ≤ n → Known X t n K → MatrixRow X t n K K c e x x (record { cur = passing n c; end = e; count = 0; close = close.Broken })
-  unfolding nextMatrixRow
+  pub row-none : test_at t K n (is_kind 20) c.pos ≡ false → c.pos ≤ n → Known X t n K → MatrixRow X t n K K c e x x (record { cur = passing n c; end = e; count = 0; close = close.Broken })
+  unfolding next_matrix_row
   row-none h k kn = (
     record { within = passing-within n c k; depth = passing-depth n c; long = refl; kept = kept_refl K; known = kn },
     λ I s at. go I s at (ltb c.pos n) refl,
@@ -270,7 +270,7 @@ module _ (X t : List ℕ) (n : ℕ) (K : List ℕ) (c : Cursor) (e : ℕ) (x : L
       go I s at true eq =
           let b : c.pos < n = ltb-true c.pos n eq in
           let v = took-any at.given at.pos b in
-          rw (passing-in n c b) (record { state = tick s; runs = bind _ _ s (at_here s) ∙ bind _ _ s v.1 ∙ if-false _ _ _ (kind-is token.OpenBracket false v.0.row b h) ∙ ret _ _; at = at_tick at; tree = wrote_none x e })
+          rw (passing-in n c b) (record { state = tick s; runs = bind _ _ s (at_here s) ∙ bind _ _ s v.1 ∙ if_false _ _ _ (kind-is token.OpenBracket false v.0.row b h) ∙ ret _ _; at = at_tick at; tree = wrote_none x e })
       go I s at false eq =
           let b : n ≤ c.pos = ltb-false c.pos n eq in
           rw (passing-out n c b) (record { state = s; runs = bind _ _ s (at_here s) ∙ bind _ _ s (end-any at.given at.pos b) ∙ ret _ _; at = at; tree = wrote_none x e })

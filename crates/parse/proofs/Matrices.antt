@@ -9,21 +9,21 @@ use lib.ListN.{length, length-append, get_or, get_elem?, take}
 use lib.Dec.{ltb}
 use lib.Seq.{sets, length-sets, take-take, take_at, length-take-le, get_or-take, get_or-append-add}
 use Rattle.tree.specs.Tree.{Head, Node, node, Nodes, end, ◌▸◌, ◌⧺◌, count}
-use Rattle.tree.specs.Words.{encode, encodes, encodeItems}
+use Rattle.tree.specs.Words.{encode, encodes, encode_items}
 use Rattle.reading.specs.Entries.{Entry}
-use Rattle.reading.specs.Reading.{State, M, matrixMark, made, lost, makesMatrix, tryMatrix, endsOperand, look, Rows, joinRows, matrixBody, splitColumnLines}
+use Rattle.reading.specs.Reading.{State, M, matrix_mark, made, lost, makes_matrix, try_matrix, ends_operand, look, Rows, join_rows, matrix_body, split_column_lines}
 use Rattle.parse.specs.declared.cursor.Cursor.{Cursor}
 use Rattle.parse.specs.declared.cursor.Step.TheVariants.{Found, Nothing}
 use Rattle.parse.specs.Buffer.{Wrote}
-use Rattle.records.specs.Record.{marksOf, Whole, Kept}
-use Rattle.brackets.specs.Brackets.{couldBeMatrixAt, makes_at}
-use Rattle.marks.specs.Marks.{isMarked}
-use Rattle.nodes.specs.Nodes.{matrixWords}
+use Rattle.records.specs.Record.{marks_of, Whole, Kept}
+use Rattle.brackets.specs.Brackets.{could_be_matrix_at, makes_at}
+use Rattle.marks.specs.Marks.{is_marked}
+use Rattle.nodes.specs.Nodes.{matrix_words}
 use Rattle.parse.specs.Meet.{Moves, Misses, Each, TryMatrix, onward, rewound}
 use Rattle.parse.proofs.Buffer.{fill, back, wrote_none}
 use Rattle.parse.specs.declared.cursor.Cells.{Cells}
 use Rattle.columns.specs.declared.Split.{Split}
-use Rattle.columns.specs.Columns.{cellsEnd}
+use Rattle.columns.specs.Columns.{cells_end}
 use Rattle.columns.specs.Rows as columns
 use Rattle.parse.specs.Columns.{SplitReady, MatrixAt, Splits}
 use Rattle.parse.specs.Matrix.{Broke, Filled, Fails, HasMatrix}
@@ -31,9 +31,9 @@ use Rattle.parse.proofs.Cells.{cell-words}
 use Rattle.parse.proofs.Scripting.{count-append}
 use Rattle.reading_words.specs.Meet.{Input, Row, At, Known, readers, rows_at}
 use Rattle.stores.proofs.Stores.{kept_refl, kept_trans, marks-kept}
-use Rattle.reading_words.proofs.Kit.{shut, ret-closed, at-shut, bind, ret, at_here, if-true, if-false, tick, at_tick, row_of}
-use Rattle.reading_words.proofs.Attempts.{mark-is, at-lost, known-lost, attempt-known, attempt-made, attempt-lost, marked}
-use Rattle.reading_words.proofs.Matrices.{gate-is, makes-below, makes-is}
+use Rattle.reading_words.proofs.Kit.{shut, ret-closed, at_shut, bind, ret, at_here, if_true, if_false, tick, at_tick, row_of}
+use Rattle.reading_words.proofs.Attempts.{mark-is, at_lost, known-lost, attempt-known, attempt-made, attempt-lost, marked}
+use Rattle.reading_words.proofs.Matrices.{gate_is, makes_below, makes_is}
 use Rattle.reading_words.proofs.Steps.{took-any}
 
 -- the words of the cells chain by their headers
@@ -59,19 +59,19 @@ encodes-end : encodes end ≡ []
 unfolding encodes
 encodes-end = refl
 
-abbrev cellWords : Nodes → List ℕ
-cellWords l = 17 ∷ 0 ∷ 0 ∷ count l ∷ length (encodeItems l) ∷ 0 ∷ encodeItems l
+abbrev cell_words : Nodes → List ℕ
+cell_words l = 17 ∷ 0 ∷ 0 ∷ count l ∷ length (encode_items l) ∷ 0 ∷ encode_items l
 
-pub chain-of : {x₀ x : List ℕ} {e E k : ℕ} {l : Nodes} → columns.Cells k l → Wrote x₀ e x E (encodes l) → E ≤ length x → cellsEnd x e k ≡ E
-unfolding cellsEnd
+pub chain-of : {x₀ x : List ℕ} {e E k : ℕ} {l : Nodes} → columns.Cells k l → Wrote x₀ e x E (encodes l) → E ≤ length x → cells_end x e k ≡ E
+unfolding cells_end
 chain-of {e = e} columns.Cells.none p h = omega (arith, p.upto, ap length encodes-end)
 chain-of {x₀} {x} {e} {E} (columns.Cells.cell {l = l} {m = m} {n = n} c) p h =
-    let cw : encodes (node Head.cell l ▸ m) ≡ cellWords l ++ encodes m = encodes_more (node Head.cell l) m ∙ ap (λ (v : List ℕ). v ++ encodes m) (cell-words l refl refl) in
-    let p2 : Wrote x₀ e x E (cellWords l ++ encodes m) = subst (λ (v : List ℕ). Wrote x₀ e x E v) cw p in
-    let w4 : get_or x (e + 4) 0 ≡ length (encodeItems l) = word_at 4 p2 h (omega (arith, length-append (cellWords l) (encodes m))) in
-    let q : Wrote x (e + length (cellWords l)) x E (encodes m) = after (cellWords l) p2 h in
-    let z : e + length (cellWords l) ≡ e + (6 + get_or x (e + 4) 0) = omega (arith, w4) in
-    ap (λ (k : ℕ). cellsEnd x k n) (sym z) ∙ chain-of c q h
+    let cw : encodes (node Head.cell l ▸ m) ≡ cell_words l ++ encodes m = encodes_more (node Head.cell l) m ∙ ap (λ (v : List ℕ). v ++ encodes m) (cell-words l refl refl) in
+    let p2 : Wrote x₀ e x E (cell_words l ++ encodes m) = subst (λ (v : List ℕ). Wrote x₀ e x E v) cw p in
+    let w4 : get_or x (e + 4) 0 ≡ length (encode_items l) = word_at 4 p2 h (omega (arith, length-append (cell_words l) (encodes m))) in
+    let q : Wrote x (e + length (cell_words l)) x E (encodes m) = after (cell_words l) p2 h in
+    let z : e + length (cell_words l) ≡ e + (6 + get_or x (e + 4) 0) = omega (arith, w4) in
+    ap (λ (k : ℕ). cells_end x k n) (sym z) ∙ chain-of c q h
 
 cells-append : {j k : ℕ} {l m : Nodes} → columns.Cells j l → columns.Cells k m → columns.Cells (j + k) (l ⧺ m)
 cells-append {k = k} {m = m} columns.Cells.none d = let z : k ≡ 0 + k = omega arith in subst (λ (i : ℕ). columns.Cells i m) z d
@@ -83,69 +83,69 @@ cells_count : {k : ℕ} {l : Nodes} → columns.Cells k l → count l ≡ k
 cells_count columns.Cells.none = refl
 cells_count (columns.Cells.cell c) = ap suc (cells_count c)
 
-grid-cells : {cols : ℕ} {rs : List Nodes} → columns.Grid cols rs → columns.Cells (count (columns.joined rs)) (columns.joined rs)
-unfolding joinRows
-grid-cells columns.Grid.none = columns.Cells.none
-grid-cells {cols} (columns.Grid.row {r = r} {rs = rs} c g) =
+grid_cells : {cols : ℕ} {rs : List Nodes} → columns.Grid cols rs → columns.Cells (count (columns.joined rs)) (columns.joined rs)
+unfolding join_rows
+grid_cells columns.Grid.none = columns.Cells.none
+grid_cells {cols} (columns.Grid.row {r = r} {rs = rs} c g) =
     let z : cols + count (columns.joined rs) ≡ count (r ⧺ columns.joined rs) = omega (arith, cells_count c, count-append r (columns.joined rs)) in
-    subst (λ (i : ℕ). columns.Cells i (r ⧺ columns.joined rs)) z (cells-append c (grid-cells g))
+    subst (λ (i : ℕ). columns.Cells i (r ⧺ columns.joined rs)) z (cells-append c (grid_cells g))
 
 pub split-ready : {X t : List ℕ} {n : ℕ} {L x y : List ℕ} {m : M (Option Rows)} {I : Input} {s : State} {e cols l k E : ℕ} {d : Cursor} → HasMatrix X t n L m I s e x y cols l k d E → 1 ≤ cols → cols ≤ k → k ≤ 4096 → E + k ≤ length y
     → SplitReady y e E k cols
 split-ready {y = y} {e = e} {k = k} {E = E} w h1 h2 h3 h4 = record {
-  chain = ap (λ (j : ℕ). cellsEnd y e j) w.number ∙ chain-of (grid-cells w.all) w.tree (omega arith);
+  chain = ap (λ (j : ℕ). cells_end y e j) w.number ∙ chain-of (grid_cells w.all) w.tree (omega arith);
   some = omega arith;
   few = omega arith;
   room = omega arith;
 }
 
 matrix-encoded : {t K : List ℕ} {i j k : ℕ} {a b : Entry} (cols v : ℕ) (lines : List ℕ) (cells : Nodes) → Row t K i a → Row t K j b → count cells ≡ k → length lines ≡ v
-    → encode (node (Head.matrix a.span b.span cols lines) cells) ≡ matrixWords t K i j k cols v ++ (encodes cells ++ lines)
+    → encode (node (Head.matrix a.span b.span cols lines) cells) ≡ matrix_words t K i j k cols v ++ (encodes cells ++ lines)
 unfolding encode
 matrix-encoded cols v lines cells r r2 hk hv = rw (← hk, ← hv, r.start, r.len, r2.start, r2.len)
 
 -- the attempt
 module _ {X t : List ℕ} {n : ℕ} {K : List ℕ} (i : ℕ) (c : Cursor) (e : ℕ) (x : List ℕ) (inside : i < n) (here-n : c.pos ≤ n) where
-  pub try-shut : couldBeMatrixAt X t K n i ≡ false → Known X t n K → TryMatrix X t n K K i c e x x (Nothing c)
-  unfolding tryMatrix
-  try-shut h kn = (
+  pub try_shut : could_be_matrix_at X t K n i ≡ false → Known X t n K → TryMatrix X t n K K i c e x x (Nothing c)
+  unfolding try_matrix
+  try_shut h kn = (
     record { within = here-n; on = omega arith; depth = refl; room = omega arith; long = refl; kept = kept_refl K; known = kn },
-    λ I s at en there. record { state = s; runs = if-false _ _ s (gate-is at.given inside there ∙ h) ∙ ret _ _; at = at; tree = wrote_none x e },
+    λ I s at en there. record { state = s; runs = if_false _ _ s (gate_is at.given inside there ∙ h) ∙ ret _ _; at = at; tree = wrote_none x e },
   )
 
-  module _ (gate : couldBeMatrixAt X t K n i ≡ true) where
-    pub try-known : isMarked (marksOf K i) 4 ≡ true → Known X t n K → TryMatrix X t n K K i c e x x (Nothing c)
-    unfolding tryMatrix
-    try-known h kn = (
+  module _ (gate : could_be_matrix_at X t K n i ≡ true) where
+    pub try_known : is_marked (marks_of K i) 4 ≡ true → Known X t n K → TryMatrix X t n K K i c e x x (Nothing c)
+    unfolding try_matrix
+    try_known h kn = (
       record { within = here-n; on = omega arith; depth = refl; room = omega arith; long = refl; kept = kept_refl K; known = kn },
       λ I s at en there. record {
         state = s;
-        runs = if-true _ _ s (gate-is at.given inside there ∙ gate) ∙ attempt-known I.text I.es matrixMark i _ s (sym (mark-is matrixMark i at.marks inside) ∙ h);
+        runs = if_true _ _ s (gate_is at.given inside there ∙ gate) ∙ attempt-known I.text I.es matrix_mark i _ s (sym (mark-is matrix_mark i at.marks inside) ∙ h);
         at = at;
         tree = wrote_none x e;
       },
     )
 
-    module _ (new : isMarked (marksOf K i) 4 ≡ false) (L y : List ℕ) (room : e + 20 + 32 * (n - c.pos) ≤ length x) where
-      lost-numbers : {N z : List ℕ} (d : Cursor) → d.depth ≡ c.depth → length z ≡ length x → Kept K L → Known X t n L → Whole L i → N ≡ marked L matrixMark i
+    module _ (new : is_marked (marks_of K i) 4 ≡ false) (L y : List ℕ) (room : e + 20 + 32 * (n - c.pos) ≤ length x) where
+      lost-numbers : {N z : List ℕ} (d : Cursor) → d.depth ≡ c.depth → length z ≡ length x → Kept K L → Known X t n L → Whole L i → N ≡ marked L matrix_mark i
           → Moves X t 0 0 0 n K N c e x z (rewound c.pos d) e
-      lost-numbers d hd long kp kn fit hn = record { within = here-n; on = omega arith; depth = hd; room = omega arith; long = long; kept = kept_trans kp (rw hn (marks-kept L i _)); known = known-lost matrixMark i kn inside fit hn }
+      lost-numbers d hd long kp kn fit hn = record { within = here-n; on = omega arith; depth = hd; room = omega arith; long = long; kept = kept_trans kp (rw hn (marks-kept L i _)); known = known-lost matrix_mark i kn inside fit hn }
 
-      lost-runs : {N z : List ℕ} {I : Input} {s u : State} {en : Entry} (d : Cursor) → At X t n K c.pos c.takes I s → get_elem? I.es i ≡ some en → matrixBody I.text I.es true (readers c.depth I) en i s ≡ (lost, u)
-          → At X t n L d.pos d.takes I u → Whole L i → N ≡ marked L matrixMark i → Wrote x e z e []
-          → Misses X t n N (tryMatrix I.text I.es true (readers c.depth I) en i) I s e x z (rewound c.pos d)
-      unfolding tryMatrix
+      lost-runs : {N z : List ℕ} {I : Input} {s u : State} {en : Entry} (d : Cursor) → At X t n K c.pos c.takes I s → get_elem? I.es i ≡ some en → matrix_body I.text I.es true (readers c.depth I) en i s ≡ (lost, u)
+          → At X t n L d.pos d.takes I u → Whole L i → N ≡ marked L matrix_mark i → Wrote x e z e []
+          → Misses X t n N (try_matrix I.text I.es true (readers c.depth I) en i) I s e x z (rewound c.pos d)
+      unfolding try_matrix
       lost-runs {I = I} {s = s} d at there run at2 fit hn wr = record {
         state = _;
-        runs = if-true _ _ s (gate-is at.given inside there ∙ gate) ∙ attempt-lost I.text I.es matrixMark i _ s (sym (mark-is matrixMark i at.marks inside) ∙ new) run;
-        at = at-lost matrixMark i at2 at inside fit hn;
+        runs = if_true _ _ s (gate_is at.given inside there ∙ gate) ∙ attempt-lost I.text I.es matrix_mark i _ s (sym (mark-is matrix_mark i at.marks inside) ∙ new) run;
+        at = at_lost matrix_mark i at2 at inside fit hn;
         tree = wr;
       }
 
-      pub try-broken : {N : List ℕ} {d : Cursor} → Broke X t n K L c (e + 8) x y d → Each X t n K c (λ I s. Fails X t n L (rows_at c.depth I) I s (e + 8) x y d)
-          → Whole L i → N ≡ marked L matrixMark i → TryMatrix X t n K N i c e x y (Nothing (rewound c.pos d))
-      unfolding matrixBody
-      try-broken {d = d} b p fit hn = (
+      pub try_broken : {N : List ℕ} {d : Cursor} → Broke X t n K L c (e + 8) x y d → Each X t n K c (λ I s. Fails X t n L (rows_at c.depth I) I s (e + 8) x y d)
+          → Whole L i → N ≡ marked L matrix_mark i → TryMatrix X t n K N i c e x y (Nothing (rewound c.pos d))
+      unfolding matrix_body
+      try_broken {d = d} b p fit hn = (
         lost-numbers d b.depth b.long b.kept b.known fit hn,
         λ I s at en there.
             let q = p I s at in
@@ -156,42 +156,42 @@ module _ {X t : List ℕ} {n : ℕ} {K : List ℕ} (i : ℕ) (c : Cursor) (e : �
           (sl : Splits X y (e + 8) E k cols z sp) (lz : length z ≡ length y) where
         record Split-at (I : Input) (s : State) : Type 0 where
           pub has : HasMatrix X t n L (rows_at c.depth I) I s (e + 8) x y cols l k d E
-          pub mat : MatrixAt (splitColumnLines I.text I.es has.rows) x (e + 8) z sp
+          pub mat : MatrixAt (split_column_lines I.text I.es has.rows) x (e + 8) z sp
 
         split_at : (I : Input) (s : State) → At X t n K c.pos c.takes I s → Split-at I s
         split_at I s at =
             let q = p I s at in
-            record { has = q; mat = subst (λ (w : List ℕ). MatrixAt (splitColumnLines w I.es q.rows) x (e + 8) z sp) (sym at.given.text) (sl.gives I.es q.rows x q.all q.tree) }
+            record { has = q; mat = subst (λ (w : List ℕ). MatrixAt (split_column_lines w I.es q.rows) x (e + 8) z sp) (sym at.given.text) (sl.gives I.es q.rows x q.all q.tree) }
 
-        pub try-unmade : {N : List ℕ} → makes_at X t L n i l sp.cells d.pos ≡ false → Whole L i → N ≡ marked L matrixMark i → TryMatrix X t n K N i c e x z (Nothing (rewound c.pos d))
-        unfolding matrixBody
-        try-unmade h fit hn = (
+        pub try_unmade : {N : List ℕ} → makes_at X t L n i l sp.cells d.pos ≡ false → Whole L i → N ≡ marked L matrix_mark i → TryMatrix X t n K N i c e x z (Nothing (rewound c.pos d))
+        unfolding matrix_body
+        try_unmade h fit hn = (
           lost-numbers d f.depth (lz ∙ f.long) f.kept f.known fit hn,
           λ I s at en there.
               let w = split_at I s at in
               let q = w.has in
-              let m : makesMatrix I.text I.es en i q.rows q.state.pos ≡ false = ap (makesMatrix I.text I.es en i q.rows) (sym q.at.pos) ∙ makes-is q.at.given inside there sp.cells q.rows d.pos hl q.left (ap (ltb 1) w.mat.size) ∙ h in
-              lost-runs d at there (bind _ _ s q.runs ∙ bind _ _ _ (at_here q.state) ∙ if-false _ _ _ m ∙ ret _ _) q.at fit hn (back e w.mat.wrote (omega arith) (omega (arith, f.room, sl.within))),
+              let m : makes_matrix I.text I.es en i q.rows q.state.pos ≡ false = ap (makes_matrix I.text I.es en i q.rows) (sym q.at.pos) ∙ makes_is q.at.given inside there sp.cells q.rows d.pos hl q.left (ap (ltb 1) w.mat.size) ∙ h in
+              lost-runs d at there (bind _ _ s q.runs ∙ bind _ _ _ (at_here q.state) ∙ if_false _ _ _ m ∙ ret _ _) q.at fit hn (back e w.mat.wrote (omega arith) (omega (arith, f.room, sl.within))),
         )
 
-        pub try-made : {w : List ℕ} → makes_at X t L n i l sp.cells d.pos ≡ true → w ≡ sets z e (matrixWords t L i d.pos sp.cells sp.cols sp.lines) → TryMatrix X t n K L i c e x w (Found (onward d) sp.end true)
-        unfolding tryMatrix matrixBody endsOperand look
-        try-made {w} h hw =
-            let b : d.pos < n = makes-below X t L n i l sp.cells d.pos h in (
-              record { within = omega arith; on = omega (arith, f.on); depth = f.depth; room = omega (arith, f.room, sl.within); long = ap length hw ∙ length-sets z e (matrixWords t L i d.pos sp.cells sp.cols sp.lines) ∙ lz ∙ f.long; kept = f.kept; known = f.known },
+        pub try_made : {w : List ℕ} → makes_at X t L n i l sp.cells d.pos ≡ true → w ≡ sets z e (matrix_words t L i d.pos sp.cells sp.cols sp.lines) → TryMatrix X t n K L i c e x w (Found (onward d) sp.end true)
+        unfolding try_matrix matrix_body ends_operand look
+        try_made {w} h hw =
+            let b : d.pos < n = makes_below X t L n i l sp.cells d.pos h in (
+              record { within = omega arith; on = omega (arith, f.on); depth = f.depth; room = omega (arith, f.room, sl.within); long = ap length hw ∙ length-sets z e (matrix_words t L i d.pos sp.cells sp.cols sp.lines) ∙ lz ∙ f.long; kept = f.kept; known = f.known },
               λ I s at en there.
                   let v = split_at I s at in
                   let q = v.has in
                   let u = took-any q.at.given q.at.pos b in
-                  let m : makesMatrix I.text I.es en i q.rows q.state.pos ≡ true = ap (makesMatrix I.text I.es en i q.rows) (sym q.at.pos) ∙ makes-is q.at.given inside there sp.cells q.rows d.pos hl q.left (ap (ltb 1) v.mat.size) ∙ h in
-                  let mn : (splitColumnLines I.text I.es q.rows).0 en.span u.0.entry.span ≡ node (Head.matrix en.span u.0.entry.span sp.cols v.mat.lines) v.mat.cells = v.mat.made en.span u.0.entry.span in
+                  let m : makes_matrix I.text I.es en i q.rows q.state.pos ≡ true = ap (makes_matrix I.text I.es en i q.rows) (sym q.at.pos) ∙ makes_is q.at.given inside there sp.cells q.rows d.pos hl q.left (ap (ltb 1) v.mat.size) ∙ h in
+                  let mn : (split_column_lines I.text I.es q.rows).0 en.span u.0.entry.span ≡ node (Head.matrix en.span u.0.entry.span sp.cols v.mat.lines) v.mat.cells = v.mat.made en.span u.0.entry.span in
                   record {
                     node = node (Head.matrix en.span u.0.entry.span sp.cols v.mat.lines) v.mat.cells;
                     state = shut i (tick q.state);
-                    runs = if-true _ _ s (gate-is at.given inside there ∙ gate) ∙ attempt-made I.text I.es matrixMark i _ s (sym (mark-is matrixMark i at.marks inside) ∙ new) _
-                        (bind _ _ s q.runs ∙ bind _ _ _ (at_here q.state) ∙ if-true _ _ _ m ∙ bind _ _ _ u.1 ∙ ret-closed _ _ _ ∙ ap (λ (x : Node). (made x, shut i (tick q.state))) mn);
-                    at = at-shut i (at_tick q.at);
-                    tree = rw (hw, matrix-encoded sp.cols sp.lines v.mat.lines v.mat.cells (row_of q.at.given inside there) u.0.row v.mat.kept v.mat.bars) (fill e (matrixWords t L i d.pos sp.cells sp.cols sp.lines) v.mat.wrote refl (omega (arith, f.room, sl.within)));
+                    runs = if_true _ _ s (gate_is at.given inside there ∙ gate) ∙ attempt-made I.text I.es matrix_mark i _ s (sym (mark-is matrix_mark i at.marks inside) ∙ new) _
+                        (bind _ _ s q.runs ∙ bind _ _ _ (at_here q.state) ∙ if_true _ _ _ m ∙ bind _ _ _ u.1 ∙ ret-closed _ _ _ ∙ ap (λ (x : Node). (made x, shut i (tick q.state))) mn);
+                    at = at_shut i (at_tick q.at);
+                    tree = rw (hw, matrix-encoded sp.cols sp.lines v.mat.lines v.mat.cells (row_of q.at.given inside there) u.0.row v.mat.kept v.mat.bars) (fill e (matrix_words t L i d.pos sp.cells sp.cols sp.lines) v.mat.wrote refl (omega (arith, f.room, sl.within)));
                     besides = refl;
                   },
             )

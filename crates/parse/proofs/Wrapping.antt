@@ -7,16 +7,16 @@ use native.Mathlib.Omega.{arith}
 use lib.ListN.{length, length-append, set, take, drop, replicate}
 use lib.Seq.{sets, length-sets, paste, take-paste, take-append-le, take_at, length-take-le}
 use Rattle.tree.specs.Tree.{Nodes, end, count}
-use Rattle.tree.specs.Words.{encodeItems}
+use Rattle.tree.specs.Words.{encode_items}
 use Rattle.reading.specs.Reading.{State}
 use Rattle.parse.specs.Buffer.{Wrote}
-use Rattle.records.specs.Record.{afterClose, sepOf, start_of, len_of}
+use Rattle.records.specs.Record.{after_close, sep_of, start_of, len_of}
 use Rattle.parse.proofs.Buffer.{fill}
 use Rattle.buffer.specs.Buffer.{shifted}
 use Rattle.buffer.proofs.Stores.{shifted_in}
 use native.Mathlib.Nat.{mod-eq_of_lt}
 use Rattle.parse.specs.declared.top.Wrapped.{Wrapped}
-use Rattle.parse.specs.Top.{Wrap, Chained, wrapWords, wrapsWords, readFrom, Noted, Topped, Reads}
+use Rattle.parse.specs.Top.{Wrap, Chained, wrap_words, wraps_words, read_from, Noted, Topped, Reads}
 use Rattle.reading_words.specs.Meet.{Input, Given, Marks}
 
 -- The items, moved on to leave room for the headers.
@@ -31,22 +31,22 @@ moved_on x stp by hy h =
     })
 
 -- The headers, one after the other.
-sets-append : (x : List ℕ) (i : ℕ) (u v : List ℕ) → sets x i (u ++ v) ≡ sets (sets x i u) (i + length u) v
-sets-append x i [] v = let z : i + 0 ≡ i = omega arith in rw z
-sets-append x i (a ∷ u) v = let z : i + suc (length u) ≡ suc i + length u = omega arith in rw z (sets-append (set x i a) (suc i) u v)
+sets_append : (x : List ℕ) (i : ℕ) (u v : List ℕ) → sets x i (u ++ v) ≡ sets (sets x i u) (i + length u) v
+sets_append x i [] v = let z : i + 0 ≡ i = omega arith in rw z
+sets_append x i (a ∷ u) v = let z : i + suc (length u) ≡ suc i + length u = omega arith in rw z (sets_append (set x i a) (suc i) u v)
 
-wraps-append : (t K : List ℕ) (u v : List Wrap) → wrapsWords t K (u ++ v) ≡ wrapsWords t K u ++ wrapsWords t K v
-unfolding wrapsWords
-wraps-append t K [] v = refl
-wraps-append t K (w ∷ u) v = ap (λ (r : List ℕ). wrapWords w.items (start_of t K w.closer) (len_of t K w.closer) ++ r) (wraps-append t K u v)
+wraps_append : (t K : List ℕ) (u v : List Wrap) → wraps_words t K (u ++ v) ≡ wraps_words t K u ++ wraps_words t K v
+unfolding wraps_words
+wraps_append t K [] v = refl
+wraps_append t K (w ∷ u) v = ap (λ (r : List ℕ). wrap_words w.items (start_of t K w.closer) (len_of t K w.closer) ++ r) (wraps_append t K u v)
 
-wraps-length : (t K : List ℕ) (ws : List Wrap) → length (wrapsWords t K ws) ≡ 13 * length ws
-unfolding wrapsWords
-wraps-length t K [] = refl
-wraps-length t K (w ∷ ws) = omega (arith, wraps-length t K ws)
+wraps_length : (t K : List ℕ) (ws : List Wrap) → length (wraps_words t K ws) ≡ 13 * length ws
+unfolding wraps_words
+wraps_length t K [] = refl
+wraps_length t K (w ∷ ws) = omega (arith, wraps_length t K ws)
 
-one-wrap : (t K : List ℕ) (w : Wrap) → wrapsWords t K (w ∷ []) ≡ wrapWords w.items (start_of t K w.closer) (len_of t K w.closer)
-unfolding wrapsWords
+one-wrap : (t K : List ℕ) (w : Wrap) → wraps_words t K (w ∷ []) ≡ wrap_words w.items (start_of t K w.closer) (len_of t K w.closer)
+unfolding wraps_words
 one-wrap t K w = refl
 
 pub record Stage (t K : List ℕ) (n : ℕ) (ws : List Wrap) (x y : List ℕ) (i k : ℕ) : Type 0 where
@@ -57,7 +57,7 @@ pub record Stage (t K : List ℕ) (n : ℕ) (ws : List Wrap) (x y : List ℕ) (i
   pub number : length done ≡ k
   pub chain : Chained K bound i rest
   pub least : bound ≤ n
-  pub tree : y ≡ sets x 0 (wrapsWords t K done)
+  pub tree : y ≡ sets x 0 (wraps_words t K done)
 
 pub record Putting (t K : List ℕ) (n : ℕ) (wraps last : ℕ) (x y : List ℕ) (i at k : ℕ) : Type 0 where
   pub place : at ≡ 13 * k
@@ -66,7 +66,7 @@ pub record Putting (t K : List ℕ) (n : ℕ) (wraps last : ℕ) (x y : List ℕ
   pub along : (p : Noted n t K wraps last) → Stage t K n p.list x y i k
 
 pub putting-none : (t K : List ℕ) (n wraps last : ℕ) (x : List ℕ) → Putting t K n wraps last x x last 0 0
-unfolding wrapsWords
+unfolding wraps_words
 putting-none t K n wraps last x = record {
   place = omega arith;
   within = omega arith;
@@ -77,12 +77,12 @@ putting-none t K n wraps last x = record {
 -- a wrap is left
 pub record Next (t K : List ℕ) (n : ℕ) (ws : List Wrap) (x y : List ℕ) (i k : ℕ) : Type 0 where
   pub small : i < n
-  pub step : Stage t K n ws x (sets y (13 * k) (wrapWords (sepOf K i) (start_of t K i) (len_of t K i))) (afterClose K i) (k + 1)
+  pub step : Stage t K n ws x (sets y (13 * k) (wrap_words (sep_of K i) (start_of t K i) (len_of t K i))) (after_close K i) (k + 1)
 
-next_of : {t K : List ℕ} {n : ℕ} {ws : List Wrap} {x y : List ℕ} {i k : ℕ} (d r : List Wrap) (b : ℕ) → ws ≡ d ++ r → length d ≡ k → Chained K b i r → b ≤ n → y ≡ sets x 0 (wrapsWords t K d) → k < length ws → Next t K n ws x y i k
+next_of : {t K : List ℕ} {n : ℕ} {ws : List Wrap} {x y : List ℕ} {i k : ℕ} (d r : List Wrap) (b : ℕ) → ws ≡ d ++ r → length d ≡ k → Chained K b i r → b ≤ n → y ≡ sets x 0 (wraps_words t K d) → k < length ws → Next t K n ws x y i k
 next_of {ws = ws} {k = k} d [] b j h c l e s = absurd (omega (arith, ap length j, length-append d []))
 next_of {t} {K} {n} {ws} {x} {y} {i} {k} d (w ∷ r) b j h c l e s =
-    let ln : 13 * k ≡ 0 + length (wrapsWords t K d) = omega (arith, wraps-length t K d, h) in
+    let ln : 13 * k ≡ 0 + length (wraps_words t K d) = omega (arith, wraps_length t K d, h) in
     record {
       small = omega (arith, c.1);
       step = record {
@@ -93,64 +93,64 @@ next_of {t} {K} {n} {ws} {x} {y} {i} {k} d (w ∷ r) b j h c l e s =
         number = length-append d (w ∷ []) ∙ omega (arith, h);
         chain = c.3;
         least = omega (arith, c.1);
-        tree = ap (λ (v : List ℕ). sets v (13 * k) (wrapWords (sepOf K i) (start_of t K i) (len_of t K i))) e
-            ∙ ap (λ (p : ℕ). sets (sets x 0 (wrapsWords t K d)) p (wrapWords (sepOf K i) (start_of t K i) (len_of t K i))) ln
-            ∙ sym (sets-append x 0 (wrapsWords t K d) (wrapWords (sepOf K i) (start_of t K i) (len_of t K i)))
-            ∙ ap (λ (v : List ℕ). sets x 0 (wrapsWords t K d ++ v)) (sym (one-wrap t K w ∙ rw (c.0, ← c.2)))
-            ∙ ap (λ (v : List ℕ). sets x 0 v) (sym (wraps-append t K d (w ∷ [])));
+        tree = ap (λ (v : List ℕ). sets v (13 * k) (wrap_words (sep_of K i) (start_of t K i) (len_of t K i))) e
+            ∙ ap (λ (p : ℕ). sets (sets x 0 (wraps_words t K d)) p (wrap_words (sep_of K i) (start_of t K i) (len_of t K i))) ln
+            ∙ sym (sets_append x 0 (wraps_words t K d) (wrap_words (sep_of K i) (start_of t K i) (len_of t K i)))
+            ∙ ap (λ (v : List ℕ). sets x 0 (wraps_words t K d ++ v)) (sym (one-wrap t K w ∙ rw (c.0, ← c.2)))
+            ∙ ap (λ (v : List ℕ). sets x 0 v) (sym (wraps_append t K d (w ∷ [])));
       };
     }
 
 pub next-wrap : {t K : List ℕ} {n wraps last : ℕ} {x y : List ℕ} {i at k : ℕ} → Putting t K n wraps last x y i at k → k < wraps → (p : Noted n t K wraps last) → Next t K n p.list x y i k
 next-wrap v h p = let a = v.along p in next_of a.done a.rest a.bound a.joined a.number a.chain a.least a.tree (omega (arith, p.number))
 
-pub putting-more : {t K : List ℕ} {n wraps last : ℕ} {x y z : List ℕ} {i at k j : ℕ} → Putting t K n wraps last x y i at k → k < wraps → z ≡ sets y at (wrapWords (sepOf K i) (start_of t K i) (len_of t K i)) → j ≡ afterClose K i
+pub putting-more : {t K : List ℕ} {n wraps last : ℕ} {x y z : List ℕ} {i at k j : ℕ} → Putting t K n wraps last x y i at k → k < wraps → z ≡ sets y at (wrap_words (sep_of K i) (start_of t K i) (len_of t K i)) → j ≡ after_close K i
     → Putting t K n wraps last x z j (at + 13) (k + 1)
 putting-more {t} {K} {n} {x = x} {y} {i = i} {at} {k} v h hz hj = rw (hz, hj, v.place) (record {
   place = omega arith;
   within = omega arith;
-  long = length-sets y (13 * k) (wrapWords (sepOf K i) (start_of t K i) (len_of t K i)) ∙ v.long;
+  long = length-sets y (13 * k) (wrap_words (sep_of K i) (start_of t K i) (len_of t K i)) ∙ v.long;
   along = λ p. (next-wrap v h p).step;
 })
 
-pub putting-all : {t K : List ℕ} {n wraps last : ℕ} {x y : List ℕ} {i at k : ℕ} → Putting t K n wraps last x y i at k → wraps ≤ k → (p : Noted n t K wraps last) → y ≡ sets x 0 (wrapsWords t K p.list)
+pub putting-all : {t K : List ℕ} {n wraps last : ℕ} {x y : List ℕ} {i at k : ℕ} → Putting t K n wraps last x y i at k → wraps ≤ k → (p : Noted n t K wraps last) → y ≡ sets x 0 (wraps_words t K p.list)
 putting-all {t} {K} {x = x} {k = k} v h p =
     let a = v.along p in
-    a.tree ∙ ap (λ (w : List Wrap). sets x 0 (wrapsWords t K w)) (sym (a.joined ∙ ends a.done a.rest (omega (arith, ap length a.joined, length-append a.done a.rest, p.number, a.number))))
+    a.tree ∙ ap (λ (w : List Wrap). sets x 0 (wraps_words t K w)) (sym (a.joined ∙ ends a.done a.rest (omega (arith, ap length a.joined, length-append a.done a.rest, p.number, a.number))))
   where
     ends : (d r : List Wrap) → length r ≤ 0 → d ++ r ≡ d
     ends d [] l = append-nil d
     ends d (w ∷ r) l = absurd (omega arith)
 
 -- The headers before the words.
-no-wraps : (t K : List ℕ) (ws : List Wrap) → length ws ≤ 0 → wrapsWords t K ws ≡ []
-unfolding wrapsWords
-no-wraps t K [] h = refl
-no-wraps t K (w ∷ ws) h = absurd (omega arith)
+no_wraps : (t K : List ℕ) (ws : List Wrap) → length ws ≤ 0 → wraps_words t K ws ≡ []
+unfolding wraps_words
+no_wraps t K [] h = refl
+no_wraps t K (w ∷ ws) h = absurd (omega arith)
 
-pub wrapped-none : {n : ℕ} {t K : List ℕ} {wraps last : ℕ} (x : List ℕ) (stp : ℕ) → wraps ≡ 0 → (p : Noted n t K wraps last) → take (stp + 13 * wraps) x ≡ wrapsWords t K p.list ++ take stp x
+pub wrapped-none : {n : ℕ} {t K : List ℕ} {wraps last : ℕ} (x : List ℕ) (stp : ℕ) → wraps ≡ 0 → (p : Noted n t K wraps last) → take (stp + 13 * wraps) x ≡ wraps_words t K p.list ++ take stp x
 wrapped-none {t = t} {K = K} {wraps = wraps} x stp h p =
     let z : stp + 13 * wraps ≡ stp = omega arith in
-    rw (no-wraps t K p.list (omega (arith, p.number)), z)
+    rw (no_wraps t K p.list (omega (arith, p.number)), z)
 
 pub wrapped-all : {n : ℕ} {t K : List ℕ} {wraps last : ℕ} (x : List ℕ) (stp : ℕ) {y z : List ℕ} → Wrote y (13 * wraps) y (13 * wraps + stp) (take stp x) → length y ≡ length x → stp + 13 * wraps ≤ length x
-    → (p : Noted n t K wraps last) → z ≡ sets y 0 (wrapsWords t K p.list) → take (stp + 13 * wraps) z ≡ wrapsWords t K p.list ++ take stp x
+    → (p : Noted n t K wraps last) → z ≡ sets y 0 (wraps_words t K p.list) → take (stp + 13 * wraps) z ≡ wraps_words t K p.list ++ take stp x
 wrapped-all {t = t} {K = K} {wraps = wraps} x stp {y = y} {z = z} w ly h p hz =
     let e : stp + 13 * wraps ≡ 13 * wraps + stp = omega arith in
-    rw (e, hz) (fill 0 (wrapsWords t K p.list) w (omega (arith, wraps-length t K p.list, p.number)) (omega arith)).body
+    rw (e, hz) (fill 0 (wraps_words t K p.list) w (omega (arith, wraps_length t K p.list, p.number)) (omega arith)).body
 
 -- The whole reading.
 pub parsed : {X t : List ℕ} {n : ℕ} {K L y v : List ℕ} {g : Wrapped} {len e : ℕ} (z : List ℕ) → n ≤ 4096 → g.cur.takes < 2 ^ 32 → (p : Topped X t n K L y g) → e ≡ g.end + 13 * g.wraps
-    → take (g.end + 13 * g.wraps) z ≡ wrapsWords t L p.noted.list ++ take g.end y → length y ≡ len → length z ≡ len → v ≡ take e z ++ replicate (length z - e) 0
+    → take (g.end + 13 * g.wraps) z ≡ wraps_words t L p.noted.list ++ take g.end y → length y ≡ len → length z ≡ len → v ≡ take e z ++ replicate (length z - e) 0
     → (I : Input) → Given X t n K I → (m : List Bool) → Marks n K m → Reads I m len v (record { takes = g.cur.takes; end = e; items = g.count })
 parsed {g = g} {len = len} {e = e} z hn ht p he hz hy hlz hv I gv m mk =
     let w = p.means I gv m mk in
-    let tree : Nodes × State = readFrom I m in
-    let all : take e z ≡ encodeItems tree.0 = ap (λ (k : ℕ). take k z) he ∙ hz ∙ sym w.words in
+    let tree : Nodes × State = read_from I m in
+    let all : take e z ≡ encode_items tree.0 = ap (λ (k : ℕ). take k z) he ∙ hz ∙ sym w.words in
     let sz : length (take e z) ≡ e = length-take-le e z (omega (arith, p.fits)) in
     record {
       end = sym sz ∙ ap length all;
-      tree = hv ∙ ap (λ (q : List ℕ). q ++ replicate (length z - e) 0) all ∙ ap (λ (k : ℕ). encodeItems tree.0 ++ replicate (k - e) 0) hlz;
+      tree = hv ∙ ap (λ (q : List ℕ). q ++ replicate (length z - e) 0) all ∙ ap (λ (k : ℕ). encode_items tree.0 ++ replicate (k - e) 0) hlz;
       items = w.number;
       takes = sym (mod-eq_of_lt ht) ∙ w.takes;
     }

@@ -4,15 +4,15 @@ use Rattle.tokens.specs.Lexeme.{Span}
 use Rattle.tree.specs.Tree.{Head, Node, node, Nodes, count}
 use Rattle.tree.specs.Words.{encodes}
 use Rattle.reading.specs.Entries.{Entry}
-use Rattle.reading.specs.Reading.{Rows, splitColumnLines}
+use Rattle.reading.specs.Reading.{Rows, split_column_lines}
 use Rattle.columns.specs.declared.Split.{Split}
-use Rattle.columns.specs.Columns.{cellsEnd}
+use Rattle.columns.specs.Columns.{cells_end}
 use Rattle.columns.specs.Rows.{Grid, joined}
 use Rattle.parse.specs.Buffer.{Wrote}
 
 -- What the split asks of the words: `cells` cells stand there, and past them is room for a flag for each column.
 pub record SplitReady (x : List ℕ) (from end cells cols : ℕ) : Type 0 where
-  pub chain : cellsEnd x from cells ≡ end
+  pub chain : cells_end x from cells ≡ end
   pub some : 0 < cols
   pub few : cols ≤ 4096
   pub room : end + cols ≤ length x
@@ -32,9 +32,9 @@ pub record Splits (text x : List ℕ) (from end cells cols : ℕ) (y : List ℕ)
   pub front : take from y ≡ take from x
   pub on : from ≤ r.end
   pub within : r.end ≤ end + cols
-  pub mostCols : r.cols ≤ cols
-  pub mostCells : r.cells ≤ cells
-  pub mostLines : r.lines ≤ cols
+  pub most_cols : r.cols ≤ cols
+  pub most_cells : r.cells ≤ cells
+  pub most_lines : r.lines ≤ cols
   pub gives : (es : List Entry) (rows : Rows) (x₀ : List ℕ) → Grid cols (rows.head.cells ∷ rows.others)
       → Wrote x₀ from x end (encodes (joined (rows.head.cells ∷ rows.others)))
-      → MatrixAt (splitColumnLines text es rows) x₀ from y r
+      → MatrixAt (split_column_lines text es rows) x₀ from y r

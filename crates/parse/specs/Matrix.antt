@@ -6,7 +6,7 @@ use Rattle.tokens.specs.declared.token.Token.TheVariants as token
 use Rattle.tree.specs.Tree.{Nodes, end, count}
 use Rattle.tree.specs.Words.{encodes}
 use Rattle.reading.specs.Entries.{Entry, is}
-use Rattle.reading.specs.Reading.{State, M, return, ◌>>=◌, if◌then◌else◌, here, is_at, any, advance, Row, Rows, rowBrackets, alike}
+use Rattle.reading.specs.Reading.{State, M, return, ◌>>=◌, if◌then◌else◌, here, is_at, any, advance, Row, Rows, row_brackets, alike}
 use Rattle.parse.specs.declared.cursor.Cursor.{Cursor}
 use Rattle.parse.specs.declared.cursor.Close.{Close}
 use Rattle.parse.specs.declared.cursor.Close.TheVariants as close
@@ -18,31 +18,31 @@ use Rattle.parse.specs.Buffer.{Wrote}
 use Rattle.columns.specs.Rows as columns
 use Rattle.parse.specs.Meet.{Each}
 use Rattle.records.specs.Record.{Kept}
-use Rattle.reading_words.specs.Meet.{Input, At, Known, cellsAt, row_at, more_at, rows_at, First}
+use Rattle.reading_words.specs.Meet.{Input, At, Known, cells_at, row_at, more_at, rows_at, First}
 
 -- "Loop over rows and cells left by label, yielding the reason." Why the rows behind the first one, h, end, by the turns of the
--- definition's own loop, `moreRows`, and as many: no Sep follows; no row could be read behind one; or a row was read that differs from the
+-- definition's own loop, `more_rows`, and as many: no Sep follows; no row could be read behind one; or a row was read that differs from the
 -- first. (There are turns enough for every list, so the first line is never met.)
-unfoldable pub whyMore : ℕ → Input → ℕ → Row → M Why
-whyMore d I zero h = return why.Broken
-whyMore d I (suc f) h =
+unfoldable pub why_more : ℕ → Input → ℕ → Row → M Why
+why_more d I zero h = return why.Broken
+why_more d I (suc f) h =
     here >>= λ p.
     if is_at I.text I.es (is token.Sep) p
     then (advance I.text I.es any >>= λ t. row_at d I >>= λ q. elim q [
       | none ↦ return why.Broken
-      | some r ↦ if alike I.text I.es h r then whyMore d I f h else return why.Differs
+      | some r ↦ if alike I.text I.es h r then why_more d I f h else return why.Differs
     ])
     else return why.Done
 
-abbrev pub whyMoreAt : ℕ → Row → Input → M Why
-whyMoreAt d h I = whyMore d I (suc (length I.es)) h
+abbrev pub why_more_at : ℕ → Row → Input → M Why
+why_more_at d h I = why_more d I (suc (length I.es)) h
 
--- The same of all rows, by `nextMatrixRows`: of the first one the brackets alone can be no row's.
-unfoldable pub whyRowsAt : ℕ → Input → M Why
-whyRowsAt d I =
+-- The same of all rows, by `next_matrix_rows`: of the first one the brackets alone can be no row's.
+unfoldable pub why_rows_at : ℕ → Input → M Why
+why_rows_at d I =
     row_at d I >>= λ q. elim q [
       | none ↦ return why.Broken
-      | some h ↦ if rowBrackets I.text I.es h then whyMoreAt d h I else return why.Differs
+      | some h ↦ if row_brackets I.text I.es h then why_more_at d h I else return why.Differs
     ]
 
 -- Rows not read to their end: where the code stands, and what it leaves of the work words.
@@ -83,8 +83,8 @@ module _ (X t : List ℕ) (n : ℕ) where
     pub tree : Wrote x e y E (encodes cells)
 
   abbrev pub RowCells' : List ℕ → List ℕ → Cursor → ℕ → List ℕ → List ℕ → ℕ → Cursor → ℕ → Close → Type 0
-  RowCells' K L c e x y k d E (close.At q) = Filled X t n K L c e x y k d E × (1 ≤ k) × (q < n) × Each X t n K c (λ I s. HasCells L (cellsAt c.depth I) I s e x y q k d E)
-  RowCells' K L c e x y k d E close.Broken = Broke X t n K L c e x y d × Each X t n K c (λ I s. Fails L (cellsAt c.depth I) I s e x y d)
+  RowCells' K L c e x y k d E (close.At q) = Filled X t n K L c e x y k d E × (1 ≤ k) × (q < n) × Each X t n K c (λ I s. HasCells L (cells_at c.depth I) I s e x y q k d E)
+  RowCells' K L c e x y k d E close.Broken = Broke X t n K L c e x y d × Each X t n K c (λ I s. Fails L (cells_at c.depth I) I s e x y d)
 
   abbrev pub RowCells : List ℕ → List ℕ → Cursor → ℕ → List ℕ → List ℕ → Cells → Type 0
   RowCells K L c e x y g = RowCells' K L c e x y g.count g.cur g.end g.close
@@ -131,7 +131,7 @@ module _ (X t : List ℕ) (n : ℕ) where
   abbrev pub MoreRows : List ℕ → List ℕ → ℕ → ℕ → Bool → Cursor → ℕ → List ℕ → List ℕ → code.Rows → Type 0
   MoreRows K L cols l round c e x y g =
       Same cols l g × MoreRows' K L cols round c e x y g.cells g.cur g.end g.why
-      × Each X t n K c (λ I s. (h : Row) → First I cols round h → (whyMoreAt c.depth h I s).0 ≡ g.why)
+      × Each X t n K c (λ I s. (h : Row) → First I cols round h → (why_more_at c.depth h I s).0 ≡ g.why)
 
   -- all rows
   pub record HasMatrix (L : List ℕ) (m : M (Option Rows)) (I : Input) (s : State) (e : ℕ) (x y : List ℕ) (cols l k : ℕ) (d : Cursor) (E : ℕ) : Type 0 where
@@ -152,4 +152,4 @@ module _ (X t : List ℕ) (n : ℕ) where
   abbrev pub MatrixRows : List ℕ → List ℕ → Cursor → ℕ → List ℕ → List ℕ → code.Rows → Type 0
   MatrixRows K L c e x y g =
       MatrixRows' K L c e x y g.cols g.left g.cells g.cur g.end g.why
-      × Each X t n K c (λ I s. (whyRowsAt c.depth I s).0 ≡ g.why)
+      × Each X t n K c (λ I s. (why_rows_at c.depth I s).0 ≡ g.why)

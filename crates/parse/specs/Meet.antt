@@ -5,9 +5,9 @@ use Rattle.std.specs.Prelude.{ℕ, ◌+◌, ◌-◌, ◌*◌, ◌≤◌, ◌≡�
 use Rattle.std.proofs.Math.Option.{Option, none, some}
 use Rattle.std.proofs.Math.ListN.{get_elem?}
 use Rattle.tree.specs.Tree.{Head, Prefix, Node, node, end, ◌▸◌, count, one}
-use Rattle.tree.specs.Words.{encode, encodes, encodeItem, encodeItems, scriptNumber}
+use Rattle.tree.specs.Words.{encode, encodes, encode_item, encode_items, script_number}
 use Rattle.reading.specs.Entries.{Entry}
-use Rattle.reading.specs.Reading.{State, M, return, ◌>>=◌, Scripted, argument, nextOpenGroup, tryMatrix, begun, orMissing, orMissingPart, endsOperand, prefixes}
+use Rattle.reading.specs.Reading.{State, M, return, ◌>>=◌, Scripted, argument, next_open_group, try_matrix, begun, or_missing, or_missing_part, ends_operand, prefixes}
 use Rattle.parse.specs.declared.cursor.Cursor.{Cursor}
 use Rattle.parse.specs.declared.cursor.Step.{Step}
 use Rattle.parse.specs.declared.cursor.Step.TheVariants.{Found, Nothing}
@@ -16,11 +16,11 @@ use Rattle.parse.specs.declared.cursor.Scripted as code
 use Rattle.parse.specs.declared.cursor.Items.{Items}
 use Rattle.parse.specs.declared.cursor.Gap.{Gap}
 use Rattle.parse.specs.Buffer.{Wrote}
-use Rattle.nodes.specs.Nodes.{gapWords, gapItems}
+use Rattle.nodes.specs.Nodes.{gap_words, gap_items}
 use Rattle.lookahead.specs.Takes.{taken, looked}
 use Rattle.records.specs.Record.{Kept}
 use Rattle.reading_words.specs.Entry.{Safe}
-use Rattle.reading_words.specs.Meet.{Input, stopOf, At, Known, readers, lastAfter, is_none, Until, simpleAt, scriptFuncAt, intermediateAt, scriptAt, itemsFrom, termAt, headedAt, barsAt, bracketAt}
+use Rattle.reading_words.specs.Meet.{Input, stop_of, At, Known, readers, last_after, is_none, Until, simple_at, script_func_at, intermediate_at, script_at, items_from, term_at, headed_at, bars_at, bracket_at}
 
 -- What each call needs: slack words more than 32 for each token left.
 pub record Ready (slack n : ℕ) (X t K tree : List ℕ) (c : Cursor) (e : ℕ) : Type 0 where
@@ -42,14 +42,14 @@ pub record Moves (X t : List ℕ) (gain more spare n : ℕ) (K L : List ℕ) (c 
 
 -- The flag says whether the node ends an operand; a scripted part is no fraction besides.
 abbrev pub Ending : Bool → Node → Type 0
-Ending f x = f ≡ endsOperand x
+Ending f x = f ≡ ends_operand x
 
 abbrev pub Scripting : Bool → Node → Type 0
-Scripting f x = (f ≡ endsOperand x) × (encodeItem x ≡ 0 ∷ encode x)
+Scripting f x = (f ≡ ends_operand x) × (encode_item x ≡ 0 ∷ encode x)
 
 -- The definition's reading of two arguments.
-abbrev pub binaryAt : ℕ → Input → Entry → M (Option Node)
-binaryAt d I en =
+abbrev pub binary_at : ℕ → Input → Entry → M (Option Node)
+binary_at d I en =
     argument I.text I.es true (readers d I) >>= λ a.
     argument I.text I.es true (readers d I) >>= λ b.
     return (some (node (Head.prefix Prefix.binary en.span) (a ▸ b ▸ end)))
@@ -118,61 +118,61 @@ module _ (X t : List ℕ) (n : ℕ) where
   -- The readers' contracts. A simple expression leaves 14 of its tokens' words: 6 for the part around it, 1 for the item, 7 for a
   -- Space before it; so a part leaves 8, an item 7. Missing has no token: 6 words, 12 as a part.
   abbrev pub Simple : List ℕ → List ℕ → Bool → Bool → Cursor → ℕ → List ℕ → List ℕ → Step → Type 0
-  Simple K L stop sg c = Met K L 14 (simpleAt c.depth stop sg) encode Ending c
+  Simple K L stop sg c = Met K L 14 (simple_at c.depth stop sg) encode Ending c
 
   abbrev pub ScriptFunc : List ℕ → List ℕ → Bool → Bool → Cursor → ℕ → List ℕ → List ℕ → Step → Type 0
-  ScriptFunc K L stop sg c = Met K L 8 (scriptFuncAt c.depth stop sg) encode Scripting c
+  ScriptFunc K L stop sg c = Met K L 8 (script_func_at c.depth stop sg) encode Scripting c
 
   abbrev pub Term : List ℕ → List ℕ → Bool → Bool → Cursor → ℕ → List ℕ → List ℕ → Step → Type 0
-  Term K L stop sg c = Met K L 8 (termAt c.depth stop sg) encode Scripting c
+  Term K L stop sg c = Met K L 8 (term_at c.depth stop sg) encode Scripting c
 
   abbrev pub Intermediate : List ℕ → List ℕ → Bool → Bool → Cursor → ℕ → List ℕ → List ℕ → Step → Type 0
-  Intermediate K L stop sg c = Met K L 7 (intermediateAt c.depth stop sg) encodeItem Ending c
+  Intermediate K L stop sg c = Met K L 7 (intermediate_at c.depth stop sg) encode_item Ending c
 
   abbrev pub Argument : List ℕ → List ℕ → Bool → Cursor → ℕ → List ℕ → List ℕ → Part → Type 0
-  Argument K L stop c e x y g = Gave K L 0 6 0 (simpleAt c.depth stop true) (λ a. encode (orMissing a)) (λ a. g.ends ≡ endsOperand (orMissing a)) c e x y g.cur g.end
+  Argument K L stop c e x y g = Gave K L 0 6 0 (simple_at c.depth stop true) (λ a. encode (or_missing a)) (λ a. g.ends ≡ ends_operand (or_missing a)) c e x y g.cur g.end
 
   abbrev pub Operand : List ℕ → List ℕ → Bool → Cursor → ℕ → List ℕ → List ℕ → Part → Type 0
-  Operand K L stop c e x y g = Gave K L 0 12 0 (scriptFuncAt c.depth stop true) (λ a. encode (orMissingPart a)) (λ a. g.ends ≡ endsOperand (orMissingPart a)) c e x y g.cur g.end
+  Operand K L stop c e x y g = Gave K L 0 12 0 (script_func_at c.depth stop true) (λ a. encode (or_missing_part a)) (λ a. g.ends ≡ ends_operand (or_missing_part a)) c e x y g.cur g.end
 
   abbrev pub Scripts : List ℕ → List ℕ → Cursor → ℕ → List ℕ → List ℕ → code.Scripted → Type 0
-  Scripts K L c e x y g = Gave K L 0 0 0 (scriptAt c.depth) (λ q. encodes q.1) (λ q. g.script ≡ scriptNumber q.0) c e x y g.cur g.end
+  Scripts K L c e x y g = Gave K L 0 0 0 (script_at c.depth) (λ q. encodes q.1) (λ q. g.script ≡ script_number q.0) c e x y g.cur g.end
 
   -- The items behind the item `before`, if there is one, in turns enough: the code knows of it whether it is there, and whether a
   -- sign behind it prefixes.
   pub record Intermediates (K L : List ℕ) (u : ℕ) (stop first sign : Bool) (c : Cursor) (e : ℕ) (x y : List ℕ) (g : Items) : Type 0 where
     pub moves : Moves X t 0 0 0 n K L c e x y g.cur g.end
     pub few : g.count + 2 * c.pos ≤ 2 * g.cur.pos
-    pub means : Each K c (λ I s. (f : ℕ) → n - c.pos ≤ f → (until : Option Entry) → Until n I u until → (before : Option Node) → first ≡ is_none before → sign ≡ prefixes before → Gives L (itemsFrom c.depth f until stop before I) encodeItems (λ l. (g.count ≡ count l) × (g.sign ≡ prefixes (lastAfter before l))) I s e x y g.cur g.end)
+    pub means : Each K c (λ I s. (f : ℕ) → n - c.pos ≤ f → (until : Option Entry) → Until n I u until → (before : Option Node) → first ≡ is_none before → sign ≡ prefixes before → Gives L (items_from c.depth f until stop before I) encode_items (λ l. (g.count ≡ count l) × (g.sign ≡ prefixes (last_after before l))) I s e x y g.cur g.end)
 
   abbrev pub Headed : List ℕ → List ℕ → ℕ → Bool → Cursor → ℕ → List ℕ → List ℕ → Part → Type 0
-  Headed K L i stop c e x y g = Began K L 18 i (headedAt c.depth stop) (λ en a. words_of a) (λ en. With Scripting g.ends) c e x y g.cur g.end
+  Headed K L i stop c e x y g = Began K L 18 i (headed_at c.depth stop) (λ en a. words_of a) (λ en. With Scripting g.ends) c e x y g.cur g.end
 
   abbrev pub Begun : List ℕ → List ℕ → ℕ → Bool → Bool → Cursor → ℕ → List ℕ → List ℕ → Part → Type 0
-  Begun K L i stop sg c e x y g = Began K L 18 i (λ I en. begun I.text I.es true (readers c.depth I) en.token en i (stopOf stop) sg) (λ en a. words_of a) (λ en. With Ending g.ends) c e x y g.cur g.end
+  Begun K L i stop sg c e x y g = Began K L 18 i (λ I en. begun I.text I.es true (readers c.depth I) en.token en i (stop_of stop) sg) (λ en a. words_of a) (λ en. With Ending g.ends) c e x y g.cur g.end
 
   abbrev pub OpenGroup : List ℕ → List ℕ → ℕ → Cursor → ℕ → List ℕ → List ℕ → Part → Type 0
-  OpenGroup K L i c e x y g = Began K L 6 i (λ I en. nextOpenGroup I.text I.es true (readers c.depth I) en i) (λ en. encode) (λ en a. g.ends ≡ endsOperand a) c e x y g.cur g.end
+  OpenGroup K L i c e x y g = Began K L 6 i (λ I en. next_open_group I.text I.es true (readers c.depth I) en i) (λ en. encode) (λ en a. g.ends ≡ ends_operand a) c e x y g.cur g.end
 
   abbrev pub Bracket : List ℕ → List ℕ → ℕ → ℕ → Bool → Cursor → ℕ → List ℕ → List ℕ → Part → Type 0
-  Bracket K L i k stop c e x y g = Began K L 8 i (bracketAt (eqb k 20) c.depth stop i) (λ en. encode) (λ en a. g.ends ≡ endsOperand a) c e x y g.cur g.end
+  Bracket K L i k stop c e x y g = Began K L 8 i (bracket_at (eqb k 20) c.depth stop i) (λ en. encode) (λ en a. g.ends ≡ ends_operand a) c e x y g.cur g.end
 
   abbrev pub TryMatrix : List ℕ → List ℕ → ℕ → Cursor → ℕ → List ℕ → List ℕ → Step → Type 0
-  TryMatrix K L i c = MetOf K L 8 i (λ I en. tryMatrix I.text I.es true (readers c.depth I) en i) c
+  TryMatrix K L i c = MetOf K L 8 i (λ I en. try_matrix I.text I.es true (readers c.depth I) en i) c
 
   abbrev pub Bars : List ℕ → List ℕ → ℕ → Bool → Cursor → ℕ → List ℕ → List ℕ → Part → Type 0
-  Bars K L i stop c e x y g = Began K L 6 i (barsAt c.depth stop i) (λ en. encode) (λ en a. g.ends ≡ endsOperand a) c e x y g.cur g.end
+  Bars K L i stop c e x y g = Began K L 6 i (bars_at c.depth stop i) (λ en. encode) (λ en a. g.ends ≡ ends_operand a) c e x y g.cur g.end
 
   abbrev pub Unary : List ℕ → List ℕ → ℕ → ℕ → Bool → Cursor → ℕ → List ℕ → List ℕ → Part → Type 0
-  Unary K L i kind stop c e x y g = Began K L 12 i (λ I en. simpleAt c.depth stop true I) (λ en a. encode (one (Head.prefix (prefix_of kind) en.span) (orMissing a))) (λ en a. g.ends ≡ true) c e x y g.cur g.end
+  Unary K L i kind stop c e x y g = Began K L 12 i (λ I en. simple_at c.depth stop true I) (λ en a. encode (one (Head.prefix (prefix_of kind) en.span) (or_missing a))) (λ en a. g.ends ≡ true) c e x y g.cur g.end
 
   abbrev pub Binary : List ℕ → List ℕ → ℕ → Cursor → ℕ → List ℕ → List ℕ → Part → Type 0
-  Binary K L i c e x y g = Began K L 18 i (binaryAt c.depth) (λ en a. words_of a) (λ en. With Ending g.ends) c e x y g.cur g.end
+  Binary K L i c e x y g = Began K L 18 i (binary_at c.depth) (λ en a. words_of a) (λ en. With Ending g.ends) c e x y g.cur g.end
 
 -- The Space before the entry i.
 pub record Gapped (t K : List ℕ) (n : ℕ) (first : Bool) (i e : ℕ) (x y : List ℕ) (g : Gap) : Type 0 where
-  pub tree : Wrote x e y g.end (gapWords t K n first i)
-  pub items : g.items ≡ gapItems t K n first i
+  pub tree : Wrote x e y g.end (gap_words t K n first i)
+  pub items : g.items ≡ gap_items t K n first i
   pub few : g.items ≤ 1
   pub short : g.end ≤ e + 7
 
@@ -189,13 +189,13 @@ passing n c = cond (ltb c.pos n) (onward c) c
 abbrev pub inner : Cursor → Cursor
 inner c = record { pos = c.pos; depth = c.depth + 1; takes = c.takes }
 
-abbrev pub atDepth : ℕ → Cursor → Cursor
-atDepth d c = record { pos = c.pos; depth = d; takes = c.takes }
+abbrev pub at_depth : ℕ → Cursor → Cursor
+at_depth d c = record { pos = c.pos; depth = d; takes = c.takes }
 
 abbrev pub rewound : ℕ → Cursor → Cursor
 rewound p c = record { pos = p; depth = c.depth; takes = c.takes }
 
 -- The same answer in the reader of that depth.
-abbrev pub stepAt : ℕ → Step → Step
-stepAt d (Found c E f) = Found (atDepth d c) E f
-stepAt d (Nothing c) = Nothing (atDepth d c)
+abbrev pub step_at : ℕ → Step → Step
+step_at d (Found c E f) = Found (at_depth d c) E f
+step_at d (Nothing c) = Nothing (at_depth d c)

@@ -1,11 +1,11 @@
 -- The second part as a whole, from any marks: closing brackets that nothing opened, noted in their own records, and what it gives.
 use Rattle.std.specs.Prelude.{ℕ, suc, ◌+◌, ◌-◌, ◌*◌, ◌%◌, ◌≤◌, ◌<◌, ◌^◌, ◌≡◌, List, [], ◌∷◌, ◌++◌, Bool, true, length, take, replicate}
 use Rattle.tree.specs.Tree.{Nodes, end, count}
-use Rattle.tree.specs.Words.{encodeItems}
+use Rattle.tree.specs.Words.{encode_items}
 use Rattle.reading.specs.Reading.{State, parse}
 use Rattle.parse.specs.declared.top.Wrapped.{Wrapped}
 use Rattle.parse.specs.declared.top.Reading.{Reading}
-use Rattle.records.specs.Record.{afterClose, sepOf, start_of, len_of}
+use Rattle.records.specs.Record.{after_close, sep_of, start_of, len_of}
 use Rattle.reading_words.specs.Entry.{Safe, Placed}
 use Rattle.reading_words.specs.Meet.{Input, Given, Marks}
 
@@ -18,15 +18,15 @@ pub record Wrap : Type 0 where
 -- and its Sep field has the items.
 abbrev pub Chained : List ℕ → ℕ → ℕ → List Wrap → Type 0
 Chained K b last [] = Unit
-Chained K b last (w ∷ ws) = (w.closer ≡ last) × (last < b) × (sepOf K last ≡ w.items) × Chained K last (afterClose K last) ws
+Chained K b last (w ∷ ws) = (w.closer ≡ last) × (last < b) × (sep_of K last ≡ w.items) × Chained K last (after_close K last) ws
 
 -- The words of the wraps' headers: an item, a simple part and a group each.
-abbrev pub wrapWords : ℕ → ℕ → ℕ → List ℕ
-wrapWords k a l = 0 ∷ 13 ∷ 0 ∷ 0 ∷ 0 ∷ 0 ∷ 0 ∷ 15 ∷ 0 ∷ 0 ∷ k ∷ a ∷ l ∷ []
+abbrev pub wrap_words : ℕ → ℕ → ℕ → List ℕ
+wrap_words k a l = 0 ∷ 13 ∷ 0 ∷ 0 ∷ 0 ∷ 0 ∷ 0 ∷ 15 ∷ 0 ∷ 0 ∷ k ∷ a ∷ l ∷ []
 
-unfoldable pub wrapsWords : List ℕ → List ℕ → List Wrap → List ℕ
-wrapsWords t K [] = []
-wrapsWords t K (w ∷ ws) = wrapWords w.items (start_of t K w.closer) (len_of t K w.closer) ++ wrapsWords t K ws
+unfoldable pub wraps_words : List ℕ → List ℕ → List Wrap → List ℕ
+wraps_words t K [] = []
+wraps_words t K (w ∷ ws) = wrap_words w.items (start_of t K w.closer) (len_of t K w.closer) ++ wraps_words t K ws
 
 pub record Noted (n : ℕ) (t K : List ℕ) (wraps last : ℕ) : Type 0 where
   pub list : List Wrap
@@ -35,8 +35,8 @@ pub record Noted (n : ℕ) (t K : List ℕ) (wraps last : ℕ) : Type 0 where
   pub placed : (i : ℕ) → i < n → Placed t K i
 
 -- The reading from these marks.
-abbrev pub readFrom : Input → List Bool → Nodes × State
-readFrom I m =
+abbrev pub read_from : Input → List Bool → Nodes × State
+read_from I m =
     parse I.text I.es true (suc (length I.es)) 256 end
     (record { pos = 0; takes = 0; marks = m; closers = replicate (length I.es) (length I.es) })
 
@@ -51,10 +51,10 @@ pub record TopReady (n : ℕ) (X t K tree : List ℕ) : Type 0 where
 
 -- The items are those that the definition reads from the marks m, their wraps' headers aside.
 pub record Tops (X t : List ℕ) (n : ℕ) (L : List ℕ) (ws : List Wrap) (I : Input) (m : List Bool) (y : List ℕ) (g : Wrapped) : Type 0 where
-  pub words : encodeItems (readFrom I m).0 ≡ wrapsWords t L ws ++ take g.end y
-  pub number : g.count ≡ count (readFrom I m).0
-  pub takes : g.cur.takes % 2 ^ 32 ≡ (readFrom I m).1.takes % 2 ^ 32
-  pub marks : Marks n L (readFrom I m).1.marks
+  pub words : encode_items (read_from I m).0 ≡ wraps_words t L ws ++ take g.end y
+  pub number : g.count ≡ count (read_from I m).0
+  pub takes : g.cur.takes % 2 ^ 32 ≡ (read_from I m).1.takes % 2 ^ 32
+  pub marks : Marks n L (read_from I m).1.marks
 
 pub record Topped (X t : List ℕ) (n : ℕ) (K L y : List ℕ) (g : Wrapped) : Type 0 where
   pub noted : Noted n t L g.wraps g.last
@@ -65,7 +65,7 @@ pub record Topped (X t : List ℕ) (n : ℕ) (K L y : List ℕ) (g : Wrapped) : 
 
 -- The words of the tree that the definition reads from the marks m, zeros behind them, and its takes.
 pub record Reads (I : Input) (m : List Bool) (len : ℕ) (y : List ℕ) (r : Reading) : Type 0 where
-  pub end : r.end ≡ length (encodeItems (readFrom I m).0)
-  pub tree : y ≡ encodeItems (readFrom I m).0 ++ replicate (len - r.end) 0
-  pub items : r.items ≡ count (readFrom I m).0
-  pub takes : r.takes ≡ (readFrom I m).1.takes % 2 ^ 32
+  pub end : r.end ≡ length (encode_items (read_from I m).0)
+  pub tree : y ≡ encode_items (read_from I m).0 ++ replicate (len - r.end) 0
+  pub items : r.items ≡ count (read_from I m).0
+  pub takes : r.takes ≡ (read_from I m).1.takes % 2 ^ 32

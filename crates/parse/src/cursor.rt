@@ -1,6 +1,6 @@
 // Where a reader stands, and what readers answer.
 ghost use Rattle.std.specs.Prelude.{◌≡◌, true, cond, ◌≤◌, ◌<◌};
-ghost use Rattle.parse.specs.Meet.{onward, seen, passing, inner, atDepth, rewound, stepAt};
+ghost use Rattle.parse.specs.Meet.{onward, seen, passing, inner, at_depth, rewound, step_at};
 ghost use Rattle.parse.specs.declared.cursor.Step.TheVariants.{Found};
 
 use lookahead::takes::{count_look, count_take};
@@ -71,7 +71,7 @@ impl Cursor {
 
     // Back in the reader of that depth.
     pub(crate) fn at_depth(self, depth: u16) -> Cursor
-        ensures { result ≡ atDepth depth self }
+        ensures { result ≡ at_depth depth self }
     {
         Cursor {
             pos: self.pos,
@@ -110,7 +110,7 @@ pub(crate) struct Part {
 impl Step {
     // The same, back in the reader of that depth.
     pub(crate) fn at_depth(self, depth: u16) -> Step
-        ensures { result ≡ stepAt depth self }
+        ensures { result ≡ step_at depth self }
     {
         match self {
             Step::Found(d, e, f) => Step::Found(d.at_depth(depth), e, f),
@@ -121,7 +121,7 @@ impl Step {
 
 // The node was read, back in the reader of that depth.
 pub(crate) fn found(g: Part, depth: u16) -> Step
-    ensures { result ≡ Found (atDepth depth g.cur) g.end g.ends }
+    ensures { result ≡ Found (at_depth depth g.cur) g.end g.ends }
 {
     let gc = g.cur;
     Step::Found(gc.at_depth(depth), g.end, g.ends)

@@ -8,9 +8,9 @@ mod write;
 
 ghost use Rattle.std.specs.Prelude.{◌≡◌, [], ◌∷◌, eqb, length};
 ghost use Rattle.std.proofs.Math.Option.{none};
-ghost use Rattle.tokens.specs.Refusals.{accepted, bit, listRefusal, roomRefusal};
-ghost use Rattle.tokens.specs.Table.{tokenList, countOthers};
-ghost use Rattle.parse.specs.Call.{answer_of, listAnswerOf, parsedText, parsedTokens};
+ghost use Rattle.tokens.specs.Refusals.{accepted, bit, list_refusal, room_refusal};
+ghost use Rattle.tokens.specs.Table.{token_list, count_others};
+ghost use Rattle.parse.specs.Call.{answer_of, list_answer_of, parsed_text, parsed_tokens};
 
 use closers_pass::top::{Pass, pair_list};
 use lists::{Checked, check_list};
@@ -41,7 +41,7 @@ pub enum ParsedTokens {
 
 // What is answered of a reading.
 fn answer(takes: u32, items: u32) -> ParsedTokens
-    ensures { listAnswerOf result ≡ accepted (takes ∷ items ∷ bit (eqb items 0) ∷ []) }
+    ensures { list_answer_of result ≡ accepted (takes ∷ items ∷ bit (eqb items 0) ∷ []) }
 {
     ParsedTokens::Read {
         takes: takes as u64,
@@ -59,10 +59,10 @@ fn read_list(
     work: &mut [u32],
     tree: &mut [u32],
 ) -> ParsedTokens
-    requires table_value { listRefusal text.now count table.now ≡ none }
-    requires tree_value { roomRefusal (countOthers (tokenList count table.now)) (length work.old) (length tree.old) ≡ none }
-    ensures { (listAnswerOf result, work.new, tree.new)
-        ≡ parsedTokens text.now table.now count work.old tree.old }
+    requires table_value { list_refusal text.now count table.now ≡ none }
+    requires tree_value { room_refusal (count_others (token_list count table.now)) (length work.old) (length tree.old) ≡ none }
+    ensures { (list_answer_of result, work.new, tree.new)
+        ≡ parsed_tokens text.now table.now count work.old tree.old }
 {
     match pair_list(text, table, count, false, work) {
         Pass::Read { entries, takes } => {
@@ -86,8 +86,8 @@ pub fn parse_tokens(
     work: &mut [u32],
     tree: &mut [u32],
 ) -> ParsedTokens
-    ensures { (listAnswerOf result, work.new, tree.new)
-        ≡ parsedTokens text.now table.now count work.old tree.old }
+    ensures { (list_answer_of result, work.new, tree.new)
+        ≡ parsed_tokens text.now table.now count work.old tree.old }
 {
     match check_list(text, table, count) {
         Checked::Refused(k) => ParsedTokens::Refused(k),
@@ -101,7 +101,7 @@ pub fn parse_tokens(
 // Reads a text: its tokens, its tree's words, or a refusal by 1, 2, 7, 8 or 9. Nothing is written before all are decided.
 pub fn parse(text: &[u8], table: &mut [u32], work: &mut [u32], tree: &mut [u32]) -> Parsed
     ensures { (answer_of result, table.new, work.new, tree.new)
-        ≡ parsedText text.now table.old work.old tree.old }
+        ≡ parsed_text text.now table.old work.old tree.old }
 {
     let room = room_for(work.len(), tree.len());
     match tokenize_under(text, table, room) {

@@ -2,7 +2,7 @@
 ghost use Rattle.std.specs.Prelude.{◌≡◌, [], ◌∷◌, ◌+◌, ◌≤◌, ◌<◌, length};
 ghost use Rattle.std.proofs.lemmas.List.Edits.{sets};
 ghost use Rattle.records.specs.Record.{kind_of};
-ghost use Rattle.leaves.specs.Leaves.{leafWords, leafEnds};
+ghost use Rattle.leaves.specs.Leaves.{leaf_words, leaf_ends};
 ghost use Rattle.parse.specs.Meet.{onward, seen};
 
 use crate::cursor::{Cursor, Part};
@@ -20,8 +20,8 @@ pub(crate) fn plain_item(
 ) -> Part
     requires pos_bound { c.pos < 4096 }
     requires e_in_bounds { e + 13 ≤ length tree.old }
-    ensures value { result ≡ record { cur = seen n (seen n (onward (seen n c))); end = e + 13; ends = leafEnds (kind_of tok.now work.now c.pos) } }
-    ensures tree_after { tree.new ≡ sets (sets (sets tree.old (e + 7) (leafWords tok.now work.now c.pos (kind_of tok.now work.now c.pos))) (e + 1) (13 ∷ 0 ∷ 0 ∷ 0 ∷ 0 ∷ 0 ∷ [])) e (0 ∷ []) }
+    ensures value { result ≡ record { cur = seen n (seen n (onward (seen n c))); end = e + 13; ends = leaf_ends (kind_of tok.now work.now c.pos) } }
+    ensures tree_after { tree.new ≡ sets (sets (sets tree.old (e + 7) (leaf_words tok.now work.now c.pos (kind_of tok.now work.now c.pos))) (e + 1) (13 ∷ 0 ∷ 0 ∷ 0 ∷ 0 ∷ 0 ∷ [])) e (0 ∷ []) }
 {
     let i = c.pos as usize;
     let k = kind_at(tok, work, i);

@@ -1,9 +1,9 @@
 // The readers of the Rust's parse.rs. They call one another back; 256 less the cursor's depth falls.
 ghost use Rattle.std.specs.Prelude.{◌≡◌, true, false, ◌≤◌, ◌<◌};
 ghost use Rattle.records.specs.Record.{kind_of};
-ghost use Rattle.lookahead.specs.Tests.{testAt, beginsKind, opening};
+ghost use Rattle.lookahead.specs.Tests.{test_at, begins_kind, opening};
 ghost use Rattle.parse.specs.Meet.{Ready, Simple, ScriptFunc, Intermediate, Argument, Operand, Scripts, Intermediates, Headed, Begun, OpenGroup, Bracket, TryMatrix, Bars, Unary, Binary, Term, prefix_of};
-ghost use Rattle.tree.specs.Words.{prefixKind};
+ghost use Rattle.tree.specs.Words.{prefix_kind};
 ghost use Rattle.parse.specs.Matrix.{RowCells, MatrixRow, MoreRows, MatrixRows};
 
 use crate::cursor::{Cells, Close, Cursor, Items, Part, Rows, Scripted, Step, Why, found};
@@ -653,7 +653,7 @@ fn unary(
 ) -> Part
     requires ready { Ready 12 n text.now tok.now work.old tree.old c e }
     requires i_lt_n { i < n }
-    requires kind_value { prefixKind (prefix_of kind) ≡ kind }
+    requires kind_value { prefix_kind (prefix_of kind) ≡ kind }
     ensures { Unary text.now tok.now n work.old work.new i kind stop c e tree.old tree.new result }
 {
     let g = arg(text, tok, n, work, tree, c, e + 6, stop);
@@ -698,7 +698,7 @@ fn other(
     k: u32,
 ) -> Part
     requires ready { Ready 32 n text.now tok.now work.old tree.old c e }
-    requires i_value { testAt tok.now work.old n (beginsKind stop) i ≡ true }
+    requires i_value { test_at tok.now work.old n (begins_kind stop) i ≡ true }
     requires i_lt_n { i < n }
     requires k_value { k ≡ kind_of tok.now work.old i }
     requires k_value_2 { opening k ≡ false }
@@ -730,7 +730,7 @@ fn begun(
     i: usize,
 ) -> Part
     requires ready { Ready 32 n text.now tok.now work.old tree.old c e }
-    requires i_value { testAt tok.now work.old n (beginsKind stop) i ≡ true }
+    requires i_value { test_at tok.now work.old n (begins_kind stop) i ≡ true }
     requires i_lt_n { i < n }
     ensures { Begun text.now tok.now n work.old work.new i stop sign c e tree.old tree.new result }
 {

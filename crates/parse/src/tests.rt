@@ -1,6 +1,6 @@
 // Small choices of the readers.
 ghost use Rattle.std.specs.Prelude.{◌≡◌, false, cond};
-ghost use Rattle.parse.specs.Choices.{prefixNumber};
+ghost use Rattle.parse.specs.Choices.{prefix_number};
 
 use crate::cursor::{Part, Scripted};
 use tokens::kinds::{FUNCTION, SIGN, UNARY};
@@ -29,7 +29,7 @@ pub(crate) fn head_stop(func: bool, stop: bool) -> bool
 
 // The kind of node that a token of kind k makes of one argument; Missing, if it takes none. `sign`: a sign here prefixes.
 pub(crate) fn prefix_kind(k: u32, sign: bool) -> u32
-    ensures { result ≡ prefixNumber k sign }
+    ensures { result ≡ prefix_number k sign }
 {
     if k == UNARY {
         return NODE_UNARY;

@@ -1,8 +1,8 @@
 // The whole reading: the items, and the groups of closing brackets that nothing opened.
 ghost use Rattle.std.specs.Prelude.{◌≡◌, List, ◌++◌, Bool, ◌+◌, ◌*◌, ◌≤◌, length, take, replicate};
 ghost use Rattle.std.proofs.lemmas.List.Edits.{sets};
-ghost use Rattle.records.specs.Record.{sepOf, start_of, len_of, withClose, withSep};
-ghost use Rattle.parse.specs.Top.{Noted, wrapWords, wrapsWords, TopReady, Topped, Reads};
+ghost use Rattle.records.specs.Record.{sep_of, start_of, len_of, with_close, with_sep};
+ghost use Rattle.parse.specs.Top.{Noted, wrap_words, wraps_words, TopReady, Topped, Reads};
 ghost use Rattle.reading_words.specs.Entry.{Placed};
 ghost use Rattle.reading_words.specs.Meet.{Input, Given, Marks};
 
@@ -40,7 +40,7 @@ const MOST_WRAPS: usize = 256;
 // Notes the wrap of `count` items that the closing bracket at i makes; the one before it is `last`.
 fn note_wrap(work: &mut [u32], i: usize, last: usize, count: u32)
     requires { last ≤ 4096 }
-    ensures { work.new ≡ withSep (withClose work.old i last) i count }
+    ensures { work.new ≡ with_sep (with_close work.old i last) i count }
 {
     set_close(work, i, last as u32);
     set_sep(work, i, count);
@@ -97,7 +97,7 @@ fn read_items(text: &[u8], tok: &[u32], n: usize, work: &mut [u32], tree: &mut [
 fn put_wrap(tok: &[u32], work: &[u32], tree: &mut [u32], at: usize, i: usize)
     requires placed { Placed tok.now work.now i }
     requires at_in_bounds { at + 13 ≤ length tree.old }
-    ensures { tree.new ≡ sets tree.old at (wrapWords (sepOf work.now i) (start_of tok.now work.now i) (len_of tok.now work.now i)) }
+    ensures { tree.new ≡ sets tree.old at (wrap_words (sep_of work.now i) (start_of tok.now work.now i) (len_of tok.now work.now i)) }
 {
     put1(tree, at, 0);
     put6(tree, at + 1, NODE_SIMPLE, 0, 0, 0, 0, 0);
@@ -117,7 +117,7 @@ fn put_wrap(tok: &[u32], work: &[u32], tree: &mut [u32], at: usize, i: usize)
 fn put_wraps(tok: &[u32], work: &[u32], n: usize, tree: &mut [u32], wraps: usize, last: usize)
     requires noted { Noted n tok.now work.now wraps last }
     requires wraps_in_bounds { 13 * wraps ≤ length tree.old }
-    ensures { (p : Noted n tok.now work.now wraps last) → tree.new ≡ sets tree.old 0 (wrapsWords tok.now work.now p.list) }
+    ensures { (p : Noted n tok.now work.now wraps last) → tree.new ≡ sets tree.old 0 (wraps_words tok.now work.now p.list) }
 {
     let mut i = last;
     let mut at = 0;
@@ -143,7 +143,7 @@ fn wrap_items(
     requires noted { Noted n tok.now work.now wraps last }
     requires wraps_bound { wraps ≤ 256 }
     requires wraps_in_bounds { end + 13 * wraps ≤ length tree.old }
-    ensures { (p : Noted n tok.now work.now wraps last) → take (end + 13 * wraps) tree.new ≡ wrapsWords tok.now work.now p.list ++ take end tree.old }
+    ensures { (p : Noted n tok.now work.now wraps last) → take (end + 13 * wraps) tree.new ≡ wraps_words tok.now work.now p.list ++ take end tree.old }
 {
     if wraps == 0 {
         return;

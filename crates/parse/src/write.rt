@@ -1,8 +1,8 @@
 // Words of the tree in the readers' buffer, which has room for all of them.
 ghost use Rattle.std.specs.Prelude.{◌≡◌, true, [], ◌∷◌, ◌+◌, ◌≤◌, length};
 ghost use Rattle.std.proofs.lemmas.List.Edits.{sets};
-ghost use Rattle.leaves.specs.Leaves.{nodeWords, leafEnds, leafWords};
-ghost use Rattle.nodes.specs.Nodes.{groupWords, matrixWords};
+ghost use Rattle.leaves.specs.Leaves.{node_words, leaf_ends, leaf_words};
+ghost use Rattle.nodes.specs.Nodes.{group_words, matrix_words};
 ghost use Rattle.parse.specs.Columns.{SplitReady, Splits};
 ghost use Rattle.parse.specs.Meet.{Gapped};
 
@@ -35,8 +35,8 @@ pub(crate) fn leaf(
     k: u32,
 ) -> Part
     requires { e + 6 ≤ length tree.old }
-    ensures value { result ≡ record { cur = c; end = e + 6; ends = leafEnds k } }
-    ensures tree_after { tree.new ≡ sets tree.old e (leafWords tok.now work.now i k) }
+    ensures value { result ≡ record { cur = c; end = e + 6; ends = leaf_ends k } }
+    ensures tree_after { tree.new ≡ sets tree.old e (leaf_words tok.now work.now i k) }
 {
     put_leaf(tok, work, tree, e, i, k);
     Part {
@@ -59,7 +59,7 @@ pub(crate) fn node_before(
 ) -> Part
     requires { e + 6 ≤ length tree.old }
     ensures value { result ≡ record { cur = g.cur; end = g.end; ends = true } }
-    ensures tree_after { tree.new ≡ sets tree.old e (nodeWords tok.now work.now i kind extra) }
+    ensures tree_after { tree.new ≡ sets tree.old e (node_words tok.now work.now i kind extra) }
 {
     put_node(tok, work, tree, e, kind, i, extra);
     let gc = g.cur;
@@ -82,7 +82,7 @@ pub(crate) fn put_group(
     count: u32,
 )
     requires { e + 6 ≤ length tree.old }
-    ensures { tree.new ≡ sets tree.old e (groupWords tok.now work.now n i j count) }
+    ensures { tree.new ≡ sets tree.old e (group_words tok.now work.now n i j count) }
 {
     nodes::put_group(tok, work, n, tree, e, i, j, count);
 }
@@ -101,7 +101,7 @@ pub(crate) fn put_matrix(
     requires cells_bound { split.cells ≤ 4096 }
     requires cols_bound { split.cols ≤ 4096 }
     requires lines_bound { split.lines ≤ 4096 }
-    ensures { tree.new ≡ sets tree.old e (matrixWords tok.now work.now i j split.cells split.cols split.lines) }
+    ensures { tree.new ≡ sets tree.old e (matrix_words tok.now work.now i j split.cells split.cols split.lines) }
 {
     nodes::put_matrix(
         tok,

@@ -5,18 +5,18 @@ use mathlib.Core.Path.{◌≡◌, refl}
 use mathlib.Core.List.{List}
 use mathlib.Core.Option.{none}
 use lib.ListN.{length}
-use Rattle.tokens.specs.Refusals.{entryWords}
-use Rattle.parse.specs.Call.{parseRefusal, parseRefusalBy}
+use Rattle.tokens.specs.Refusals.{entry_words}
+use Rattle.parse.specs.Call.{parse_refusal, parse_refusal_by}
 use Rattle.parse.proofs.Calls.{text-read}
-use Rattle.print.specs.Call.{printedText, printedTextBy}
+use Rattle.print.specs.Call.{printed_text, printed_text_by}
 
-pub half-as-four-print : (text table work₄ work tree out : List ℕ)
-    → parseRefusalBy 4 text (length table) (length work₄) (length tree) ≡ none
-    → parseRefusal text (length table) (length work) (length tree) ≡ none
-    → ((printedTextBy 4 text table work₄ tree out).0 ≡ (printedText text table work tree out).0)
-    × ((printedTextBy 4 text table work₄ tree out).1 ≡ (printedText text table work tree out).1)
-    × ((printedTextBy 4 text table work₄ tree out).3 ≡ (printedText text table work tree out).3)
-    × ((printedTextBy 4 text table work₄ tree out).4 ≡ (printedText text table work tree out).4)
-unfolding printedTextBy
-half-as-four-print text table work₄ work tree out a b =
-    rw (text-read 4 text table work₄ tree a, text-read entryWords text table work tree b) (refl, refl, refl, refl)
+pub half_as_four_print : (text table work₄ work tree out : List ℕ)
+    → parse_refusal_by 4 text (length table) (length work₄) (length tree) ≡ none
+    → parse_refusal text (length table) (length work) (length tree) ≡ none
+    → ((printed_text_by 4 text table work₄ tree out).0 ≡ (printed_text text table work tree out).0)
+    × ((printed_text_by 4 text table work₄ tree out).1 ≡ (printed_text text table work tree out).1)
+    × ((printed_text_by 4 text table work₄ tree out).3 ≡ (printed_text text table work tree out).3)
+    × ((printed_text_by 4 text table work₄ tree out).4 ≡ (printed_text text table work tree out).4)
+unfolding printed_text_by
+half_as_four_print text table work₄ work tree out a b =
+    rw (text-read 4 text table work₄ tree a, text-read entry_words text table work tree b) (refl, refl, refl, refl)

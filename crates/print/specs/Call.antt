@@ -1,9 +1,9 @@
 -- The call that prints a text's tree: what it answers, and what it leaves in the lent buffers.
 use Rattle.std.specs.Prelude.{List, [], ◌∷◌, ℕ, length}
 use Rattle.lexing.specs.Rules.{tokens}
-use Rattle.tokens.specs.Refusals.{Answer, accepted, refused, entryWords, bit}
-use Rattle.reading.specs.Reading.{readText, blank}
-use Rattle.parse.specs.Call.{parsedTextBy}
+use Rattle.tokens.specs.Refusals.{Answer, accepted, refused, entry_words, bit}
+use Rattle.reading.specs.Reading.{read_text, blank}
+use Rattle.parse.specs.Call.{parsed_text_by}
 use Rattle.line.specs.Print.{printed}
 use Rattle.printer.specs.Call.{fitted}
 use Rattle.print.specs.declared.Printed.{Printed}
@@ -15,13 +15,13 @@ answer_of (Whole len takes blank) = accepted (len ∷ takes ∷ bit blank ∷ []
 answer_of (Refused k) = refused k
 
 -- "the whole print, first line included", of a text that is read
-unfoldable pub printOf : List ℕ → List ℕ
-printOf text = let r = readText text in printed (length text) (length (tokens text)) r.takes r.tree
+unfoldable pub print_of : List ℕ → List ℕ
+print_of text = let r = read_text text in printed (length text) (length (tokens text)) r.takes r.tree
 
 -- What is answered with it: its length, takes, and "blank".
 unfoldable pub values : List ℕ → List ℕ
 values text =
-    let r = readText text in length (printOf text) ∷ r.takes ∷ bit (blank text r.tree) ∷ []
+    let r = read_text text in length (print_of text) ∷ r.takes ∷ bit (blank text r.tree) ∷ []
 
 -- "For text: 1, 2, 7, 8, 9, 10": the first five are those of the call that reads a text (crates/parse/specs/Call.antt), and its
 -- buffers are left as it leaves them: p is what it answers and leaves. 10 is tested after them: `fitted`
@@ -32,13 +32,13 @@ printing text out p =
     elim p.0 [
       | refused k ↦ (refused k, p.1, p.2, p.3, out)
       | accepted read ↦
-          let f = fitted (printOf text) out in
+          let f = fitted (print_of text) out in
           (elim f.0 [ refused k ↦ refused k | accepted len ↦ accepted (values text) ], p.1, p.2, p.3, f.1)
     ]
 
 -- By the words of work that an entry has, as crates/parse/specs/Call.antt.
-unfoldable pub printedTextBy : ℕ → List ℕ → List ℕ → List ℕ → List ℕ → List ℕ → Answer × List ℕ × List ℕ × List ℕ × List ℕ
-printedTextBy words text table work tree out = printing text out (parsedTextBy words text table work tree)
+unfoldable pub printed_text_by : ℕ → List ℕ → List ℕ → List ℕ → List ℕ → List ℕ → Answer × List ℕ × List ℕ × List ℕ × List ℕ
+printed_text_by words text table work tree out = printing text out (parsed_text_by words text table work tree)
 
-abbrev pub printedText : List ℕ → List ℕ → List ℕ → List ℕ → List ℕ → Answer × List ℕ × List ℕ × List ℕ × List ℕ
-printedText text table work tree out = printedTextBy entryWords text table work tree out
+abbrev pub printed_text : List ℕ → List ℕ → List ℕ → List ℕ → List ℕ → Answer × List ℕ × List ℕ × List ℕ × List ℕ
+printed_text text table work tree out = printed_text_by entry_words text table work tree out

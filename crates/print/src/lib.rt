@@ -1,6 +1,6 @@
 // The printed tree of document 01: the call that reads a text and prints its tree.
 ghost use Rattle.std.specs.Prelude.{◌≡◌};
-ghost use Rattle.print.specs.Call.{answer_of, printedText};
+ghost use Rattle.print.specs.Call.{answer_of, printed_text};
 
 use parse::{Parsed, parse};
 use printer::{Fitted, print_tree};
@@ -23,7 +23,7 @@ pub fn print(
     out: &mut [u8],
 ) -> Printed
     ensures { (answer_of result, table.new, work.new, tree.new, out.new)
-        ≡ printedText text.now table.old work.old tree.old out.old }
+        ≡ printed_text text.now table.old work.old tree.old out.old }
 {
     match parse(text, table, work, tree) {
         Parsed::Refused(k) => Printed::Refused(k),

@@ -11,18 +11,18 @@ use lib.ListN.{length, drop, length-append, length-drop}
 use lib.Seq.{drop-drop, drop-append_seam}
 use Rattle.tree.specs.declared.walk.Opened.{Opened}
 use Rattle.tree.specs.Tree.{Head, Node, node, Nodes, end, ◌▸◌, count}
-use Rattle.tree.specs.Words.{tailWords, ofItems, encode, encodeItems}
+use Rattle.tree.specs.Words.{tail_words, of_items, encode, encode_items}
 use Rattle.tree.specs.WellFormed.{WellFormed}
-use Rattle.tree.specs.Walk.{rowWords, nodeWords, placed_at, past_of}
+use Rattle.tree.specs.Walk.{row_words, node_words, placed_at, past_of}
 use Rattle.tree.specs.Laid.{Laids}
 use Rattle.tree.specs.Visits.{Visit, visits}
-use Rattle.tree.proofs.Laid.{expression-laid}
+use Rattle.tree.proofs.Laid.{expression_laid}
 use Rattle.tree.proofs.Steps.{step-within}
 use Rattle.tree.proofs.Opens.{Opens, opens}
 use Rattle.line.specs.Print.{line, lines, first, printed}
 use Rattle.line.proofs.Heads.{line-of}
 use Rattle.printer.specs.Rows.{Row, row_of}
-use Rattle.printer.specs.Call.{printWords}
+use Rattle.printer.specs.Call.{print_words}
 use Rattle.printer.proofs.Walks.{row-none, row-node}
 
 -- the lines of two runs of visits
@@ -39,17 +39,17 @@ unfolding lines visits
 row-lines depth h l m =
     rw add-one (ap (λ (y : List ℕ). line (record { depth = depth; head = h; children = count l }) ++ y) (sym (lines-append (visits (suc depth) l) (visits depth m))))
 
-row_words : (items : Bool) (x : Node) (l : Nodes) → rowWords items (x ▸ l) ≡ nodeWords items x ++ rowWords items l
+row_words_lem : (items : Bool) (x : Node) (l : Nodes) → row_words items (x ▸ l) ≡ node_words items x ++ row_words items l
 unfolding encode
-row_words true x l = refl
-row_words false x l = refl
+row_words_lem true x l = refl
+row_words_lem false x l = refl
 
 -- the row of a tree's nodes is their lines, and ends behind their words
 module _ (words : List ℕ) where
   abbrev RowPrinted : Nodes → Type 0
   RowPrinted l =
-      (at : ℕ) (items : Bool) (depth : ℕ) (rest : List ℕ) → Laids l → drop at words ≡ rowWords items l ++ rest →
-      row_of words at (count l) items depth ≡ record { lines = lines (visits depth l); end = at + length (rowWords items l) }
+      (at : ℕ) (items : Bool) (depth : ℕ) (rest : List ℕ) → Laids l → drop at words ≡ row_words items l ++ rest →
+      row_of words at (count l) items depth ≡ record { lines = lines (visits depth l); end = at + length (row_words items l) }
 
   abbrev BelowPrinted : Node → Type 0
   BelowPrinted (node h l) = RowPrinted l
@@ -61,22 +61,22 @@ module _ (words : List ℕ) where
 
   node-printed : (x : Node) (m : Nodes) → BelowPrinted x → RowPrinted m → RowPrinted (x ▸ m)
   node-printed (node h l) m p q at items depth rest c e =
-      let own : List ℕ = nodeWords items (node h l) in
-      let row : drop at words ≡ own ++ (rowWords items m ++ rest) = e ∙ rw (row_words items (node h l) m, append_assoc) in
+      let own : List ℕ = node_words items (node h l) in
+      let row : drop at words ≡ own ++ (row_words items m ++ rest) = e ∙ rw (row_words_lem items (node h l) m, append_assoc) in
       let o : Opened = placed_at words at items in
-      let k : Opens words at items h l (rowWords items m ++ rest) o = opens words at items h l (rowWords items m ++ rest) c.0 row in
+      let k : Opens words at items h l (row_words items m ++ rest) o = opens words at items h l (row_words items m ++ rest) c.0 row in
       let i = step-within words at items o (sym k.found) in
-      let below : row_of words o.from o.count o.items (depth + 1) ≡ record { lines = lines (visits (depth + 1) l); end = o.from + length (rowWords (ofItems h) l) } =
-      rw (k.many, k.sort) (p o.from (ofItems h) (depth + 1) (tailWords h ++ (rowWords items m ++ rest)) c.0.1.1 k.row) in
-      let long : length words - at ≡ length own + length (rowWords items m ++ rest) =
-      sym (length-drop at words) ∙ ap length row ∙ length-append own (rowWords items m ++ rest) in
-      let on : past_of (length words) (o.from + length (rowWords (ofItems h) l)) o.tail ≡ at + length own = omega (arith, k.tail, k.next) in
-      let here : drop (at + length own) words ≡ rowWords items m ++ rest = sym (drop-drop (length own) at words) ∙ ap (drop (length own)) row ∙ drop-append_seam own (rowWords items m ++ rest) in
+      let below : row_of words o.from o.count o.items (depth + 1) ≡ record { lines = lines (visits (depth + 1) l); end = o.from + length (row_words (of_items h) l) } =
+      rw (k.many, k.sort) (p o.from (of_items h) (depth + 1) (tail_words h ++ (row_words items m ++ rest)) c.0.1.1 k.row) in
+      let long : length words - at ≡ length own + length (row_words items m ++ rest) =
+      sym (length-drop at words) ∙ ap length row ∙ length-append own (row_words items m ++ rest) in
+      let on : past_of (length words) (o.from + length (row_words (of_items h) l)) o.tail ≡ at + length own = omega (arith, k.tail, k.next) in
+      let here : drop (at + length own) words ≡ row_words items m ++ rest = sym (drop-drop (length own) at words) ∙ ap (drop (length own)) row ∙ drop-append_seam own (row_words items m ++ rest) in
       let behind = q (at + length own) items depth rest c.1 here in
-      let sizes : length (rowWords items (node h l ▸ m)) ≡ length own + length (rowWords items m) =
-      ap length (row_words items (node h l) m) ∙ length-append own (rowWords items m) in
-      let far : at + length own + length (rowWords items m) ≡ at + length (rowWords items (node h l ▸ m)) = omega arith in
-      let text = line-of words at items l (rowWords items m ++ rest) o depth h c.0.1.0 k in
+      let sizes : length (row_words items (node h l ▸ m)) ≡ length own + length (row_words items m) =
+      ap length (row_words_lem items (node h l) m) ∙ length-append own (row_words items m) in
+      let far : at + length own + length (row_words items m) ≡ at + length (row_words items (node h l ▸ m)) = omega arith in
+      let text = line-of words at items l (row_words items m ++ rest) o depth h c.0.1.0 k in
       let one : suc (count m) - 1 ≡ count m = omega arith in
       row-node words at (suc (count m)) items depth o (omega arith) (sym k.found)
       ∙ rw (one, below, on, behind, far, text, row-lines depth h l m)
@@ -90,7 +90,7 @@ module _ (words : List ℕ) where
     below-printed (node h l) = row-printed l
 
 -- Of the words of a well-formed tree, whatever stands behind them, the print is the printed tree of document 01.
-pub tree-printed : (words : List ℕ) (text tokens takes : ℕ) (tree : Nodes) (rest : List ℕ) → WellFormed tree → words ≡ encodeItems tree ++ rest →
-    printWords words text tokens takes (count tree) ≡ printed text tokens takes tree
-unfolding printWords printed
-tree-printed words text tokens takes tree rest f e = ap (λ (r : Row). first text tokens takes (count tree) ++ r.lines) (row-printed words tree 0 true 0 rest (expression-laid f) e)
+pub tree-printed : (words : List ℕ) (text tokens takes : ℕ) (tree : Nodes) (rest : List ℕ) → WellFormed tree → words ≡ encode_items tree ++ rest →
+    print_words words text tokens takes (count tree) ≡ printed text tokens takes tree
+unfolding print_words printed
+tree-printed words text tokens takes tree rest f e = ap (λ (r : Row). first text tokens takes (count tree) ++ r.lines) (row-printed words tree 0 true 0 rest (expression_laid f) e)

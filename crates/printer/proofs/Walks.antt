@@ -7,93 +7,93 @@ use native.Mathlib.Omega.{arith}
 use lib.ListN.{length}
 use lib.Dec.{eqb}
 use borrow.Author.Tests.{eqb-true}
-use Rattle.tokens.proofs.Cases.{by-test, clash}
+use Rattle.tokens.proofs.Cases.{by_test, clash}
 use Rattle.tree.specs.declared.walk.Opened.{Opened}
 use Rattle.tree.specs.declared.walk.Step.{Step}
 use Rattle.tree.specs.declared.walk.Step.TheVariants.{Node, End}
-use Rattle.tree.specs.Walk.{stepAt, past_of}
+use Rattle.tree.specs.Walk.{step_at, past_of}
 use Rattle.tree.proofs.Steps.{step-within, step_end}
 use Rattle.printer.specs.declared.row.Reached.{Reached}
 use Rattle.writer.specs.Put.{Put, most}
 use Rattle.line.specs.Lines.{line_of}
-use Rattle.printer.specs.Rows.{Row, RowPut, no_row, nodeRow, last_of, rowWithin, row_of}
+use Rattle.printer.specs.Rows.{Row, RowPut, no_row, node_row, last_of, row_within, row_of}
 use Rattle.writer.proofs.Puts.{none, then, put_as}
 
-by-step : {A : Type 0} (s : Step) → (s ≡ End → A) → ((o : Opened) → s ≡ Node o → A) → A
-by-step End f g = f refl
-by-step (Node o) f g = g o refl
+by_step : {A : Type 0} (s : Step) → (s ≡ End → A) → ((o : Opened) → s ≡ Node o → A) → A
+by_step End f g = f refl
+by_step (Node o) f g = g o refl
 
 module _ (words : List ℕ) where
   -- the row behind a node, where the row below it ends
-  abbrev behindOf : ℕ → Opened → ℕ → ℕ → Bool → ℕ → Row
-  behindOf f o end n items depth = rowWithin f words (past_of (length words) end o.tail) n items depth
+  abbrev behind_of : ℕ → Opened → ℕ → ℕ → Bool → ℕ → Row
+  behind_of f o end n items depth = row_within f words (past_of (length words) end o.tail) n items depth
 
-  abbrev belowOf : ℕ → Opened → ℕ → Row
-  belowOf f o depth = rowWithin f words o.from o.count o.items (depth + 1)
+  abbrev below_of : ℕ → Opened → ℕ → Row
+  below_of f o depth = row_within f words o.from o.count o.items (depth + 1)
 
   module _ (at : ℕ) (items : Bool) (depth : ℕ) where
-    none_within : (f : ℕ) → rowWithin f words at 0 items depth ≡ no_row at
-    unfolding rowWithin
+    none_within : (f : ℕ) → row_within f words at 0 items depth ≡ no_row at
+    unfolding row_within
     none_within zero = refl
     none_within (suc f) = refl
 
-    end-within : (f n : ℕ) → stepAt words at items ≡ End → rowWithin f words at n items depth ≡ no_row at
-    unfolding rowWithin
+    end-within : (f n : ℕ) → step_at words at items ≡ End → row_within f words at n items depth ≡ no_row at
+    unfolding row_within
     end-within zero n e = refl
     end-within (suc f) zero e = refl
-    end-within (suc f) (suc n) e = rw (e, rowWithin)
+    end-within (suc f) (suc n) e = rw (e, row_within)
 
-    node-within : (f n : ℕ) (o : Opened) → stepAt words at items ≡ Node o →
-        rowWithin (suc f) words at (suc n) items depth
-        ≡ nodeRow words o depth (belowOf f o depth) (behindOf f o (belowOf f o depth).end n items depth)
-    unfolding rowWithin
-    node-within f n o e = rw (e, rowWithin)
+    node-within : (f n : ℕ) (o : Opened) → step_at words at items ≡ Node o →
+        row_within (suc f) words at (suc n) items depth
+        ≡ node_row words o depth (below_of f o depth) (behind_of f o (below_of f o depth).end n items depth)
+    unfolding row_within
+    node-within f n o e = rw (e, row_within)
 
-  least-within : (f at n : ℕ) (items : Bool) (depth : ℕ) → at ≤ (rowWithin f words at n items depth).end
-  unfolding rowWithin
+  least-within : (f at n : ℕ) (items : Bool) (depth : ℕ) → at ≤ (row_within f words at n items depth).end
+  unfolding row_within
   least-within zero at n items depth = omega arith
   least-within (suc f) at zero items depth = omega arith
   least-within (suc f) at (suc n) items depth =
-      by-step (stepAt words at items)
+      by_step (step_at words at items)
       (λ e. rw (end-within at items depth (suc f) (suc n) e) (omega arith))
       (λ o e.
       let i = step-within words at items o (sym e) in
-      let b : ℕ = (belowOf f o depth).end in
+      let b : ℕ = (below_of f o depth).end in
       let l : o.from ≤ b = least-within f o.from o.count o.items (depth + 1) in
-      let m : past_of (length words) b o.tail ≤ (behindOf f o b n items depth).end = least-within f (past_of (length words) b o.tail) n items depth in
+      let m : past_of (length words) b o.tail ≤ (behind_of f o b n items depth).end = least-within f (past_of (length words) b o.tail) n items depth in
       rw (node-within at items depth f n o e) (omega arith))
 
-  upto-within : (f at n : ℕ) (items : Bool) (depth : ℕ) → at ≤ length words → (rowWithin f words at n items depth).end ≤ length words
-  unfolding rowWithin
+  upto-within : (f at n : ℕ) (items : Bool) (depth : ℕ) → at ≤ length words → (row_within f words at n items depth).end ≤ length words
+  unfolding row_within
   upto-within zero at n items depth h = h
   upto-within (suc f) at zero items depth h = h
   upto-within (suc f) at (suc n) items depth h =
-      by-step (stepAt words at items)
+      by_step (step_at words at items)
       (λ e. rw (end-within at items depth (suc f) (suc n) e) h)
       (λ o e.
       rw (node-within at items depth f n o e)
-      (upto-within f (past_of (length words) (belowOf f o depth).end o.tail) n items depth (omega arith)))
+      (upto-within f (past_of (length words) (below_of f o depth).end o.tail) n items depth (omega arith)))
 
   -- a bound that is no less than the words that are left is large enough
   enough : (f g at n : ℕ) (items : Bool) (depth : ℕ) → length words ≤ at + f → length words ≤ at + g →
-      rowWithin f words at n items depth ≡ rowWithin g words at n items depth
-  unfolding rowWithin
+      row_within f words at n items depth ≡ row_within g words at n items depth
+  unfolding row_within
   enough zero g at n items depth h k = sym (end-within at items depth g n (sym (step_end words at items (omega arith))))
   enough (suc f) zero at n items depth h k = end-within at items depth (suc f) n (sym (step_end words at items (omega arith)))
   enough (suc f) (suc g) at zero items depth h k = refl
   enough (suc f) (suc g) at (suc n) items depth h k =
-      by-step (stepAt words at items)
+      by_step (step_at words at items)
       (λ e. end-within at items depth (suc f) (suc n) e ∙ sym (end-within at items depth (suc g) (suc n) e))
       (λ o e.
       let i = step-within words at items o (sym e) in
-      let b : ℕ = (belowOf g o depth).end in
+      let b : ℕ = (below_of g o depth).end in
       let l : o.from ≤ b = least-within g o.from o.count o.items (depth + 1) in
-      let below : belowOf f o depth ≡ belowOf g o depth = enough f g o.from o.count o.items (depth + 1) (omega arith) (omega arith) in
-      let behind : behindOf f o b n items depth ≡ behindOf g o b n items depth =
+      let below : below_of f o depth ≡ below_of g o depth = enough f g o.from o.count o.items (depth + 1) (omega arith) (omega arith) in
+      let behind : behind_of f o b n items depth ≡ behind_of g o b n items depth =
       enough f g (past_of (length words) b o.tail) n items depth (omega arith) (omega arith) in
       node-within at items depth f n o e
-      ∙ ap (λ (r : Row). nodeRow words o depth r (behindOf f o r.end n items depth)) below
-      ∙ ap (nodeRow words o depth (belowOf g o depth)) behind
+      ∙ ap (λ (r : Row). node_row words o depth r (behind_of f o r.end n items depth)) below
+      ∙ ap (node_row words o depth (below_of g o depth)) behind
       ∙ sym (node-within at items depth g n o e))
 
   module _ (at n : ℕ) (items : Bool) (depth : ℕ) where
@@ -109,25 +109,25 @@ module _ (words : List ℕ) where
     unfolding row_of
     row-none z = let e : n ≡ 0 = omega arith in rw e (none_within at items depth (length words))
 
-    pub row-end : End ≡ stepAt words at items → row_of words at n items depth ≡ no_row at
+    pub row-end : End ≡ step_at words at items → row_of words at n items depth ≡ no_row at
     unfolding row_of
     row-end e = end-within at items depth (length words) n (sym e)
 
-    pub row-node : (o : Opened) → 0 < n → Node o ≡ stepAt words at items →
+    pub row-node : (o : Opened) → 0 < n → Node o ≡ step_at words at items →
         row_of words at n items depth
         ≡ (let below = row_of words o.from o.count o.items (depth + 1) in
-        nodeRow words o depth below (row_of words (past_of (length words) below.end o.tail) (n - 1) items depth))
+        node_row words o depth below (row_of words (past_of (length words) below.end o.tail) (n - 1) items depth))
     unfolding row_of
     row-node o z e =
         let s : n ≡ suc (n - 1) = omega arith in
         enough (length words) (suc (length words)) at n items depth (omega arith) (omega arith)
-        ∙ ap (λ (k : ℕ). rowWithin (suc (length words)) words at k items depth) s
+        ∙ ap (λ (k : ℕ). row_within (suc (length words)) words at k items depth) s
         ∙ node-within at items depth (length words) (n - 1) o (sym e)
 
 -- a node that is the last of its row
 is_last : (left tail : ℕ) → last_of left tail ≡ true → (left ≡ 1) × (tail ≡ 0)
 is_last left tail e =
-    let one : left ≡ 1 = by-test (eqb left 1) (eqb-true left 1) (λ f. clash (last_of left tail) e (rw f)) in
+    let one : left ≡ 1 = by_test (eqb left 1) (eqb-true left 1) (λ f. clash (last_of left tail) e (rw f)) in
     (one, eqb-true tail 0 (rw one at e))
 
 -- Midway through a row: lines of it are put, and those of the nodes that are left, at a depth of their own, are the others.
@@ -165,11 +165,11 @@ module _ {words before : List ℕ} {from place : ℕ} {row : Row} {out : List �
   done z = closed (row-none words at left items depth z)
 
   -- no node is there though one is left
-  pub cut : End ≡ stepAt words at items → RowPut before place row out (record { at = at; end = to })
+  pub cut : End ≡ step_at words at items → RowPut before place row out (record { at = at; end = to })
   cut e = closed (row-end words at left items depth e)
 
   -- one node more, whose line is put
-  module _ {o : Opened} {out₁ : List ℕ} {to₁ : ℕ} (e : Node o ≡ stepAt words at items) (p : Put out to out₁ to₁ (line_of words o depth)) where
+  module _ {o : Opened} {out₁ : List ℕ} {to₁ : ℕ} (e : Node o ≡ step_at words at items) (p : Put out to out₁ to₁ (line_of words o depth)) where
     abbrev below : Row
     below = row_of words o.from o.count o.items (depth + 1)
 
@@ -182,7 +182,7 @@ module _ {words before : List ℕ} {from place : ℕ} {row : Row} {out : List �
         let b : below.end ≤ length words = upto words o.from o.count o.items (depth + 1) i.upto in
         let here : past_of (length words) below.end o.tail ≡ below.end = omega arith in
         let none : row_of words (past_of (length words) below.end o.tail) (left - 1) items depth ≡ no_row below.end = row-none words _ (left - 1) items depth (omega arith) ∙ ap no_row here in
-        let all : row_of words at left items depth ≡ nodeRow words o depth below (no_row below.end) = n ∙ ap (nodeRow words o depth below) none in
+        let all : row_of words at left items depth ≡ node_row words o depth below (no_row below.end) = n ∙ ap (node_row words o depth below) none in
         record {
           least = omega (arith, w.least);
           upto = i.upto;
@@ -214,8 +214,8 @@ module _ {words before : List ℕ} {from place : ℕ} {row : Row} {out : List �
         let b : o.from ≤ below.end = least words o.from o.count o.items (depth + 1) in
         let here : past_of (length words) below.end o.tail ≡ at₂ = ap (λ (k : ℕ). past_of (length words) k o.tail) (sym q.end) ∙ sym g in
         let behind : Row = row_of words at₂ (left - 1) items depth in
-        let all : row_of words at left items depth ≡ nodeRow words o depth below behind =
-        n ∙ ap (λ (k : ℕ). nodeRow words o depth below (row_of words k (left - 1) items depth)) here in
+        let all : row_of words at left items depth ≡ node_row words o depth below behind =
+        n ∙ ap (λ (k : ℕ). node_row words o depth below (row_of words k (left - 1) items depth)) here in
         record {
           least = omega (arith, w.least, q.end);
           upto = omega arith;

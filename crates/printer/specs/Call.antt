@@ -1,7 +1,7 @@
 -- The call that prints the words of a tree: its bytes, what it answers, and what it leaves in the lent buffer.
 use Rattle.std.specs.Prelude.{ℕ, true, List, [], ◌∷◌, ◌++◌}
 use Rattle.tokens.specs.Refusals.{Answer, accepted, refused}
-use Rattle.writer.specs.Fitted.{fittedBy}
+use Rattle.writer.specs.Fitted.{fitted_by}
 use Rattle.line.specs.Print.{first}
 use Rattle.printer.specs.declared.Fitted.{Fitted}
 use Rattle.printer.specs.declared.Fitted.TheVariants.{Whole, Refused}
@@ -13,10 +13,10 @@ answer_of (Whole len) = accepted (len ∷ [])
 answer_of (Refused k) = refused k
 
 -- The first line, then the root's items: for any words. Of a tree's words it is its printed tree (proofs/Printing.antt, tree-printed).
-unfoldable pub printWords : List ℕ → ℕ → ℕ → ℕ → ℕ → List ℕ
-printWords words text tokens takes items = first text tokens takes items ++ (row_of words 0 items true 0).lines
+unfoldable pub print_words : List ℕ → ℕ → ℕ → ℕ → ℕ → List ℕ
+print_words words text tokens takes items = first text tokens takes items ++ (row_of words 0 items true 0).lines
 
 -- "10 print buffer shorter than the whole print, first line included", which "leaves the print buffer unchanged"; else the print, its
 -- length answered, and "print bytes past the print unchanged".
 abbrev pub fitted : List ℕ → List ℕ → Answer × List ℕ
-fitted print out = fittedBy 10 print out
+fitted print out = fitted_by 10 print out

@@ -4,7 +4,7 @@ mod row;
 ghost use Rattle.std.specs.Prelude.{◌≡◌};
 ghost use Rattle.writer.specs.Put.{Put};
 ghost use Rattle.line.specs.Print.{first};
-ghost use Rattle.printer.specs.Call.{answer_of, printWords, fitted};
+ghost use Rattle.printer.specs.Call.{answer_of, print_words, fitted};
 
 use row::put_row;
 use writer::{put_bytes, put_number};
@@ -37,7 +37,7 @@ fn put_tree(
     takes: u64,
     items: usize,
 ) -> usize
-    ensures { Put out.old 0 out.new result (printWords words.now text tokens takes items) }
+    ensures { Put out.old 0 out.new result (print_words words.now text tokens takes items) }
 {
     let end = put_first(out, text, tokens, takes, items);
     let r = put_row(words, out, 0, end, items, true, 0);
@@ -54,7 +54,7 @@ pub fn print_tree(
     takes: u64,
     items: usize,
 ) -> Fitted
-    ensures { (answer_of result, out.new) ≡ fitted (printWords words.now text tokens takes items) out.old }
+    ensures { (answer_of result, out.new) ≡ fitted (print_words words.now text tokens takes items) out.old }
 {
     let mut probe = [0u8; 1];
     let need = put_tree(words, &mut probe, text, tokens, takes, items);

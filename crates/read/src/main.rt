@@ -1,6 +1,6 @@
 // The program: reads a text from standard input and prints its tree.
 ghost use Rattle.std.specs.Prelude.{◌≡◌, ◌≤◌, ◌<◌, length};
-ghost use Rattle.read.specs.Reply.{Written, printRoom, replyTo};
+ghost use Rattle.read.specs.Reply.{Written, print_room, reply_to};
 
 use print::Printed;
 use read_input::{Input, MOST, read_input};
@@ -8,8 +8,8 @@ use read_output::{put_refusal, write_answer};
 
 // What the program writes for a text, first in `out`; how many bytes. The buffers are long enough for any text of MOST bytes.
 fn reply(text: &[u8], out: &mut [u8]) -> usize
-    requires { length out.old ≡ printRoom }
-    ensures { Written (replyTo text.now) out.new result }
+    requires { length out.old ≡ print_room }
+    ensures { Written (reply_to text.now) out.new result }
 {
     if MOST < text.len() {
         return put_refusal(out, 1);

@@ -28,14 +28,14 @@ entries space (t ∷ ts) =
 
 -- Entry's `close`: how many entries on the CloseBracket stands that closes a bracket, `depth` others being closed before it.
 -- Brackets are matched by OpenBracket and CloseBracket alone, whatever their texts.
-unfoldable pub closeAfter : ℕ → List Entry → Option ℕ
-closeAfter depth [] = none
-closeAfter depth (e ∷ es) =
+unfoldable pub close_after : ℕ → List Entry → Option ℕ
+close_after depth [] = none
+close_after depth (e ∷ es) =
     elim (is token.OpenBracket e) [
-      | true ↦ further (closeAfter (suc depth) es)
+      | true ↦ further (close_after (suc depth) es)
       | false ↦ elim (is token.CloseBracket e) [
-        | true ↦ elim depth [ zero ↦ some zero | suc d ↦ further (closeAfter d es) ]
-        | false ↦ further (closeAfter depth es)
+        | true ↦ elim depth [ zero ↦ some zero | suc d ↦ further (close_after d es) ]
+        | false ↦ further (close_after depth es)
       ]
     ]
   where
@@ -44,13 +44,13 @@ closeAfter depth (e ∷ es) =
     further (some n) = some (suc n)
 
 -- Entry's `has_sep`: whether a Sep stands directly in the bracket, not in one inside it.
-unfoldable pub hasSep : ℕ → List Entry → Bool
-hasSep depth [] = false
-hasSep depth (e ∷ es) =
+unfoldable pub has_sep : ℕ → List Entry → Bool
+has_sep depth [] = false
+has_sep depth (e ∷ es) =
     elim (is token.OpenBracket e) [
-      | true ↦ hasSep (suc depth) es
+      | true ↦ has_sep (suc depth) es
       | false ↦ elim (is token.CloseBracket e) [
-        | true ↦ elim depth [ zero ↦ false | suc d ↦ hasSep d es ]
-        | false ↦ (is token.Sep e && eqb depth zero) || hasSep depth es
+        | true ↦ elim depth [ zero ↦ false | suc d ↦ has_sep d es ]
+        | false ↦ (is token.Sep e && eqb depth zero) || has_sep depth es
       ]
     ]

@@ -11,7 +11,7 @@ use Rattle.tokens.specs.Bytes.{same}
 use Rattle.lexing.specs.Rules.{tokens}
 use Rattle.tree.specs.Tree.{nowhere, Script, Head, Atom, Prefix, Node, node, Nodes, end, ◌▸◌, ◌⧺◌, count, leaf, one}
 use Rattle.reading.specs.Stop.{Stop}
-use Rattle.reading.specs.Entries.{Entry, is, entries, closeAfter, hasSep}
+use Rattle.reading.specs.Entries.{Entry, is, entries, close_after, has_sep}
 
 -- whether the entry is the token that the reader stops at
 unfoldable pub stops : Stop → Entry → Bool
@@ -23,8 +23,8 @@ stops Stop.sep e = is token.Sep e
 unfoldable pub any : Entry → Bool
 any e = true
 
-unfoldable pub marksScript : Entry → Bool
-marksScript e = is token.Super e || is token.Sub e
+unfoldable pub marks_script : Entry → Bool
+marks_script e = is token.Super e || is token.Sub e
 
 unfoldable pub heads : Bool → Entry → Bool
 heads prefixSign e = is token.Function e || (prefixSign && is token.Sign e)
@@ -42,14 +42,14 @@ pub record State : Type 0 where
 
 -- a mark of failed_opens, by the stop, or of failed_matrices
 pub data Mark : Type 0 where
-  openMark : Stop → Mark
-  matrixMark : Mark
+  open_mark : Stop → Mark
+  matrix_mark : Mark
 
 -- "An open mark is separate for the stops "none" and Sep."
 unfoldable pub slot : Mark → ℕ → ℕ
-slot (openMark Stop.none) i = 3 * i
-slot (openMark Stop.sep) i = 3 * i + 1
-slot matrixMark i = 3 * i + 2
+slot (open_mark Stop.none) i = 3 * i
+slot (open_mark Stop.sep) i = 3 * i + 1
+slot matrix_mark i = 3 * i + 2
 
 -- A reader: from a state to an answer and the state after it.
 abbrev pub M : Type 0 → Type 0
@@ -88,38 +88,38 @@ pub data Try : Type 0 where
 -- The two readers that call one another back, next_simple and next_script_func.
 pub record Readers : Type 0 where
   pub simple : Stop → Bool → M (Option Node)
-  pub scriptFunc : Stop → Bool → M (Option Node)
+  pub script_func : Stop → Bool → M (Option Node)
 
 -- "an absent argument is Missing"
-abbrev pub orMissing : Option Node → Node
-orMissing none = leaf Head.missing
-orMissing (some a) = a
+abbrev pub or_missing : Option Node → Node
+or_missing none = leaf Head.missing
+or_missing (some a) = a
 
 -- a simple expression without a script
 abbrev pub unscripted : Node → Node
 unscripted a = one (Head.simple Script.none) a
 
 -- the same for an operand that is a scripted part
-abbrev pub orMissingPart : Option Node → Node
-orMissingPart none = unscripted (leaf Head.missing)
-orMissingPart (some a) = a
+abbrev pub or_missing_part : Option Node → Node
+or_missing_part none = unscripted (leaf Head.missing)
+or_missing_part (some a) = a
 
 -- simple_ends_operand for the nodes without children
-unfoldable pub atomEnds : Atom → Bool
-atomEnds Atom.number = true
-atomEnds Atom.text = true
-atomEnds Atom.ident = true
-atomEnds Atom.operator = false
-atomEnds Atom.sign = false
-atomEnds Atom.space = false
-atomEnds (Atom.symbol class.Glyph) = true
-atomEnds (Atom.symbol class.Name) = true
-atomEnds (Atom.symbol class.Joining) = false
-atomEnds (Atom.symbol class.JoiningName) = false
-atomEnds (Atom.symbol class.Leading) = false
-atomEnds (Atom.symbol class.LeadingName) = false
-atomEnds (Atom.symbol class.Space) = false
-atomEnds (Atom.symbol class.Separator) = false
+unfoldable pub atom_ends : Atom → Bool
+atom_ends Atom.number = true
+atom_ends Atom.text = true
+atom_ends Atom.ident = true
+atom_ends Atom.operator = false
+atom_ends Atom.sign = false
+atom_ends Atom.space = false
+atom_ends (Atom.symbol class.Glyph) = true
+atom_ends (Atom.symbol class.Name) = true
+atom_ends (Atom.symbol class.Joining) = false
+atom_ends (Atom.symbol class.JoiningName) = false
+atom_ends (Atom.symbol class.Leading) = false
+atom_ends (Atom.symbol class.LeadingName) = false
+atom_ends (Atom.symbol class.Space) = false
+atom_ends (Atom.symbol class.Separator) = false
 
 -- whether a node ends an operand by itself, or as its first child does (the simple of a scripted part), or as its second does
 -- (the denominator of a fraction)
@@ -129,7 +129,7 @@ pub data Look : Type 0 where
 
 unfoldable pub look : Head → Look
 look Head.missing = answer false
-look (Head.atom a sp) = answer (atomEnds a)
+look (Head.atom a sp) = answer (atom_ends a)
 look (Head.prefix p sp) = answer true
 look (Head.simple sc) = first
 look (Head.func sp sc) = answer true
@@ -140,21 +140,21 @@ look (Head.matrix l r c ls) = answer true
 
 -- ends_operand: whether a sign after this item joins the operands around it
 unfoldable mutual
-  pub endsOperand : Node → Bool
-  endsOperand (node h l) = elim (look h) [ answer b ↦ b | first ↦ endsFirst l | second ↦ endsSecond l ]
+  pub ends_operand : Node → Bool
+  ends_operand (node h l) = elim (look h) [ answer b ↦ b | first ↦ ends_first l | second ↦ ends_second l ]
 
-  pub endsFirst : Nodes → Bool
-  endsFirst end = false
-  endsFirst (x ▸ l) = endsOperand x
+  pub ends_first : Nodes → Bool
+  ends_first end = false
+  ends_first (x ▸ l) = ends_operand x
 
-  pub endsSecond : Nodes → Bool
-  endsSecond end = false
-  endsSecond (x ▸ l) = endsFirst l
+  pub ends_second : Nodes → Bool
+  ends_second end = false
+  ends_second (x ▸ l) = ends_first l
 
 -- push_intermediate's `prefix_sign`, after the item before
 unfoldable pub prefixes : Option Node → Bool
 prefixes none = true
-prefixes (some a) = not (endsOperand a)
+prefixes (some a) = not (ends_operand a)
 
 -- A script and its arguments.
 abbrev pub Scripted : Type 0
@@ -171,47 +171,47 @@ pub record Rows : Type 0 where
   pub others : List Nodes
 
 -- for is_column_line: a simple expression without a script
-unfoldable pub isUnscripted : Head → Bool
-isUnscripted Head.missing = false
-isUnscripted (Head.atom a sp) = false
-isUnscripted (Head.prefix p sp) = false
-isUnscripted (Head.simple Script.none) = true
-isUnscripted (Head.simple Script.sub) = false
-isUnscripted (Head.simple Script.super) = false
-isUnscripted (Head.simple Script.subsuper) = false
-isUnscripted (Head.func sp sc) = false
-isUnscripted Head.frac = false
-isUnscripted Head.cell = false
-isUnscripted (Head.group a b) = false
-isUnscripted (Head.matrix a b c ls) = false
+unfoldable pub is_unscripted : Head → Bool
+is_unscripted Head.missing = false
+is_unscripted (Head.atom a sp) = false
+is_unscripted (Head.prefix p sp) = false
+is_unscripted (Head.simple Script.none) = true
+is_unscripted (Head.simple Script.sub) = false
+is_unscripted (Head.simple Script.super) = false
+is_unscripted (Head.simple Script.subsuper) = false
+is_unscripted (Head.func sp sc) = false
+is_unscripted Head.frac = false
+is_unscripted Head.cell = false
+is_unscripted (Head.group a b) = false
+is_unscripted (Head.matrix a b c ls) = false
 
 -- the columns that are lines in one row and in those behind it
-unfoldable pub bothLines : List Bool → List Bool → List Bool
-bothLines [] m = []
-bothLines (a ∷ l) [] = []
-bothLines (a ∷ l) (b ∷ m) = (a && b) ∷ bothLines l m
+unfoldable pub both_lines : List Bool → List Bool → List Bool
+both_lines [] m = []
+both_lines (a ∷ l) [] = []
+both_lines (a ∷ l) (b ∷ m) = (a && b) ∷ both_lines l m
 
 -- split_column_lines: how many columns are kept, the boundaries (from b on) where the others were, and the cells kept of a row
-unfoldable pub keptCols : List Bool → ℕ
-keptCols [] = zero
-keptCols (true ∷ l) = keptCols l
-keptCols (false ∷ l) = suc (keptCols l)
+unfoldable pub kept_cols : List Bool → ℕ
+kept_cols [] = zero
+kept_cols (true ∷ l) = kept_cols l
+kept_cols (false ∷ l) = suc (kept_cols l)
 
-unfoldable pub columnLines : ℕ → List Bool → List ℕ
-columnLines b [] = []
-columnLines b (true ∷ l) = b ∷ columnLines b l
-columnLines b (false ∷ l) = columnLines (suc b) l
+unfoldable pub column_lines : ℕ → List Bool → List ℕ
+column_lines b [] = []
+column_lines b (true ∷ l) = b ∷ column_lines b l
+column_lines b (false ∷ l) = column_lines (suc b) l
 
-unfoldable pub keepCells : List Bool → Nodes → Nodes
-keepCells [] l = end
-keepCells (b ∷ bs) end = end
-keepCells (true ∷ bs) (x ▸ l) = keepCells bs l
-keepCells (false ∷ bs) (x ▸ l) = x ▸ keepCells bs l
+unfoldable pub keep_cells : List Bool → Nodes → Nodes
+keep_cells [] l = end
+keep_cells (b ∷ bs) end = end
+keep_cells (true ∷ bs) (x ▸ l) = keep_cells bs l
+keep_cells (false ∷ bs) (x ▸ l) = x ▸ keep_cells bs l
 
 -- the cells of all rows, what f keeps of each
-unfoldable pub joinRows : (Nodes → Nodes) → List Nodes → Nodes
-joinRows f [] = end
-joinRows f (r ∷ rs) = f r ⧺ joinRows f rs
+unfoldable pub join_rows : (Nodes → Nodes) → List Nodes → Nodes
+join_rows f [] = end
+join_rows f (r ∷ rs) = f r ⧺ join_rows f rs
 
 -- push_intermediate: the Space before an item is kept between items only
 unfoldable pub spaced : Option Node → Option Entry → Node → Nodes → Nodes
@@ -221,12 +221,12 @@ spaced (some p) (some e) x l =
     elim e.space.len [ zero ↦ x ▸ l | suc n ↦ leaf (Head.atom Atom.space e.space) ▸ x ▸ l ]
 
 -- a bar that opens nothing, and a stray mark of a script or a fraction: a symbol of class Glyph
-abbrev pub glyphOf : Entry → Node
-glyphOf o = leaf (Head.atom (Atom.symbol class.Glyph) o.span)
+abbrev pub glyph_of : Entry → Node
+glyph_of o = leaf (Head.atom (Atom.symbol class.Glyph) o.span)
 
-abbrev pub orGlyph : Entry → Option Node → Node
-orGlyph o none = glyphOf o
-orGlyph o (some x) = x
+abbrev pub or_glyph : Entry → Option Node → Node
+or_glyph o none = glyph_of o
+or_glyph o (some x) = x
 
 -- the last item, if there is one
 unfoldable pub last_of : Nodes → Option Node
@@ -244,8 +244,8 @@ module _ (text : List ℕ) (es : List Entry) where
   unfoldable pub is_byte : ℕ → Span → Bool
   is_byte b sp = same (text_of sp) (b ∷ [])
 
-  unfoldable pub sameText : Span → Span → Bool
-  sameText a b = same (text_of a) (text_of b)
+  unfoldable pub same_text : Span → Span → Bool
+  same_text a b = same (text_of a) (text_of b)
 
   -- the entry at a position, and whether one is there that passes the test
   abbrev pub entry_at : ℕ → Option Entry
@@ -255,31 +255,31 @@ module _ (text : List ℕ) (es : List Entry) where
   is_at ok i = elim (entry_at i) [ none ↦ false | some e ↦ ok e ]
 
   -- the index of the bracket that closes the one at i
-  unfoldable pub closeOf : ℕ → Option ℕ
-  closeOf i = elim (closeAfter zero (drop (suc i) es)) [ none ↦ none | some n ↦ some (suc (i + n)) ]
+  unfoldable pub close_of : ℕ → Option ℕ
+  close_of i = elim (close_after zero (drop (suc i) es)) [ none ↦ none | some n ↦ some (suc (i + n)) ]
 
   -- an OpenCloseBracket with the text of o
-  unfoldable pub isBar : Entry → Entry → Bool
-  isBar o e = is token.OpenCloseBracket e && sameText o.span e.span
+  unfoldable pub is_bar : Entry → Entry → Bool
+  is_bar o e = is token.OpenCloseBracket e && same_text o.span e.span
 
   -- closes: whether the token at j closes the bracket o at i
   unfoldable pub closes : Entry → ℕ → ℕ → Bool
   closes o i j =
       elim (is token.OpenBracket o) [
-        | true ↦ elim (closeOf i) [ none ↦ false | some k ↦ eqb k j ]
-        | false ↦ is_at (isBar o) j
+        | true ↦ elim (close_of i) [ none ↦ false | some k ↦ eqb k j ]
+        | false ↦ is_at (is_bar o) j
       ]
 
   -- could_be_matrix, for the bracket o at i
-  unfoldable pub couldBeMatrix : Entry → ℕ → Bool
-  couldBeMatrix o i =
+  unfoldable pub could_be_matrix : Entry → ℕ → Bool
+  could_be_matrix o i =
       elim (is_at (is token.OpenBracket) (suc i)) [
         | false ↦ false
-        | true ↦ elim (closeOf (suc i)) [
+        | true ↦ elim (close_of (suc i)) [
           | none ↦ false
           | some c ↦ elim (is_at (is token.Sep) (suc c)) [
             | true ↦ true
-            | false ↦ closes o i (suc c) && hasSep zero (drop (suc (suc i)) es)
+            | false ↦ closes o i (suc c) && has_sep zero (drop (suc (suc i)) es)
           ]
         ]
       ]
@@ -297,78 +297,78 @@ module _ (text : List ℕ) (es : List Entry) where
       ]
 
   -- is_column_line: "a lone unscripted `|` symbol"
-  unfoldable pub isBarSymbol : Node → Bool
-  isBarSymbol (node Head.missing l) = false
-  isBarSymbol (node (Head.atom Atom.number sp) l) = false
-  isBarSymbol (node (Head.atom Atom.text sp) l) = false
-  isBarSymbol (node (Head.atom Atom.ident sp) l) = false
-  isBarSymbol (node (Head.atom Atom.operator sp) l) = false
-  isBarSymbol (node (Head.atom Atom.sign sp) l) = false
-  isBarSymbol (node (Head.atom Atom.space sp) l) = false
-  isBarSymbol (node (Head.atom (Atom.symbol c) sp) l) = is_byte 124 sp
-  isBarSymbol (node (Head.prefix p sp) l) = false
-  isBarSymbol (node (Head.simple sc) l) = false
-  isBarSymbol (node (Head.func sp sc) l) = false
-  isBarSymbol (node Head.frac l) = false
-  isBarSymbol (node Head.cell l) = false
-  isBarSymbol (node (Head.group a b) l) = false
-  isBarSymbol (node (Head.matrix a b c ls) l) = false
+  unfoldable pub is_bar_symbol : Node → Bool
+  is_bar_symbol (node Head.missing l) = false
+  is_bar_symbol (node (Head.atom Atom.number sp) l) = false
+  is_bar_symbol (node (Head.atom Atom.text sp) l) = false
+  is_bar_symbol (node (Head.atom Atom.ident sp) l) = false
+  is_bar_symbol (node (Head.atom Atom.operator sp) l) = false
+  is_bar_symbol (node (Head.atom Atom.sign sp) l) = false
+  is_bar_symbol (node (Head.atom Atom.space sp) l) = false
+  is_bar_symbol (node (Head.atom (Atom.symbol c) sp) l) = is_byte 124 sp
+  is_bar_symbol (node (Head.prefix p sp) l) = false
+  is_bar_symbol (node (Head.simple sc) l) = false
+  is_bar_symbol (node (Head.func sp sc) l) = false
+  is_bar_symbol (node Head.frac l) = false
+  is_bar_symbol (node Head.cell l) = false
+  is_bar_symbol (node (Head.group a b) l) = false
+  is_bar_symbol (node (Head.matrix a b c ls) l) = false
 
-  unfoldable pub isColumnLine : Node → Bool
-  isColumnLine (node c end) = false
-  isColumnLine (node c (node h end ▸ m)) = false
-  isColumnLine (node c (node h (x ▸ l) ▸ end)) = isUnscripted h && isBarSymbol x
-  isColumnLine (node c (node h (x ▸ l) ▸ (y ▸ m))) = false
+  unfoldable pub is_column_line : Node → Bool
+  is_column_line (node c end) = false
+  is_column_line (node c (node h end ▸ m)) = false
+  is_column_line (node c (node h (x ▸ l) ▸ end)) = is_unscripted h && is_bar_symbol x
+  is_column_line (node c (node h (x ▸ l) ▸ (y ▸ m))) = false
 
   -- which cells of a row are such lines
-  unfoldable pub lineCells : Nodes → List Bool
-  lineCells end = []
-  lineCells (x ▸ l) = isColumnLine x ∷ lineCells l
+  unfoldable pub line_cells : Nodes → List Bool
+  line_cells end = []
+  line_cells (x ▸ l) = is_column_line x ∷ line_cells l
 
   -- "Columns whose every cell is" such a line
-  unfoldable pub lineCols : Nodes → List Nodes → List Bool
-  lineCols r [] = lineCells r
-  lineCols r (q ∷ qs) = bothLines (lineCells r) (lineCols q qs)
+  unfoldable pub line_cols : Nodes → List Nodes → List Bool
+  line_cols r [] = line_cells r
+  line_cols r (q ∷ qs) = both_lines (line_cells r) (line_cols q qs)
 
   -- MATRIX_ROW_BRACKETS: "Matrix rows are `(` `)` or `[` `]` by their text, so `left(` opens no row."
-  unfoldable pub rowBrackets : Row → Bool
-  rowBrackets r =
+  unfoldable pub row_brackets : Row → Bool
+  row_brackets r =
       (is_byte 40 r.left.span && is_byte 41 r.right.span)
       || (is_byte 91 r.left.span && is_byte 93 r.right.span)
 
   -- a row with the brackets of the first, by their text, and as many cells
   unfoldable pub alike : Row → Row → Bool
   alike a b =
-      sameText a.left.span b.left.span
+      same_text a.left.span b.left.span
       && eqb (count a.cells) (count b.cells)
-      && sameText a.right.span b.right.span
+      && same_text a.right.span b.right.span
 
   -- split_column_lines: "become column lines, if some but not all columns are such". The matrix of these rows, still without its
   -- brackets, and how many cells it has.
-  unfoldable pub splitColumnLines : Rows → (Span → Span → Node) × ℕ
-  splitColumnLines r =
-      let mask = lineCols r.head.cells r.others in
-      let kept = keptCols mask in
+  unfoldable pub split_column_lines : Rows → (Span → Span → Node) × ℕ
+  split_column_lines r =
+      let mask = line_cols r.head.cells r.others in
+      let kept = kept_cols mask in
       let all = count r.head.cells in
       elim (eqb kept zero || eqb kept all) [
-        | true ↦ made all [] (joinRows (λ l. l) (r.head.cells ∷ r.others))
-        | false ↦ made kept (columnLines zero mask) (joinRows (keepCells mask) (r.head.cells ∷ r.others))
+        | true ↦ made all [] (join_rows (λ l. l) (r.head.cells ∷ r.others))
+        | false ↦ made kept (column_lines zero mask) (join_rows (keep_cells mask) (r.head.cells ∷ r.others))
       ]
     where
       made : ℕ → List ℕ → Nodes → (Span → Span → Node) × ℕ
       made cols lines cells = ((λ a b. node (Head.matrix a b cols lines) cells), count cells)
 
   -- at_open_close: the position p is at the bar that the items end at, if they end at one
-  unfoldable pub atOpenClose : Option Entry → ℕ → Bool
-  atOpenClose none p = false
-  atOpenClose (some o) p = is_at (isBar o) p
+  unfoldable pub at_open_close : Option Entry → ℕ → Bool
+  at_open_close none p = false
+  at_open_close (some o) p = is_at (is_bar o) p
 
   -- try_matrix: whether these rows, and the token at p behind them, make a matrix of the bracket o at i. "Rows of `(` before text
   -- `}` make no matrix"; "One cell left after that is no matrix."
-  unfoldable pub makesMatrix : Entry → ℕ → Rows → ℕ → Bool
-  makesMatrix o i r p =
+  unfoldable pub makes_matrix : Entry → ℕ → Rows → ℕ → Bool
+  makes_matrix o i r p =
       is_at (λ e. not (is_byte 40 r.head.left.span && is_byte 125 e.span)) p
-      && (ltb 1 (splitColumnLines r).1 && closes o i p)
+      && (ltb 1 (split_column_lines r).1 && closes o i p)
 
   -- enough for any loop over the entries: each turn takes one
   abbrev fuel : ℕ
@@ -381,8 +381,8 @@ module _ (text : List ℕ) (es : List Entry) where
     unfoldable pub failed : Mark → ℕ → M Bool
     failed m i s = (remember && get_or s.marks (slot m i) false, s)
 
-    unfoldable pub giveUp : Mark → ℕ → State → M (Option Node)
-    giveUp m i o s = (none, record { pos = o.pos; takes = s.takes; marks = set s.marks (slot m i) true; closers = o.closers })
+    unfoldable pub give_up : Mark → ℕ → State → M (Option Node)
+    give_up m i o s = (none, record { pos = o.pos; takes = s.takes; marks = set s.marks (slot m i) true; closers = o.closers })
 
     unfoldable pub attempt : Mark → ℕ → M Try → M (Option Node)
     attempt m i body =
@@ -391,7 +391,7 @@ module _ (text : List ℕ) (es : List Entry) where
         if known then return none
         else body >>= λ t. elim t [
           | made x ↦ return (some x)
-          | lost ↦ giveUp m i o
+          | lost ↦ give_up m i o
           | nought ↦ return none
         ]
 
@@ -399,12 +399,12 @@ module _ (text : List ℕ) (es : List Entry) where
     module _ (R : Readers) where
       -- next_script_arg, and the argument of a unary, binary or simple function
       unfoldable pub argument : M Node
-      argument = R.simple Stop.none true >>= λ a. return (orMissing a)
+      argument = R.simple Stop.none true >>= λ a. return (or_missing a)
 
       -- next_script
-      unfoldable pub nextScript : M Scripted
-      nextScript =
-          advance marksScript >>= λ t. elim t [
+      unfoldable pub next_script : M Scripted
+      next_script =
+          advance marks_script >>= λ t. elim t [
             | none ↦ return (Script.none, end)
             | some e ↦
                 if is token.Super e then (argument >>= λ a. return (Script.super, a ▸ end))
@@ -415,30 +415,30 @@ module _ (text : List ℕ) (es : List Entry) where
           ]
 
       -- next_script_func
-      unfoldable pub nextScriptFunc : Stop → Bool → M (Option Node)
-      nextScriptFunc stop prefixSign =
+      unfoldable pub next_script_func : Stop → Bool → M (Option Node)
+      next_script_func stop prefixSign =
           advance (heads prefixSign) >>= λ t. elim t [
             | none ↦ R.simple stop prefixSign >>= λ a. elim a [
               | none ↦ return none
-              | some x ↦ nextScript >>= λ q. return (some (node (Head.simple q.0) (x ▸ q.1)))
+              | some x ↦ next_script >>= λ q. return (some (node (Head.simple q.0) (x ▸ q.1)))
             ]
             | some e ↦
                 if is token.Function e
-                then (nextScript >>= λ q. R.scriptFunc Stop.none true >>= λ a.
-                return (some (node (Head.func e.span q.0) (q.1 ⧺ (orMissingPart a ▸ end)))))
-                else R.scriptFunc stop true >>= λ a.
-                return (some (one (Head.prefix Prefix.signed e.span) (orMissingPart a)))
+                then (next_script >>= λ q. R.script_func Stop.none true >>= λ a.
+                return (some (node (Head.func e.span q.0) (q.1 ⧺ (or_missing_part a ▸ end)))))
+                else R.script_func stop true >>= λ a.
+                return (some (one (Head.prefix Prefix.signed e.span) (or_missing_part a)))
           ]
 
       -- next_intermediate
-      unfoldable pub nextIntermediate : Stop → Bool → M (Option Node)
-      nextIntermediate stop prefixSign =
-          R.scriptFunc stop prefixSign >>= λ a. elim a [
+      unfoldable pub next_intermediate : Stop → Bool → M (Option Node)
+      next_intermediate stop prefixSign =
+          R.script_func stop prefixSign >>= λ a. elim a [
             | none ↦ return none
             | some x ↦ advance (is token.Frac) >>= λ t. elim t [
               | none ↦ return (some x)
-              | some e ↦ R.scriptFunc Stop.none true >>= λ b.
-                  return (some (node Head.frac (x ▸ orMissingPart b ▸ end)))
+              | some e ↦ R.script_func Stop.none true >>= λ b.
+                  return (some (node Head.frac (x ▸ or_missing_part b ▸ end)))
             ]
           ]
 
@@ -447,26 +447,26 @@ module _ (text : List ℕ) (es : List Entry) where
       intermediates zero until stop before = return end
       intermediates (suc f) until stop before =
           here >>= λ p.
-          if atOpenClose until p then return end
-          else nextIntermediate stop (prefixes before) >>= λ a. elim a [
+          if at_open_close until p then return end
+          else next_intermediate stop (prefixes before) >>= λ a. elim a [
             | none ↦ return end
             | some x ↦ intermediates f until stop (some x) >>= λ l. return (spaced before (entry_at p) x l)
           ]
 
       -- next_expression
-      abbrev pub nextExpression : Stop → M Nodes
-      nextExpression stop = intermediates fuel none stop none
+      abbrev pub next_expression : Stop → M Nodes
+      next_expression stop = intermediates fuel none stop none
 
       -- next_matrix_row: the cells from the next on, with the closing bracket
-      unfoldable pub rowCells : ℕ → M (Option (Nodes × Entry))
-      rowCells zero = return none
-      rowCells (suc f) =
-          nextExpression Stop.sep >>= λ l.
+      unfoldable pub row_cells : ℕ → M (Option (Nodes × Entry))
+      row_cells zero = return none
+      row_cells (suc f) =
+          next_expression Stop.sep >>= λ l.
           advance any >>= λ t. elim t [
             | none ↦ return none
             | some e ↦
                 if is token.Sep e
-                then (rowCells f >>= λ q. elim q [
+                then (row_cells f >>= λ q. elim q [
                   | none ↦ return none
                   | some m ↦ return (some (node Head.cell l ▸ m.0, m.1))
                 ])
@@ -475,13 +475,13 @@ module _ (text : List ℕ) (es : List Entry) where
           ]
 
       -- next_matrix_row; a token that opens no row is taken too
-      unfoldable pub nextMatrixRow : M (Option Row)
-      nextMatrixRow =
+      unfoldable pub next_matrix_row : M (Option Row)
+      next_matrix_row =
           here >>= λ i. advance any >>= λ t. elim t [
             | none ↦ return none
             | some o ↦
                 if is token.OpenBracket o
-                then (rowCells fuel >>= λ q. elim q [
+                then (row_cells fuel >>= λ q. elim q [
                   | none ↦ return none
                   | some m ↦ closed i (some (record { left = o; right = m.1; cells = m.0 }))
                 ])
@@ -490,16 +490,16 @@ module _ (text : List ℕ) (es : List Entry) where
 
       -- next_matrix_rows, behind the first row: "the row loop is left at the first row that differs from the first". The Sep
       -- between rows is a take.
-      unfoldable pub moreRows : ℕ → Row → M (Option (List Nodes))
-      moreRows zero h = return none
-      moreRows (suc f) h =
+      unfoldable pub more_rows : ℕ → Row → M (Option (List Nodes))
+      more_rows zero h = return none
+      more_rows (suc f) h =
           here >>= λ p.
           if is_at (is token.Sep) p
-          then (advance any >>= λ t. nextMatrixRow >>= λ q. elim q [
+          then (advance any >>= λ t. next_matrix_row >>= λ q. elim q [
             | none ↦ return none
             | some r ↦
                 if alike h r
-                then (moreRows f h >>= λ l. elim l [
+                then (more_rows f h >>= λ l. elim l [
                   | none ↦ return none
                   | some m ↦ return (some (r.cells ∷ m))
                 ])
@@ -508,13 +508,13 @@ module _ (text : List ℕ) (es : List Entry) where
           else return (some [])
 
       -- next_matrix_rows
-      unfoldable pub nextMatrixRows : M (Option Rows)
-      nextMatrixRows =
-          nextMatrixRow >>= λ q. elim q [
+      unfoldable pub next_matrix_rows : M (Option Rows)
+      next_matrix_rows =
+          next_matrix_row >>= λ q. elim q [
             | none ↦ return none
             | some h ↦
-                if rowBrackets h
-                then (moreRows fuel h >>= λ l. elim l [
+                if row_brackets h
+                then (more_rows fuel h >>= λ l. elim l [
                   | none ↦ return none
                   | some m ↦ return (some (record { head = h; others = m }))
                 ])
@@ -522,41 +522,41 @@ module _ (text : List ℕ) (es : List Entry) where
           ]
 
       -- try_matrix, for the bracket o at i
-      unfoldable pub matrixBody : Entry → ℕ → M Try
-      matrixBody o i =
-          nextMatrixRows >>= λ q. elim q [
+      unfoldable pub matrix_body : Entry → ℕ → M Try
+      matrix_body o i =
+          next_matrix_rows >>= λ q. elim q [
             | none ↦ return lost
             | some r ↦
                 here >>= λ p.
-                if makesMatrix o i r p
+                if makes_matrix o i r p
                 then (advance any >>= λ t. elim t [
                   | none ↦ return lost
-                  | some c ↦ closed i (made ((splitColumnLines r).0 o.span c.span))
+                  | some c ↦ closed i (made ((split_column_lines r).0 o.span c.span))
                 ])
                 else return lost
           ]
 
-      unfoldable pub tryMatrix : Entry → ℕ → M (Option Node)
-      tryMatrix o i = if couldBeMatrix o i then attempt matrixMark i (matrixBody o i) else return none
+      unfoldable pub try_matrix : Entry → ℕ → M (Option Node)
+      try_matrix o i = if could_be_matrix o i then attempt matrix_mark i (matrix_body o i) else return none
 
       -- next_open_group
-      unfoldable pub nextOpenGroup : Entry → ℕ → M Node
-      nextOpenGroup o i =
-          nextExpression Stop.none >>= λ l.
+      unfoldable pub next_open_group : Entry → ℕ → M Node
+      next_open_group o i =
+          next_expression Stop.none >>= λ l.
           advance (is token.CloseBracket) >>= λ t. elim t [
             | none ↦ return (node (Head.group o.span nowhere) l)
             | some c ↦ closed i (node (Head.group o.span c.span) l)
           ]
 
       -- next_open_close_group: the group that the bar o opens, if such a bar closes it
-      unfoldable pub barBody : Entry → ℕ → Stop → M Try
-      barBody o i stop =
-          nextIntermediate stop true >>= λ a. elim a [
+      unfoldable pub bar_body : Entry → ℕ → Stop → M Try
+      bar_body o i stop =
+          next_intermediate stop true >>= λ a. elim a [
             | none ↦ return nought
             | some x ↦
                 intermediates fuel (some o) stop (some x) >>= λ l.
                 here >>= λ p.
-                if is_at (isBar o) p
+                if is_at (is_bar o) p
                 then (advance any >>= λ t. elim t [
                   | none ↦ return lost
                   | some c ↦ closed i (made (node (Head.group o.span c.span) (x ▸ l)))
@@ -564,19 +564,19 @@ module _ (text : List ℕ) (es : List Entry) where
                 else return lost
           ]
 
-      unfoldable pub nextOpenCloseGroup : Entry → ℕ → Stop → M Node
-      nextOpenCloseGroup o i stop =
-          tryMatrix o i >>= λ m. elim m [
+      unfoldable pub next_open_close_group : Entry → ℕ → Stop → M Node
+      next_open_close_group o i stop =
+          try_matrix o i >>= λ m. elim m [
             | some x ↦ return x
-            | none ↦ attempt (openMark stop) i (barBody o i stop) >>= λ g. return (orGlyph o g)
+            | none ↦ attempt (open_mark stop) i (bar_body o i stop) >>= λ g. return (or_glyph o g)
           ]
 
       -- the matrix or the group that the OpenBracket o at i opens
-      unfoldable pub nextBracket : Entry → ℕ → M Node
-      nextBracket o i =
-          tryMatrix o i >>= λ m. elim m [
+      unfoldable pub next_bracket : Entry → ℕ → M Node
+      next_bracket o i =
+          try_matrix o i >>= λ m. elim m [
             | some x ↦ return x
-            | none ↦ nextOpenGroup o i
+            | none ↦ next_open_group o i
           ]
 
       -- next_simple: what the token e, just taken at i, begins
@@ -587,24 +587,24 @@ module _ (text : List ℕ) (es : List Entry) where
       begun token.Operator e i stop sg = return (some (leaf (Head.atom Atom.operator e.span)))
       begun (token.Symbol c) e i stop sg = return (some (leaf (Head.atom (Atom.symbol c) e.span)))
       begun token.Sign e i stop true =
-          R.simple stop true >>= λ a. return (some (one (Head.prefix Prefix.ssigned e.span) (orMissing a)))
+          R.simple stop true >>= λ a. return (some (one (Head.prefix Prefix.ssigned e.span) (or_missing a)))
       begun token.Sign e i stop false = return (some (leaf (Head.atom Atom.sign e.span)))
       begun token.Unary e i stop sg = argument >>= λ a. return (some (one (Head.prefix Prefix.unary e.span) a))
       begun token.Function e i stop sg = argument >>= λ a. return (some (one (Head.prefix Prefix.sfunc e.span) a))
       begun token.Binary e i stop sg =
           argument >>= λ a. argument >>= λ b. return (some (node (Head.prefix Prefix.binary e.span) (a ▸ b ▸ end)))
-      begun token.OpenBracket e i stop sg = nextBracket e i >>= λ a. return (some a)
-      begun token.OpenCloseBracket e i stop sg = nextOpenCloseGroup e i stop >>= λ a. return (some a)
+      begun token.OpenBracket e i stop sg = next_bracket e i >>= λ a. return (some a)
+      begun token.OpenCloseBracket e i stop sg = next_open_close_group e i stop >>= λ a. return (some a)
       begun token.Sep e i stop sg = return (some (leaf (Head.atom (Atom.symbol class.Separator) e.span)))
-      begun token.Frac e i stop sg = return (some (glyphOf e))
-      begun token.Super e i stop sg = return (some (glyphOf e))
-      begun token.Sub e i stop sg = return (some (glyphOf e))
+      begun token.Frac e i stop sg = return (some (glyph_of e))
+      begun token.Super e i stop sg = return (some (glyph_of e))
+      begun token.Sub e i stop sg = return (some (glyph_of e))
       begun token.CloseBracket e i stop sg = return none
       begun token.Space e i stop sg = return none
 
       -- next_simple
-      unfoldable pub nextSimple : Stop → Bool → M (Option Node)
-      nextSimple stop prefixSign =
+      unfoldable pub next_simple : Stop → Bool → M (Option Node)
+      next_simple stop prefixSign =
           here >>= λ i.
           advance (begins stop) >>= λ t. elim t [
             | none ↦ return none
@@ -613,11 +613,11 @@ module _ (text : List ℕ) (es : List Entry) where
 
       -- the two readers at this depth
       unfoldable pub step : Readers
-      step = record { simple = nextSimple; scriptFunc = nextScriptFunc }
+      step = record { simple = next_simple; script_func = next_script_func }
 
     -- "next_simple and next_script_func give nothing and consume nothing at depth 256": the readers at depth d are level 256 − d.
     unfoldable pub level : ℕ → Readers
-    level zero = record { simple = λ stop sg. return none; scriptFunc = λ stop sg. return none }
+    level zero = record { simple = λ stop sg. return none; script_func = λ stop sg. return none }
     level (suc r) = step (level r)
 
     -- parse: an unmatched closer wraps all that was read before it. "The 257th and later unmatched closers at top level are
@@ -638,8 +638,8 @@ module _ (text : List ℕ) (es : List Entry) where
     abbrev pub start : State
     start = record { pos = zero; takes = zero; marks = replicate (3 * length es) false; closers = replicate (length es) (length es) }
 
-    unfoldable pub parseEntries : Nodes × State
-    parseEntries = parse (suc (length es)) 256 end start
+    unfoldable pub parse_entries : Nodes × State
+    parse_entries = parse (suc (length es)) 256 end start
 
 -- What a reading gives.
 pub record Reading : Type 0 where
@@ -647,25 +647,25 @@ pub record Reading : Type 0 where
   pub takes : ℕ
 
 -- parse_tokens: the reading of a token list, with or without memory
-unfoldable pub readingBy : Bool → List ℕ → List Lexeme → Reading
-readingBy remember text ts =
-    let r = parseEntries text (entries nowhere ts) remember in record { tree = r.0; takes = r.1.takes }
+unfoldable pub reading_by : Bool → List ℕ → List Lexeme → Reading
+reading_by remember text ts =
+    let r = parse_entries text (entries nowhere ts) remember in record { tree = r.0; takes = r.1.takes }
 
 -- "The whole reading of any list is what this definition gives for it, takes and tree; that of a text is that of its token
 -- list."
-abbrev pub readTokens : List ℕ → List Lexeme → Reading
-readTokens text ts = readingBy true text ts
+abbrev pub read_tokens : List ℕ → List Lexeme → Reading
+read_tokens text ts = reading_by true text ts
 
 -- "for each token other than Space the place of its closer, counted from 0 among those tokens, or n for none"
-unfoldable pub closersOf : List ℕ → List Lexeme → List ℕ
-closersOf text ts = (parseEntries text (entries nowhere ts) true).1.closers
+unfoldable pub closers_of : List ℕ → List Lexeme → List ℕ
+closers_of text ts = (parse_entries text (entries nowhere ts) true).1.closers
 
-abbrev pub readText : List ℕ → Reading
-readText text = readTokens text (tokens text)
+abbrev pub read_text : List ℕ → Reading
+read_text text = read_tokens text (tokens text)
 
 -- "The reading without memory is the same definition with every mark of failed_opens and failed_matrices read as unset."
-abbrev pub readPlain : List ℕ → List Lexeme → Reading
-readPlain text ts = readingBy false text ts
+abbrev pub read_plain : List ℕ → List Lexeme → Reading
+read_plain text ts = reading_by false text ts
 
 -- ""blank" (the root has no items)", over text and tree
 unfoldable pub blank : List ℕ → Nodes → Bool

@@ -11,22 +11,22 @@ use borrow.Author.Tests.{eqb-true, eqb-false}
 use Rattle.tree.specs.Tree.{Node}
 use Rattle.reading.specs.Stop.{Stop}
 use Rattle.reading.specs.Entries.{Entry}
-use Rattle.reading.specs.Reading.{State, M, Mark, openMark, matrixMark, slot, Try, made, lost, nought, failed, giveUp, attempt}
-use Rattle.records.specs.Record.{InMarks, marksOf, Whole, withMarks}
+use Rattle.reading.specs.Reading.{State, M, Mark, open_mark, matrix_mark, slot, Try, made, lost, nought, failed, give_up, attempt}
+use Rattle.records.specs.Record.{InMarks, marks_of, Whole, with_marks}
 use Rattle.stores.proofs.Stores.{marks-same, marks-other, marks-kept}
-use Rattle.marks.specs.Marks.{isMarked, withMark}
-use Rattle.reading_words.specs.Entry.{marksWord}
+use Rattle.marks.specs.Marks.{is_marked, with_mark}
+use Rattle.reading_words.specs.Entry.{marks_word}
 use Rattle.reading_words.specs.Meet.{Input, Marks, At, Known}
-use Rattle.reading_words.proofs.Kit.{bind, ret, at-current, if-true, if-false, given-kept}
+use Rattle.reading_words.proofs.Kit.{bind, ret, at_current, if_true, if_false, given-kept}
 use lib.Seq.{get_or-set_same, get_or-set_other}
 
 -- the number of a mark among the marks
-abbrev pub markNumber : Mark → ℕ
-markNumber (openMark Stop.none) = 1
-markNumber (openMark Stop.sep) = 2
-markNumber matrixMark = 4
+abbrev pub mark_number : Mark → ℕ
+mark_number (open_mark Stop.none) = 1
+mark_number (open_mark Stop.sep) = 2
+mark_number matrix_mark = 4
 
-pub marks-small : (a b c : Bool) → marksWord a b c < 8
+pub marks-small : (a b c : Bool) → marks_word a b c < 8
 marks-small true true true = omega arith
 marks-small true true false = omega arith
 marks-small true false true = omega arith
@@ -36,8 +36,8 @@ marks-small false true false = omega arith
 marks-small false false true = omega arith
 marks-small false false false = omega arith
 
-marks-first : (a b c : Bool) → (isMarked (marksWord a b c) 1 ≡ a) × (withMark (marksWord a b c) 1 ≡ marksWord true b c)
-unfolding isMarked withMark
+marks-first : (a b c : Bool) → (is_marked (marks_word a b c) 1 ≡ a) × (with_mark (marks_word a b c) 1 ≡ marks_word true b c)
+unfolding is_marked with_mark
 marks-first true true true = (refl, refl)
 marks-first true true false = (refl, refl)
 marks-first true false true = (refl, refl)
@@ -47,8 +47,8 @@ marks-first false true false = (refl, refl)
 marks-first false false true = (refl, refl)
 marks-first false false false = (refl, refl)
 
-marks-second : (a b c : Bool) → (isMarked (marksWord a b c) 2 ≡ b) × (withMark (marksWord a b c) 2 ≡ marksWord a true c)
-unfolding isMarked withMark
+marks-second : (a b c : Bool) → (is_marked (marks_word a b c) 2 ≡ b) × (with_mark (marks_word a b c) 2 ≡ marks_word a true c)
+unfolding is_marked with_mark
 marks-second true true true = (refl, refl)
 marks-second true true false = (refl, refl)
 marks-second true false true = (refl, refl)
@@ -58,8 +58,8 @@ marks-second false true false = (refl, refl)
 marks-second false false true = (refl, refl)
 marks-second false false false = (refl, refl)
 
-marks-third : (a b c : Bool) → (isMarked (marksWord a b c) 4 ≡ c) × (withMark (marksWord a b c) 4 ≡ marksWord a b true)
-unfolding isMarked withMark
+marks-third : (a b c : Bool) → (is_marked (marks_word a b c) 4 ≡ c) × (with_mark (marks_word a b c) 4 ≡ marks_word a b true)
+unfolding is_marked with_mark
 marks-third true true true = (refl, refl)
 marks-third true true false = (refl, refl)
 marks-third true false true = (refl, refl)
@@ -70,11 +70,11 @@ marks-third false false true = (refl, refl)
 marks-third false false false = (refl, refl)
 
 -- the marks of the entry i say whether it has failed
-pub mark-is : {n : ℕ} {K : List ℕ} {l : List Bool} (m : Mark) (i : ℕ) → Marks n K l → i < n → isMarked (marksOf K i) (markNumber m) ≡ get_or l (slot m i) false
+pub mark-is : {n : ℕ} {K : List ℕ} {l : List Bool} (m : Mark) (i : ℕ) → Marks n K l → i < n → is_marked (marks_of K i) (mark_number m) ≡ get_or l (slot m i) false
 unfolding slot
-mark-is {l = l} (openMark Stop.none) i q h = ap (λ (w : ℕ). isMarked w 1) (q.words i h) ∙ (marks-first (get_or l (3 * i) false) (get_or l (3 * i + 1) false) (get_or l (3 * i + 2) false)).0
-mark-is {l = l} (openMark Stop.sep) i q h = ap (λ (w : ℕ). isMarked w 2) (q.words i h) ∙ (marks-second (get_or l (3 * i) false) (get_or l (3 * i + 1) false) (get_or l (3 * i + 2) false)).0
-mark-is {l = l} matrixMark i q h = ap (λ (w : ℕ). isMarked w 4) (q.words i h) ∙ (marks-third (get_or l (3 * i) false) (get_or l (3 * i + 1) false) (get_or l (3 * i + 2) false)).0
+mark-is {l = l} (open_mark Stop.none) i q h = ap (λ (w : ℕ). is_marked w 1) (q.words i h) ∙ (marks-first (get_or l (3 * i) false) (get_or l (3 * i + 1) false) (get_or l (3 * i + 2) false)).0
+mark-is {l = l} (open_mark Stop.sep) i q h = ap (λ (w : ℕ). is_marked w 2) (q.words i h) ∙ (marks-second (get_or l (3 * i) false) (get_or l (3 * i + 1) false) (get_or l (3 * i + 2) false)).0
+mark-is {l = l} matrix_mark i q h = ap (λ (w : ℕ). is_marked w 4) (q.words i h) ∙ (marks-third (get_or l (3 * i) false) (get_or l (3 * i + 1) false) (get_or l (3 * i + 2) false)).0
 
 -- a failed attempt sets it
 module _ (l : List Bool) (p : ℕ) where
@@ -85,28 +85,28 @@ module _ (l : List Bool) (p : ℕ) where
   there-same j h = get_or-set_other l p j true false h
 
 -- the three marks of the entry j as one number
-abbrev marksAt : List Bool → ℕ → ℕ
-marksAt l j = marksWord (get_or l (3 * j) false) (get_or l (3 * j + 1) false) (get_or l (3 * j + 2) false)
+abbrev marks_at : List Bool → ℕ → ℕ
+marks_at l j = marks_word (get_or l (3 * j) false) (get_or l (3 * j + 1) false) (get_or l (3 * j + 2) false)
 
-own-marks : (m : Mark) (i : ℕ) (l : List Bool) → 3 * i + 2 < length l → withMark (marksAt l i) (markNumber m) ≡ marksAt (set l (slot m i) true) i
+own-marks : (m : Mark) (i : ℕ) (l : List Bool) → 3 * i + 2 < length l → with_mark (marks_at l i) (mark_number m) ≡ marks_at (set l (slot m i) true) i
 unfolding slot
-own-marks (openMark Stop.none) i l h = (marks-first (get_or l (3 * i) false) (get_or l (3 * i + 1) false) (get_or l (3 * i + 2) false)).1 ∙ sym (rw (here-true l (3 * i) (omega arith), there-same l (3 * i) (3 * i + 1) (λ z. omega arith), there-same l (3 * i) (3 * i + 2) (λ z. omega arith)))
-own-marks (openMark Stop.sep) i l h = (marks-second (get_or l (3 * i) false) (get_or l (3 * i + 1) false) (get_or l (3 * i + 2) false)).1 ∙ sym (rw (here-true l (3 * i + 1) (omega arith), there-same l (3 * i + 1) (3 * i) (λ z. omega arith), there-same l (3 * i + 1) (3 * i + 2) (λ z. omega arith)))
-own-marks matrixMark i l h = (marks-third (get_or l (3 * i) false) (get_or l (3 * i + 1) false) (get_or l (3 * i + 2) false)).1 ∙ sym (rw (here-true l (3 * i + 2) (omega arith), there-same l (3 * i + 2) (3 * i) (λ z. omega arith), there-same l (3 * i + 2) (3 * i + 1) (λ z. omega arith)))
+own-marks (open_mark Stop.none) i l h = (marks-first (get_or l (3 * i) false) (get_or l (3 * i + 1) false) (get_or l (3 * i + 2) false)).1 ∙ sym (rw (here-true l (3 * i) (omega arith), there-same l (3 * i) (3 * i + 1) (λ z. omega arith), there-same l (3 * i) (3 * i + 2) (λ z. omega arith)))
+own-marks (open_mark Stop.sep) i l h = (marks-second (get_or l (3 * i) false) (get_or l (3 * i + 1) false) (get_or l (3 * i + 2) false)).1 ∙ sym (rw (here-true l (3 * i + 1) (omega arith), there-same l (3 * i + 1) (3 * i) (λ z. omega arith), there-same l (3 * i + 1) (3 * i + 2) (λ z. omega arith)))
+own-marks matrix_mark i l h = (marks-third (get_or l (3 * i) false) (get_or l (3 * i + 1) false) (get_or l (3 * i + 2) false)).1 ∙ sym (rw (here-true l (3 * i + 2) (omega arith), there-same l (3 * i + 2) (3 * i) (λ z. omega arith), there-same l (3 * i + 2) (3 * i + 1) (λ z. omega arith)))
 
 slot-in : (m : Mark) (i j k : ℕ) → k < 3 → (j ≡ i → ⊥) → 3 * j + k ≡ slot m i → ⊥
 unfolding slot
-slot-in (openMark Stop.none) i j k h d z = d (omega arith)
-slot-in (openMark Stop.sep) i j k h d z = d (omega arith)
-slot-in matrixMark i j k h d z = d (omega arith)
+slot-in (open_mark Stop.none) i j k h d z = d (omega arith)
+slot-in (open_mark Stop.sep) i j k h d z = d (omega arith)
+slot-in matrix_mark i j k h d z = d (omega arith)
 
-other-marks : (m : Mark) (i j : ℕ) (l : List Bool) → (j ≡ i → ⊥) → marksAt l j ≡ marksAt (set l (slot m i) true) j
+other-marks : (m : Mark) (i j : ℕ) (l : List Bool) → (j ≡ i → ⊥) → marks_at l j ≡ marks_at (set l (slot m i) true) j
 other-marks m i j l d =
     sym (rw (there-same l (slot m i) (3 * j) (λ z. let y : 3 * j + 0 ≡ 3 * j = omega arith in slot-in m i j 0 (omega arith) d (y ∙ z)), there-same l (slot m i) (3 * j + 1) (slot-in m i j 1 (omega arith) d), there-same l (slot m i) (3 * j + 2) (slot-in m i j 2 (omega arith) d)))
 
 -- the words after a failed attempt m at i
 abbrev pub marked : List ℕ → Mark → ℕ → List ℕ
-marked K m i = withMarks K i (withMark (marksOf K i) (markNumber m))
+marked K m i = with_marks K i (with_mark (marks_of K i) (mark_number m))
 
 pub mark_set : {n : ℕ} {K : List ℕ} {l : List Bool} (m : Mark) (i : ℕ) → Marks n K l → i < n → Whole K i → Marks n (marked K m i) (set l (slot m i) true)
 mark_set {n} {K} {l} m i q h fit = record {
@@ -114,26 +114,26 @@ mark_set {n} {K} {l} m i q h fit = record {
   words = λ j k. go j k (eqb j i) refl;
 }
   where
-    own : withMark (marksOf K i) (markNumber m) ≡ marksAt (set l (slot m i) true) i
-    own = ap (λ (w : ℕ). withMark w (markNumber m)) (q.words i h) ∙ own-marks m i l (omega (arith, q.held))
+    own : with_mark (marks_of K i) (mark_number m) ≡ marks_at (set l (slot m i) true) i
+    own = ap (λ (w : ℕ). with_mark w (mark_number m)) (q.words i h) ∙ own-marks m i l (omega (arith, q.held))
 
-    small : InMarks (withMark (marksOf K i) (markNumber m))
+    small : InMarks (with_mark (marks_of K i) (mark_number m))
     small =
         let r = set l (slot m i) true in
         omega (arith, own, marks-small (get_or r (3 * i) false) (get_or r (3 * i + 1) false) (get_or r (3 * i + 2) false))
 
-    go : (j : ℕ) → j < n → (b : Bool) → eqb j i ≡ b → marksOf (marked K m i) j ≡ marksAt (set l (slot m i) true) j
+    go : (j : ℕ) → j < n → (b : Bool) → eqb j i ≡ b → marks_of (marked K m i) j ≡ marks_at (set l (slot m i) true) j
     go j k true e =
-        subst (λ (r : ℕ). marksOf (marked K m i) r ≡ marksAt (set l (slot m i) true) r) (sym (eqb-true j i e))
-        (marks-same K i (withMark (marksOf K i) (markNumber m)) fit small ∙ own)
+        subst (λ (r : ℕ). marks_of (marked K m i) r ≡ marks_at (set l (slot m i) true) r) (sym (eqb-true j i e))
+        (marks-same K i (with_mark (marks_of K i) (mark_number m)) fit small ∙ own)
     go j k false e =
         let d : (j ≡ i → ⊥) = eqb-false j i e in
-        marks-other K i (withMark (marksOf K i) (markNumber m)) j d ∙ q.words j k ∙ other-marks m i j l d
+        marks-other K i (with_mark (marks_of K i) (mark_number m)) j d ∙ q.words j k ∙ other-marks m i j l d
 
 -- what the code's words are after it
-pub at-lost : {X t : List ℕ} {n : ℕ} {K L K₀ : List ℕ} {I : Input} {s v : State} {p u p₀ u₀ : ℕ} (m : Mark) (i : ℕ) → At X t n K p u I v → At X t n K₀ p₀ u₀ I s → i < n → Whole K i
+pub at_lost : {X t : List ℕ} {n : ℕ} {K L K₀ : List ℕ} {I : Input} {s v : State} {p u p₀ u₀ : ℕ} (m : Mark) (i : ℕ) → At X t n K p u I v → At X t n K₀ p₀ u₀ I s → i < n → Whole K i
     → L ≡ marked K m i → At X t n L p₀ u I (record { pos = s.pos; takes = v.takes; marks = set v.marks (slot m i) true; closers = s.closers })
-at-lost m i a a₀ h fit hl = rw hl (record { given = given-kept (marks-kept _ i _) a.given; marks = mark_set m i a.marks h fit; pos = a₀.pos; takes = a.takes })
+at_lost m i a a₀ h fit hl = rw hl (record { given = given-kept (marks-kept _ i _) a.given; marks = mark_set m i a.marks h fit; pos = a₀.pos; takes = a.takes })
 
 pub known-lost : {X t : List ℕ} {n : ℕ} {K L : List ℕ} (m : Mark) (i : ℕ) → Known X t n K → i < n → Whole K i
     → L ≡ marked K m i → Known X t n L
@@ -147,17 +147,17 @@ module _ (text : List ℕ) (es : List Entry) (m : Mark) (i : ℕ) (body : M Try)
 
   pub attempt-known : get_or s.marks (slot m i) false ≡ true → attempt text es true m i body s ≡ (none, s)
   unfolding attempt
-  attempt-known h = bind _ _ s (at-current s) ∙ bind _ _ s (known-runs true h) ∙ if-true _ _ s refl ∙ ret _ _
+  attempt-known h = bind _ _ s (at_current s) ∙ bind _ _ s (known-runs true h) ∙ if_true _ _ s refl ∙ ret _ _
 
   module _ (h : get_or s.marks (slot m i) false ≡ false) {u : State} where
     pub attempt-made : (x : Node) → body s ≡ (made x, u) → attempt text es true m i body s ≡ (some x, u)
     unfolding attempt
-    attempt-made x k = bind _ _ s (at-current s) ∙ bind _ _ s (known-runs false h) ∙ if-false _ _ s refl ∙ bind _ _ s k ∙ ret _ _
+    attempt-made x k = bind _ _ s (at_current s) ∙ bind _ _ s (known-runs false h) ∙ if_false _ _ s refl ∙ bind _ _ s k ∙ ret _ _
 
     pub attempt-nought : body s ≡ (nought, u) → attempt text es true m i body s ≡ (none, u)
     unfolding attempt
-    attempt-nought k = bind _ _ s (at-current s) ∙ bind _ _ s (known-runs false h) ∙ if-false _ _ s refl ∙ bind _ _ s k ∙ ret _ _
+    attempt-nought k = bind _ _ s (at_current s) ∙ bind _ _ s (known-runs false h) ∙ if_false _ _ s refl ∙ bind _ _ s k ∙ ret _ _
 
     pub attempt-lost : body s ≡ (lost, u) → attempt text es true m i body s ≡ (none, record { pos = s.pos; takes = u.takes; marks = set u.marks (slot m i) true; closers = s.closers })
-    unfolding attempt giveUp
-    attempt-lost k = bind _ _ s (at-current s) ∙ bind _ _ s (known-runs false h) ∙ if-false _ _ s refl ∙ bind _ _ s k
+    unfolding attempt give_up
+    attempt-lost k = bind _ _ s (at_current s) ∙ bind _ _ s (known-runs false h) ∙ if_false _ _ s refl ∙ bind _ _ s k

@@ -14,13 +14,13 @@ use Rattle.tokens.specs.declared.token.Token.{Token}
 use Rattle.tokens.specs.declared.token.Token.TheVariants as token
 use Rattle.tokens.specs.Kinds.{number_of}
 use Rattle.reading.specs.Entries.{Entry, is}
-use Rattle.reading.specs.Reading.{State, M, return, ◌>>=◌, if◌then◌else◌, here, current, closed, advance, heads, marksScript, begins, stops, level, nextSimple, nextScriptFunc, step, is_at}
+use Rattle.reading.specs.Reading.{State, M, return, ◌>>=◌, if◌then◌else◌, here, current, closed, advance, heads, marks_script, begins, stops, level, next_simple, next_script_func, step, is_at}
 use Rattle.lookahead.proofs.Testing.{test_below}
-use Rattle.records.specs.Record.{place_of, is_placed, kind_of, start_of, len_of, spaceStart, spaceLen, Kept}
-use Rattle.lookahead.specs.Tests.{testAt, isKind, headsKind, marksKind, beginsKind}
+use Rattle.records.specs.Record.{place_of, is_placed, kind_of, start_of, len_of, space_start, space_len, Kept}
+use Rattle.lookahead.specs.Tests.{test_at, is_kind, heads_kind, marks_kind, begins_kind}
 use Rattle.lookahead.specs.Takes.{looked}
 use Rattle.reading_words.specs.Entry.{Safe}
-use Rattle.reading_words.specs.Meet.{Input, Row, Stands, Given, At, Known, readers, stopOf}
+use Rattle.reading_words.specs.Meet.{Input, Row, Stands, Given, At, Known, readers, stop_of}
 
 -- The monad.
 pub bind : {A B : Type 0} (m : M A) (f : A → M B) (s : State) {t : State} {a : A} → m s ≡ (a, t) → (m >>= f) s ≡ f a t
@@ -39,21 +39,21 @@ pub ret-closed : {A : Type 0} (i : ℕ) (a : A) (s : State) → closed i a s ≡
 unfolding closed
 ret-closed i a s = refl
 
-pub at-current : (s : State) → current s ≡ (s, s)
+pub at_current : (s : State) → current s ≡ (s, s)
 unfolding current
-at-current s = refl
+at_current s = refl
 
 pub at_here : (s : State) → here s ≡ (s.pos, s)
 unfolding here
 at_here s = refl
 
-pub if-true : {A : Type 0} {b : Bool} (m n : M A) (s : State) → b ≡ true → (if b then m else n) s ≡ m s
+pub if_true : {A : Type 0} {b : Bool} (m n : M A) (s : State) → b ≡ true → (if b then m else n) s ≡ m s
 unfolding if◌then◌else◌
-if-true m n s h = rw h
+if_true m n s h = rw h
 
-pub if-false : {A : Type 0} {b : Bool} (m n : M A) (s : State) → b ≡ false → (if b then m else n) s ≡ n s
+pub if_false : {A : Type 0} {b : Bool} (m n : M A) (s : State) → b ≡ false → (if b then m else n) s ≡ n s
 unfolding if◌then◌else◌
-if-false m n s h = rw h
+if_false m n s h = rw h
 
 abbrev pub tick : State → State
 tick s = record { pos = suc s.pos; takes = suc s.takes; marks = s.marks; closers = s.closers }
@@ -112,16 +112,16 @@ module _ {K L : List ℕ} (t : List ℕ) (p : Places K L) (i : ℕ) where
   unfolding len_of
   same_len = rw (same-placed, p.place i)
 
-  same-space : spaceStart t L i ≡ spaceStart t K i
-  unfolding spaceStart
+  same-space : space_start t L i ≡ space_start t K i
+  unfolding space_start
   same-space = rw (same-placed, p.place i)
 
-  same-spaceLen : spaceLen t L i ≡ spaceLen t K i
-  unfolding spaceLen
-  same-spaceLen = rw (same-placed, p.place i)
+  same-space_len : space_len t L i ≡ space_len t K i
+  unfolding space_len
+  same-space_len = rw (same-placed, p.place i)
 
   pub same_row : {e : Entry} → Row t K i e → Row t L i e
-  same_row r = record { kind = same_kind ∙ r.kind; start = same_start ∙ r.start; len = same_len ∙ r.len; space = same-space ∙ r.space; spaceSize = same-spaceLen ∙ r.spaceSize }
+  same_row r = record { kind = same_kind ∙ r.kind; start = same_start ∙ r.start; len = same_len ∙ r.len; space = same-space ∙ r.space; space_size = same-space_len ∙ r.space_size }
 
 pub safe-same : {n : ℕ} {X t K L : List ℕ} → Places K L → Safe n X t K → Safe n X t L
 safe-same {n} {X} {t} p q = record {
@@ -149,8 +149,8 @@ module _ {X t : List ℕ} {n : ℕ} {K : List ℕ} {I : Input} {s : State} where
   pub at_tick : {p u : ℕ} → At X t n K p u I s → At X t n K (p + 1) ((u + 1) % 2 ^ 32) I (tick s)
   at_tick {p} {u} a = record { given = a.given; marks = a.marks; pos = omega (arith, a.pos); takes = more-takes u s.takes a.takes }
 
-  pub at-shut : {p u : ℕ} (i : ℕ) → At X t n K p u I s → At X t n K p u I (shut i s)
-  at-shut i a = record { given = a.given; marks = a.marks; pos = a.pos; takes = a.takes }
+  pub at_shut : {p u : ℕ} (i : ℕ) → At X t n K p u I s → At X t n K p u I (shut i s)
+  at_shut i a = record { given = a.given; marks = a.marks; pos = a.pos; takes = a.takes }
 
 -- some state stands at any position
 pub some_at : {X t : List ℕ} {n : ℕ} {K : List ℕ} (k : Known X t n K) (p u : ℕ) → At X t n K p u k.input (record { pos = p; takes = u; marks = k.marked; closers = [] })
@@ -171,21 +171,21 @@ abbrev pub Same : (Entry → Bool) → (ℕ → Bool) → Type 0
 Same ok f = (e : Entry) → ok e ≡ f (number_of e.token)
 
 module _ (t K : List ℕ) (n : ℕ) (f : ℕ → Bool) (i : ℕ) where
-  pub test-kind : (b : Bool) → i < n → testAt t K n f i ≡ b → f (kind_of t K i) ≡ b
-  unfolding testAt
+  pub test-kind : (b : Bool) → i < n → test_at t K n f i ≡ b → f (kind_of t K i) ≡ b
+  unfolding test_at
   test-kind b h k = rw (lt-ltb i n h) at k
 
-  pub test_in : i < n → testAt t K n f i ≡ f (kind_of t K i)
-  unfolding testAt
+  pub test_in : i < n → test_at t K n f i ≡ f (kind_of t K i)
+  unfolding test_at
   test_in h = rw (lt-ltb i n h)
 
-  pub test-out : n ≤ i → testAt t K n f i ≡ false
-  unfolding testAt
+  pub test-out : n ≤ i → test_at t K n f i ≡ false
+  unfolding test_at
   test-out h = rw (le-ltb i n h)
 
 module _ {X t : List ℕ} {n : ℕ} {K : List ℕ} {I : Input} {s : State} {p u : ℕ} {ok : Entry → Bool} (f : ℕ → Bool) (a : At X t n K p u I s) (same : Same ok f) where
   -- The test holds: the entry is taken.
-  pub took : testAt t K n f p ≡ true → (q : Stands t K I.es p) × (advance I.text I.es ok s ≡ (some q.entry, tick s))
+  pub took : test_at t K n f p ≡ true → (q : Stands t K I.es p) × (advance I.text I.es ok s ≡ (some q.entry, tick s))
   took h =
       let b : p < n = test_below t K n f p h in
       let q = a.given.stands p b in
@@ -199,7 +199,7 @@ module _ {X t : List ℕ} {n : ℕ} {K : List ℕ} {I : Input} {s : State} {p u 
     pub at : At X t n K p (looked n p u) I state
     pub closers : state.closers ≡ s.closers
 
-  pub passed : testAt t K n f p ≡ false → Passed
+  pub passed : test_at t K n f p ≡ false → Passed
   unfolding looked
   passed h = go (ltb p n) refl
     where
@@ -214,23 +214,23 @@ module _ {X t : List ℕ} {n : ℕ} {K : List ℕ} {I : Input} {s : State} {p u 
           record { state = s; runs = advance-end I.text I.es ok s (past I.es s.pos (omega (arith, a.pos, a.given.size))); at = record { given = a.given; marks = a.marks; pos = a.pos; takes = rw e a.takes }; closers = refl }
 
 -- Each of the definition's tests, by number.
-eqb-sym : (a b : ℕ) → eqb a b ≡ eqb b a
-eqb-sym a b = go (eqb a b) refl
+eqb_sym : (a b : ℕ) → eqb a b ≡ eqb b a
+eqb_sym a b = go (eqb a b) refl
   where
     go : (r : Bool) → eqb a b ≡ r → r ≡ eqb b a
     go true h = sym (eq-eqb b a (sym (eqb-true a b h)))
     go false h = sym (ne_eqb b a (λ z. eqb-false a b h (sym z)))
 
-pub same-is : (k : Token) → Same (is k) (isKind (number_of k))
+pub same-is : (k : Token) → Same (is k) (is_kind (number_of k))
 unfolding is
-same-is k e = eqb-sym (number_of k) (number_of e.token)
+same-is k e = eqb_sym (number_of k) (number_of e.token)
 
-pub same-heads : (sg : Bool) → Same (heads sg) (headsKind sg)
+pub same-heads : (sg : Bool) → Same (heads sg) (heads_kind sg)
 unfolding heads
 same-heads sg e = rw (same-is token.Function e, same-is token.Sign e)
 
-pub same-marks : Same marksScript marksKind
-unfolding marksScript
+pub same-marks : Same marks_script marks_kind
+unfolding marks_script
 same-marks e = rw (same-is token.Super e, same-is token.Sub e)
 
 three-or : (a b c : Bool) → not ((a || b) || c) ≡ not (b || (c || a))
@@ -243,28 +243,28 @@ three-or false true false = refl
 three-or false false true = refl
 three-or false false false = refl
 
-pub same-begins : (stop : Bool) → Same (begins (stopOf stop)) (beginsKind stop)
+pub same-begins : (stop : Bool) → Same (begins (stop_of stop)) (begins_kind stop)
 unfolding begins stops
 same-begins true e = rw (same-is token.Sep e, same-is token.CloseBracket e, same-is token.Space e) (three-or (eqb (number_of e.token) 3) (eqb (number_of e.token) 21) (eqb (number_of e.token) 23))
 same-begins false e = rw (same-is token.CloseBracket e, same-is token.Space e) (three-or false (eqb (number_of e.token) 21) (eqb (number_of e.token) 23))
 
 -- The kind of an entry in hand, by a test of its words.
-pub kind-is : {t K : List ℕ} {n i : ℕ} {e : Entry} (k : Token) (b : Bool) → Row t K i e → i < n → testAt t K n (isKind (number_of k)) i ≡ b → is k e ≡ b
-kind-is {t} {K} {n} {i} {e} k b r l q = same-is k e ∙ ap (λ (w : ℕ). eqb w (number_of k)) (sym r.kind) ∙ test-kind t K n (isKind (number_of k)) i b l q
+pub kind-is : {t K : List ℕ} {n i : ℕ} {e : Entry} (k : Token) (b : Bool) → Row t K i e → i < n → test_at t K n (is_kind (number_of k)) i ≡ b → is k e ≡ b
+kind-is {t} {K} {n} {i} {e} k b r l q = same-is k e ∙ ap (λ (w : ℕ). eqb w (number_of k)) (sym r.kind) ∙ test-kind t K n (is_kind (number_of k)) i b l q
 
 -- A level of the readers.
-pub level-simple : (I : Input) (d : ℕ) → d < 256 → (readers d I).simple ≡ nextSimple I.text I.es true (readers (d + 1) I)
+pub level-simple : (I : Input) (d : ℕ) → d < 256 → (readers d I).simple ≡ next_simple I.text I.es true (readers (d + 1) I)
 unfolding level step
 level-simple I d h = let z : 256 - d ≡ suc (256 - (d + 1)) = omega arith in rw z
 
-pub level-scriptFunc : (I : Input) (d : ℕ) → d < 256 → (readers d I).scriptFunc ≡ nextScriptFunc I.text I.es true (readers (d + 1) I)
+pub level-script_func : (I : Input) (d : ℕ) → d < 256 → (readers d I).script_func ≡ next_script_func I.text I.es true (readers (d + 1) I)
 unfolding level step
-level-scriptFunc I d h = let z : 256 - d ≡ suc (256 - (d + 1)) = omega arith in rw z
+level-script_func I d h = let z : 256 - d ≡ suc (256 - (d + 1)) = omega arith in rw z
 
 pub deep-simple : (I : Input) (d : ℕ) → 256 ≤ d → (readers d I).simple ≡ (λ stop sg. return none)
 unfolding level
 deep-simple I d h = let z : 256 - d ≡ zero = omega arith in rw z
 
-pub deep-scriptFunc : (I : Input) (d : ℕ) → 256 ≤ d → (readers d I).scriptFunc ≡ (λ stop sg. return none)
+pub deep-script_func : (I : Input) (d : ℕ) → 256 ≤ d → (readers d I).script_func ≡ (λ stop sg. return none)
 unfolding level
-deep-scriptFunc I d h = let z : 256 - d ≡ zero = omega arith in rw z
+deep-script_func I d h = let z : 256 - d ≡ zero = omega arith in rw z

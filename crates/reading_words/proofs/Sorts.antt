@@ -8,15 +8,15 @@ use Rattle.tokens.specs.declared.token.SymbolClass.{SymbolClass}
 use Rattle.tokens.specs.declared.token.SymbolClass.TheVariants as class
 use Rattle.tokens.specs.declared.token.Token.{Token}
 use Rattle.tokens.specs.declared.token.Token.TheVariants as token
-use Rattle.tokens.specs.Kinds.{number_of, classNumber}
+use Rattle.tokens.specs.Kinds.{number_of, class_number}
 use Rattle.tree.specs.Tree.{Head, Atom, leaf}
-use Rattle.tree.specs.Words.{atomKind, classWord}
+use Rattle.tree.specs.Words.{atom_kind, class_word}
 use Rattle.reading.specs.Entries.{Entry}
-use Rattle.reading.specs.Reading.{State, return, Readers, begun, atomEnds}
-use Rattle.leaves.specs.Leaves.{leafKind, leafClass, leafEnds}
-use Rattle.reading_words.specs.Meet.{Input, stopOf}
+use Rattle.reading.specs.Reading.{State, return, Readers, begun, atom_ends}
+use Rattle.leaves.specs.Leaves.{leaf_kind, leaf_class, leaf_ends}
+use Rattle.reading_words.specs.Meet.{Input, stop_of}
 
-class-small : (c : SymbolClass) → classNumber c < 8
+class-small : (c : SymbolClass) → class_number c < 8
 class-small class.Glyph = omega arith
 class-small class.Name = omega arith
 class-small class.Joining = omega arith
@@ -102,55 +102,55 @@ is-Binary token.CloseBracket h = absurd (omega arith)
 is-Binary token.OpenCloseBracket h = absurd (omega arith)
 is-Binary token.Space h = absurd (omega arith)
 
-pub is-OpenBracket : (k : Token) → number_of k ≡ 20 → k ≡ token.OpenBracket
-is-OpenBracket token.Frac h = absurd (omega arith)
-is-OpenBracket token.Super h = absurd (omega arith)
-is-OpenBracket token.Sub h = absurd (omega arith)
-is-OpenBracket token.Sep h = absurd (omega arith)
-is-OpenBracket token.Number h = absurd (omega arith)
-is-OpenBracket token.Text h = absurd (omega arith)
-is-OpenBracket token.Ident h = absurd (omega arith)
-is-OpenBracket token.Operator h = absurd (omega arith)
-is-OpenBracket (token.Symbol c) h = absurd (omega (arith, class-small c))
-is-OpenBracket token.Sign h = absurd (omega arith)
-is-OpenBracket token.Function h = absurd (omega arith)
-is-OpenBracket token.Unary h = absurd (omega arith)
-is-OpenBracket token.Binary h = absurd (omega arith)
-is-OpenBracket token.OpenBracket h = refl
-is-OpenBracket token.CloseBracket h = absurd (omega arith)
-is-OpenBracket token.OpenCloseBracket h = absurd (omega arith)
-is-OpenBracket token.Space h = absurd (omega arith)
+pub is-Open_bracket : (k : Token) → number_of k ≡ 20 → k ≡ token.OpenBracket
+is-Open_bracket token.Frac h = absurd (omega arith)
+is-Open_bracket token.Super h = absurd (omega arith)
+is-Open_bracket token.Sub h = absurd (omega arith)
+is-Open_bracket token.Sep h = absurd (omega arith)
+is-Open_bracket token.Number h = absurd (omega arith)
+is-Open_bracket token.Text h = absurd (omega arith)
+is-Open_bracket token.Ident h = absurd (omega arith)
+is-Open_bracket token.Operator h = absurd (omega arith)
+is-Open_bracket (token.Symbol c) h = absurd (omega (arith, class-small c))
+is-Open_bracket token.Sign h = absurd (omega arith)
+is-Open_bracket token.Function h = absurd (omega arith)
+is-Open_bracket token.Unary h = absurd (omega arith)
+is-Open_bracket token.Binary h = absurd (omega arith)
+is-Open_bracket token.OpenBracket h = refl
+is-Open_bracket token.CloseBracket h = absurd (omega arith)
+is-Open_bracket token.OpenCloseBracket h = absurd (omega arith)
+is-Open_bracket token.Space h = absurd (omega arith)
 
-pub is-OpenCloseBracket : (k : Token) → number_of k ≡ 22 → k ≡ token.OpenCloseBracket
-is-OpenCloseBracket token.Frac h = absurd (omega arith)
-is-OpenCloseBracket token.Super h = absurd (omega arith)
-is-OpenCloseBracket token.Sub h = absurd (omega arith)
-is-OpenCloseBracket token.Sep h = absurd (omega arith)
-is-OpenCloseBracket token.Number h = absurd (omega arith)
-is-OpenCloseBracket token.Text h = absurd (omega arith)
-is-OpenCloseBracket token.Ident h = absurd (omega arith)
-is-OpenCloseBracket token.Operator h = absurd (omega arith)
-is-OpenCloseBracket (token.Symbol c) h = absurd (omega (arith, class-small c))
-is-OpenCloseBracket token.Sign h = absurd (omega arith)
-is-OpenCloseBracket token.Function h = absurd (omega arith)
-is-OpenCloseBracket token.Unary h = absurd (omega arith)
-is-OpenCloseBracket token.Binary h = absurd (omega arith)
-is-OpenCloseBracket token.OpenBracket h = absurd (omega arith)
-is-OpenCloseBracket token.CloseBracket h = absurd (omega arith)
-is-OpenCloseBracket token.OpenCloseBracket h = refl
-is-OpenCloseBracket token.Space h = absurd (omega arith)
+pub is-Open_close_bracket : (k : Token) → number_of k ≡ 22 → k ≡ token.OpenCloseBracket
+is-Open_close_bracket token.Frac h = absurd (omega arith)
+is-Open_close_bracket token.Super h = absurd (omega arith)
+is-Open_close_bracket token.Sub h = absurd (omega arith)
+is-Open_close_bracket token.Sep h = absurd (omega arith)
+is-Open_close_bracket token.Number h = absurd (omega arith)
+is-Open_close_bracket token.Text h = absurd (omega arith)
+is-Open_close_bracket token.Ident h = absurd (omega arith)
+is-Open_close_bracket token.Operator h = absurd (omega arith)
+is-Open_close_bracket (token.Symbol c) h = absurd (omega (arith, class-small c))
+is-Open_close_bracket token.Sign h = absurd (omega arith)
+is-Open_close_bracket token.Function h = absurd (omega arith)
+is-Open_close_bracket token.Unary h = absurd (omega arith)
+is-Open_close_bracket token.Binary h = absurd (omega arith)
+is-Open_close_bracket token.OpenBracket h = absurd (omega arith)
+is-Open_close_bracket token.CloseBracket h = absurd (omega arith)
+is-Open_close_bracket token.OpenCloseBracket h = refl
+is-Open_close_bracket token.Space h = absurd (omega arith)
 
 -- A token that is a leaf.
 pub record Leaf (I : Input) (R : Readers) (k : Token) (en : Entry) (i : ℕ) (stop sg : Bool) (s : State) : Type 0 where
   pub atom : Atom
-  pub runs : begun I.text I.es true R k en i (stopOf stop) sg s ≡ (some (leaf (Head.atom atom en.span)), s)
-  pub kind : leafKind (number_of k) ≡ atomKind atom
-  pub class : leafClass (number_of k) ≡ classWord atom
-  pub flag : leafEnds (number_of k) ≡ atomEnds atom
+  pub runs : begun I.text I.es true R k en i (stop_of stop) sg s ≡ (some (leaf (Head.atom atom en.span)), s)
+  pub kind : leaf_kind (number_of k) ≡ atom_kind atom
+  pub class : leaf_class (number_of k) ≡ class_word atom
+  pub flag : leaf_ends (number_of k) ≡ atom_ends atom
 
 pub leaf-of : (I : Input) (R : Readers) (k : Token) (en : Entry) (i : ℕ) (stop sg : Bool) (s : State) → (number_of k ≡ 20 → ⊥) → (number_of k ≡ 18 → ⊥) → (number_of k ≡ 17 → ⊥) → (number_of k ≡ 19 → ⊥) → (number_of k ≡ 22 → ⊥)
     → (number_of k ≡ 16 → sg ≡ false) → (number_of k ≡ 21 → ⊥) → (number_of k ≡ 23 → ⊥) → Leaf I R k en i stop sg s
-unfolding atomEnds begun return
+unfolding atom_ends begun return
 leaf-of I R token.Frac en i stop sg s a b f g o h j l = record { atom = Atom.symbol class.Glyph; runs = refl; kind = refl; class = refl; flag = refl }
 leaf-of I R token.Super en i stop sg s a b f g o h j l = record { atom = Atom.symbol class.Glyph; runs = refl; kind = refl; class = refl; flag = refl }
 leaf-of I R token.Sub en i stop sg s a b f g o h j l = record { atom = Atom.symbol class.Glyph; runs = refl; kind = refl; class = refl; flag = refl }

@@ -16,5 +16,5 @@ pub record Safe (n : ℕ) (X t K : List ℕ) : Type 0 where
   pub spans : (i : ℕ) → i < n → start_of t K i + len_of t K i ≤ length X
 
 -- the marks of an entry, failed opens with the stops none and Sep and a failed matrix, as one number
-abbrev pub marksWord : Bool → Bool → Bool → ℕ
-marksWord a b c = bit a + (2 * bit b + 4 * bit c)
+abbrev pub marks_word : Bool → Bool → Bool → ℕ
+marks_word a b c = bit a + (2 * bit b + 4 * bit c)

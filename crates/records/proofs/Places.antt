@@ -6,24 +6,24 @@ use mathlib.Core.List.{List}
 use native.Mathlib.Nat.{add-zero}
 use lib.ListN.{length, get_or}
 use borrow.Author.Tests.{lt-ltb, le-ltb, eq-eqb, ne_eqb}
-use Rattle.records.specs.Record.{place_of, Whole, is_whole, is_placed, start_of, spaceWord}
+use Rattle.records.specs.Record.{place_of, Whole, is_whole, is_placed, start_of, space_word}
 
 never : (b : Bool) → cond b false false ≡ false
 never true = refl
 never false = refl
 
 module _ (t K : List ℕ) (i : ℕ) where
-  pub is-placed : Whole K i → 3 * place_of K i + 2 < length t → is_placed t K i ≡ true
+  pub is_placed_lem : Whole K i → 3 * place_of K i + 2 < length t → is_placed t K i ≡ true
   unfolding is_placed
-  is-placed h k = rw (lt-ltb _ _ h, lt-ltb _ _ k)
+  is_placed_lem h k = rw (lt-ltb _ _ h, lt-ltb _ _ k)
 
-  pub is-short : length K ≤ 2 * i + 1 → is_placed t K i ≡ false
+  pub is_short : length K ≤ 2 * i + 1 → is_placed t K i ≡ false
   unfolding is_placed
-  is-short h = rw (le-ltb _ _ h)
+  is_short h = rw (le-ltb _ _ h)
 
-  pub is-outside : length t ≤ 3 * place_of K i + 2 → is_placed t K i ≡ false
+  pub is_outside : length t ≤ 3 * place_of K i + 2 → is_placed t K i ≡ false
   unfolding is_placed
-  is-outside h = rw (le-ltb _ _ h) (never (is_whole K i))
+  is_outside h = rw (le-ltb _ _ h) (never (is_whole K i))
 
   -- the first word of its token
   pub start_word : cond (is_placed t K i) (get_or t (3 * place_of K i + 0) 0) 0 ≡ start_of t K i
@@ -32,14 +32,14 @@ module _ (t K : List ℕ) (i : ℕ) where
 
 -- A word of the Space before a place.
 module _ (t : List ℕ) (j k : ℕ) where
-  pub space-first : j ≡ 0 → spaceWord t j k ≡ 0
-  unfolding spaceWord
+  pub space-first : j ≡ 0 → space_word t j k ≡ 0
+  unfolding space_word
   space-first h = rw (eq-eqb j 0 h)
 
-  pub space-there : (j ≡ 0 → ⊥) → 23 ≤ get_or t (3 * (j - 1) + 2) 0 → spaceWord t j k ≡ get_or t (3 * (j - 1) + k) 0
-  unfolding spaceWord
+  pub space-there : (j ≡ 0 → ⊥) → 23 ≤ get_or t (3 * (j - 1) + 2) 0 → space_word t j k ≡ get_or t (3 * (j - 1) + k) 0
+  unfolding space_word
   space-there h e = rw (ne_eqb j 0 h, le-ltb _ _ e)
 
-  pub space-absent : (j ≡ 0 → ⊥) → get_or t (3 * (j - 1) + 2) 0 < 23 → spaceWord t j k ≡ 0
-  unfolding spaceWord
+  pub space-absent : (j ≡ 0 → ⊥) → get_or t (3 * (j - 1) + 2) 0 < 23 → space_word t j k ≡ 0
+  unfolding space_word
   space-absent h e = rw (ne_eqb j 0 h, lt-ltb _ _ e)

@@ -7,36 +7,36 @@ use native.Mathlib.Decide.{ℕ_discrete}
 use lib.ListN.{length, get_or, drop, get_or-append}
 use lib.Seq.{get_or-drop}
 use Rattle.records.specs.declared.bits.Bits.TheVariants.{Low, High, Marks, Closer}
-use Rattle.records.specs.Record.{recordWords, InHalf, bitsOf, place_of, afterClose, sepOf, marksOf, closerOf, recordOf}
+use Rattle.records.specs.Record.{record_words, InHalf, bits_of, place_of, after_close, sep_of, marks_of, closer_of, record_of}
 
 -- the record i of K is the record j of L
 pub record Same (K : List ℕ) (i : ℕ) (L : List ℕ) (j : ℕ) : Type 0 where
   pub place : place_of K i ≡ place_of L j
-  pub close : afterClose K i ≡ afterClose L j
-  pub sep : sepOf K i ≡ sepOf L j
-  pub marks : marksOf K i ≡ marksOf L j
-  pub closer : closerOf K i ≡ closerOf L j
+  pub close : after_close K i ≡ after_close L j
+  pub sep : sep_of K i ≡ sep_of L j
+  pub marks : marks_of K i ≡ marks_of L j
+  pub closer : closer_of K i ≡ closer_of L j
 
 -- if its two words are
 pub same-words : (K : List ℕ) (i : ℕ) (L : List ℕ) (j : ℕ) → ((k : ℕ) → k < 2 → get_or K (2 * i + k) 0 ≡ get_or L (2 * j + k) 0) → Same K i L j
-unfolding place_of afterClose sepOf marksOf closerOf
+unfolding place_of after_close sep_of marks_of closer_of
 same-words K i L j h =
     let a = h 0 (omega arith) in
     let b = h 1 (omega arith) in
-    record { place = ap (bitsOf Low) a; close = ap (bitsOf High) a; sep = ap (bitsOf Low) b; marks = ap (bitsOf Marks) b; closer = ap (bitsOf Closer) b }
+    record { place = ap (bits_of Low) a; close = ap (bits_of High) a; sep = ap (bits_of Low) b; marks = ap (bits_of Marks) b; closer = ap (bits_of Closer) b }
 
 -- the high bits are the marks and the closer
-high : (w : ℕ) → bitsOf High w ≡ bitsOf Marks w + 8 * bitsOf Closer w
+high : (w : ℕ) → bits_of High w ≡ bits_of Marks w + 8 * bits_of Closer w
 high w = omega arith
 
-rejoin : (v w : ℕ) → bitsOf Low v ≡ bitsOf Low w → bitsOf Marks v ≡ bitsOf Marks w → bitsOf Closer v ≡ bitsOf Closer w → v ≡ w
+rejoin : (v w : ℕ) → bits_of Low v ≡ bits_of Low w → bits_of Marks v ≡ bits_of Marks w → bits_of Closer v ≡ bits_of Closer w → v ≡ w
 rejoin v w a b c =
-    let h : bitsOf High v ≡ bitsOf High w = high v ∙ rw (b, c) (sym (high w)) in
+    let h : bits_of High v ≡ bits_of High w = high v ∙ rw (b, c) (sym (high w)) in
     omega (arith, a, h)
 
 -- where n records are the same, so are their words
-pub words_same : (K L : List ℕ) (n : ℕ) → ((j : ℕ) → j < n → Same K j L j) → (x : ℕ) → x < recordWords n → get_or K x 0 ≡ get_or L x 0
-unfolding place_of afterClose sepOf marksOf closerOf
+pub words_same : (K L : List ℕ) (n : ℕ) → ((j : ℕ) → j < n → Same K j L j) → (x : ℕ) → x < record_words n → get_or K x 0 ≡ get_or L x 0
+unfolding place_of after_close sep_of marks_of closer_of
 words_same K L n h x l = go (ℕ_discrete (x % 2) 0)
   where
     go : Dec (x % 2 ≡ 0) → get_or K x 0 ≡ get_or L x 0
@@ -52,48 +52,48 @@ words_same K L n h x l = go (ℕ_discrete (x % 2) 0)
         rw z at a
 
 -- the records of a list behind some of them, and of one in front
-pub same_drop : (K : List ℕ) (n i : ℕ) → Same (drop (recordWords n) K) i K (n + i)
+pub same_drop : (K : List ℕ) (n i : ℕ) → Same (drop (record_words n) K) i K (n + i)
 same_drop K n i =
-    same-words (drop (recordWords n) K) i K (n + i)
+    same-words (drop (record_words n) K) i K (n + i)
     (λ k l. let z : 2 * n + (2 * i + k) ≡ 2 * (n + i) + k = omega arith in get_or-drop (2 * n) K (2 * i + k) 0 ∙ rw z)
 
-pub same-append : (K L : List ℕ) (i : ℕ) → recordWords (i + 1) ≤ length K → Same (K ++ L) i K i
+pub same-append : (K L : List ℕ) (i : ℕ) → record_words (i + 1) ≤ length K → Same (K ++ L) i K i
 same-append K L i h = same-words (K ++ L) i K i (λ k l. get_or-append K L 0 (2 * i + k) (omega arith))
 
 -- a record in front
 module _ (place close sep : ℕ) (K : List ℕ) where
-  pub length-record : length (recordOf place close sep K) ≡ recordWords 1 + length K
-  unfolding recordOf
+  pub length-record : length (record_of place close sep K) ≡ record_words 1 + length K
+  unfolding record_of
   length-record = omega arith
 
-  pub drop-record : drop (recordWords 1) (recordOf place close sep K) ≡ K
-  unfolding recordOf
+  pub drop-record : drop (record_words 1) (record_of place close sep K) ≡ K
+  unfolding record_of
   drop-record = refl
 
-  pub next-record : (i : ℕ) → Same (recordOf place close sep K) (suc i) K i
-  unfolding recordOf
+  pub next-record : (i : ℕ) → Same (record_of place close sep K) (suc i) K i
+  unfolding record_of
   next-record i =
-      same-words (recordOf place close sep K) (suc i) K i
+      same-words (record_of place close sep K) (suc i) K i
       (λ k l. let z : 2 * suc i + k ≡ suc (suc (2 * i + k)) = omega arith in rw z)
 
   module _ (h : InHalf place) where
-    pub first-place : place_of (recordOf place close sep K) 0 ≡ place
-    unfolding place_of recordOf
+    pub first-place : place_of (record_of place close sep K) 0 ≡ place
+    unfolding place_of record_of
     first-place = omega arith
 
-    pub first-close : afterClose (recordOf place close sep K) 0 ≡ close
-    unfolding afterClose recordOf
+    pub first-close : after_close (record_of place close sep K) 0 ≡ close
+    unfolding after_close record_of
     first-close = omega arith
 
   module _ (h : InHalf sep) where
-    pub first-sep : sepOf (recordOf place close sep K) 0 ≡ sep
-    unfolding sepOf recordOf
+    pub first-sep : sep_of (record_of place close sep K) 0 ≡ sep
+    unfolding sep_of record_of
     first-sep = omega arith
 
-    pub first_marks : marksOf (recordOf place close sep K) 0 ≡ 0
-    unfolding marksOf recordOf
+    pub first_marks : marks_of (record_of place close sep K) 0 ≡ 0
+    unfolding marks_of record_of
     first_marks = omega arith
 
-    pub first-closer : closerOf (recordOf place close sep K) 0 ≡ 0
-    unfolding closerOf recordOf
+    pub first-closer : closer_of (record_of place close sep K) 0 ≡ 0
+    unfolding closer_of record_of
     first-closer = omega arith

@@ -1,6 +1,6 @@
 // The bits of a word that a field has.
 ghost use Rattle.std.specs.Prelude.{◌≡◌};
-ghost use Rattle.records.specs.Record.{bitsOf, with_bits};
+ghost use Rattle.records.specs.Record.{bits_of, with_bits};
 
 // Fields of 16 bits hold numbers below this, marks and a closer beside them numbers below these.
 const HALF_SIZE: u32 = 65536;
@@ -23,7 +23,7 @@ pub enum Bits {
 
 // These bits of the word.
 pub fn bits_of(bits: Bits, word: u32) -> u32
-    ensures { result ≡ bitsOf bits word }
+    ensures { result ≡ bits_of bits word }
 {
     match bits {
         Bits::Low => word % HALF_SIZE,

@@ -1,6 +1,6 @@
 // The Space directly before an entry.
 ghost use Rattle.std.specs.Prelude.{cond, ◌≡◌, ◌+◌, ◌*◌, ◌<◌, length};
-ghost use Rattle.records.specs.Record.{place_of, is_placed, spaceWord, spaceStart, spaceLen};
+ghost use Rattle.records.specs.Record.{place_of, is_placed, space_word, space_start, space_len};
 
 use crate::RECORD_WORDS;
 use crate::record::place_at;
@@ -10,7 +10,7 @@ use tokens::kinds::SPACE;
 fn space_word(tok: &[u32], j: usize, k: usize) -> u32
     requires j_in_bounds { 3 * j + 2 < length tok.now }
     requires k_bound { k < 2 }
-    ensures { result ≡ spaceWord tok.now j k }
+    ensures { result ≡ space_word tok.now j k }
 {
     if j == 0 {
         0
@@ -24,7 +24,7 @@ fn space_word(tok: &[u32], j: usize, k: usize) -> u32
 // A word of the Space directly before the entry, or 0.
 fn space_before(tok: &[u32], work: &[u32], i: usize, k: usize) -> u32
     requires { k < 2 }
-    ensures { result ≡ cond (is_placed tok.now work.now i) (spaceWord tok.now (place_of work.now i) k) 0 }
+    ensures { result ≡ cond (is_placed tok.now work.now i) (space_word tok.now (place_of work.now i) k) 0 }
 {
     if i < work.len() / RECORD_WORDS {
         let j = place_at(work, i);
@@ -39,13 +39,13 @@ fn space_before(tok: &[u32], work: &[u32], i: usize, k: usize) -> u32
 }
 
 pub fn space_start(tok: &[u32], work: &[u32], i: usize) -> u32
-    ensures { result ≡ spaceStart tok.now work.now i }
+    ensures { result ≡ space_start tok.now work.now i }
 {
     space_before(tok, work, i, 0)
 }
 
 pub fn space_len(tok: &[u32], work: &[u32], i: usize) -> u32
-    ensures { result ≡ spaceLen tok.now work.now i }
+    ensures { result ≡ space_len tok.now work.now i }
 {
     space_before(tok, work, i, 1)
 }

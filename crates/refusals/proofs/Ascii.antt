@@ -11,31 +11,31 @@ use borrow.Author.Tests.{lt-ltb, le-ltb}
 use Rattle.tokens.specs.Refusals.{ascii}
 
 -- the bytes before number i passed, and those from it on do
-abbrev pub asciiFrom : Bool → ℕ → List ℕ → Bool
-asciiFrom true i s = ascii (drop i s)
-asciiFrom false i s = false
+abbrev pub ascii_from : Bool → ℕ → List ℕ → Bool
+ascii_from true i s = ascii (drop i s)
+ascii_from false i s = false
 
 module _ (ok : Bool) (s : List ℕ) (i : ℕ) where
-  pub ascii-next : i < length s → get_or s i 0 ≤ 127 → asciiFrom ok i s ≡ asciiFrom ok (i + 1) s
+  pub ascii-next : i < length s → get_or s i 0 ≤ 127 → ascii_from ok i s ≡ ascii_from ok (i + 1) s
   unfolding ascii
   ascii-next h l = of ok
     where
-      of : (b : Bool) → asciiFrom b i s ≡ asciiFrom b (i + 1) s
+      of : (b : Bool) → ascii_from b i s ≡ ascii_from b (i + 1) s
       of true = rw (drop-cons s i 0, ascii, lt-ltb (get_or s i 0) 128 (omega arith), add-one)
       of false = refl
 
-  pub not_ascii : i < length s → 127 < get_or s i 0 → asciiFrom ok i s ≡ false
+  pub not_ascii : i < length s → 127 < get_or s i 0 → ascii_from ok i s ≡ false
   unfolding ascii
   not_ascii h l = of ok
     where
-      of : (b : Bool) → asciiFrom b i s ≡ false
+      of : (b : Bool) → ascii_from b i s ≡ false
       of true = rw (drop-cons s i 0, ascii, le-ltb (get_or s i 0) 128 (omega arith))
       of false = refl
 
-  pub ascii-end : length s ≤ i → asciiFrom ok i s ≡ ok
+  pub ascii-end : length s ≤ i → ascii_from ok i s ≡ ok
   unfolding ascii
   ascii-end h = of ok
     where
-      of : (b : Bool) → asciiFrom b i s ≡ b
+      of : (b : Bool) → ascii_from b i s ≡ b
       of true = rw (drop_of_length-le s h)
       of false = refl

@@ -1,7 +1,7 @@
 // Refusals 1 and 2: whether a text is turned back.
 ghost use Rattle.std.specs.Prelude.{◌≡◌};
 ghost use Rattle.tokens.specs.Refusals.{ascii};
-ghost use Rattle.refusals.specs.TextChecks.{checkOf, checkedText};
+ghost use Rattle.refusals.specs.TextChecks.{check_of, checked_text};
 
 // Whether every byte is below 128. It looks at all of them, so that the compiler takes many at a time.
 fn is_ascii(text: &[u8]) -> bool
@@ -27,7 +27,7 @@ pub enum Checked {
 
 // Whether the text is refused by 1 or 2.
 pub fn check_text(text: &[u8]) -> Checked
-    ensures { checkOf result ≡ checkedText text.now }
+    ensures { check_of result ≡ checked_text text.now }
 {
     if 4096 < text.len() {
         return Checked::Refused(1);

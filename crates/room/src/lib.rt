@@ -1,6 +1,6 @@
 // Refusals 8 and 9: buffers that are too short.
 ghost use Rattle.std.specs.Prelude.{◌≡◌};
-ghost use Rattle.room.specs.Room.{room_for, lackingFor, roomAnswer};
+ghost use Rattle.room.specs.Room.{room_for, lacking_for, room_answer};
 
 use records::RECORD_WORDS;
 
@@ -22,14 +22,14 @@ pub fn room_for(work: usize, tree: usize) -> usize
 
 // The refusal where one of the two is too short for n tokens other than Space.
 pub fn lacking(n: usize, work: usize) -> u8
-    ensures { result ≡ lackingFor n work }
+    ensures { result ≡ lacking_for n work }
 {
     if work / RECORD_WORDS <= n { 8 } else { 9 }
 }
 
 // For n tokens other than Space, by the buffers' words.
 pub fn check_room(n: usize, work: usize, tree: usize) -> Room
-    ensures { result ≡ roomAnswer n work tree }
+    ensures { result ≡ room_answer n work tree }
 {
     if n < room_for(work, tree) {
         return Room::Enough;

@@ -5,8 +5,8 @@ use Rattle.spans.specs.Spans.{byte_at}
 
 -- "Matrix rows are `(` `)` or `[` `]` by their text, so `left(` opens no row": round brackets, or else square ones. "The row loop is
 -- left at the first row that differs from the first": the rows behind it are round if it is.
-abbrev pub roundAt : List ℕ → List ℕ → List ℕ → ℕ → Bool
-roundAt X t K i = byte_at X t K i 40
+abbrev pub round_at : List ℕ → List ℕ → List ℕ → ℕ → Bool
+round_at X t K i = byte_at X t K i 40
 
 unfoldable pub pair_at : List ℕ → List ℕ → List ℕ → Bool → ℕ → ℕ → Bool
 pair_at X t K round l r =
@@ -16,5 +16,5 @@ pair_at X t K round l r =
 
 -- "One cell left after that is no matrix": a number above 1 exactly if all rows are read and the matrix has more than one cell. Two rows
 -- have always; one row has the cells that are no lines, or all its cells if all are lines.
-abbrev pub cellsLeft : Bool → Bool → ℕ → ℕ → ℕ
-cellsLeft done more cols kept = cond done (cond more 2 (cond (eqb kept 0) cols kept)) 0
+abbrev pub cells_left : Bool → Bool → ℕ → ℕ → ℕ
+cells_left done more cols kept = cond done (cond more 2 (cond (eqb kept 0) cols kept)) 0

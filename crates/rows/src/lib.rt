@@ -1,12 +1,12 @@
 // The rows of a matrix: their brackets, by their texts, and the cells that are left of them.
 ghost use Rattle.std.specs.Prelude.{◌≡◌};
-ghost use Rattle.rows.specs.Rows.{roundAt, pair_at, cellsLeft};
+ghost use Rattle.rows.specs.Rows.{round_at, pair_at, cells_left};
 
 use spans::is_byte;
 
 // The bracket at i is `(`.
 pub fn is_round(text: &[u8], tok: &[u32], work: &[u32], i: usize) -> bool
-    ensures { result ≡ roundAt text.now tok.now work.now i }
+    ensures { result ≡ round_at text.now tok.now work.now i }
 {
     is_byte(text, tok, work, i, b'(')
 }
@@ -37,7 +37,7 @@ pub fn is_pair(
 // Above 1 exactly if all rows are read and the matrix has more than one cell: two rows have always; one row has the cells that are no
 // lines, or all its cells if all are lines.
 pub fn cells_left(done: bool, more: bool, cols: usize, kept: usize) -> usize
-    ensures { result ≡ cellsLeft done more cols kept }
+    ensures { result ≡ cells_left done more cols kept }
 {
     if done {
         if more {

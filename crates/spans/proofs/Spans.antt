@@ -9,7 +9,7 @@ use lib.Seq.{length-take-le, take_all}
 use lib.Dec.{eqb}
 use borrow.Author.Tests.{eq-eqb, ne_eqb}
 use Rattle.tokens.specs.Bytes.{same}
-use Rattle.spans.specs.Spans.{sameSpan, bytes_of}
+use Rattle.spans.specs.Spans.{same_span, bytes_of}
 
 drop_here : (X : List ℕ) (i : ℕ) → i < length X → drop i X ≡ get_or X i 0 ∷ drop (suc i) X
 drop_here [] i h = absurd (omega arith)
@@ -51,28 +51,28 @@ same-lengths [] (b ∷ t) h = refl
 same-lengths (a ∷ s) [] h = refl
 same-lengths (a ∷ s) (b ∷ t) h = and-false (eqb a b) (same-lengths s t (λ z. h (ap suc z)))
 
-same_none : (X : List ℕ) (a b : ℕ) → sameSpan X a 0 b 0 ≡ true
+same_none : (X : List ℕ) (a b : ℕ) → same_span X a 0 b 0 ≡ true
 unfolding same
 same_none X a b = refl
 
-span-turn : (X : List ℕ) (a b l : ℕ) → a < length X → b < length X → sameSpan X a (suc l) b (suc l) ≡ (eqb (get_or X a 0) (get_or X b 0) && sameSpan X (suc a) l (suc b) l)
+span-turn : (X : List ℕ) (a b l : ℕ) → a < length X → b < length X → same_span X a (suc l) b (suc l) ≡ (eqb (get_or X a 0) (get_or X b 0) && same_span X (suc a) l (suc b) l)
 unfolding same
 span-turn X a b l h k = ap (λ (s : List ℕ). same (take (suc l) s) (take (suc l) (drop b X))) (drop_here X a h) ∙ ap (λ (s : List ℕ). same (take (suc l) (get_or X a 0 ∷ drop (suc a) X)) (take (suc l) s)) (drop_here X b k)
 
 -- What the loop keeps: k bytes are alike, and the rest decides.
 pub record Alike (X : List ℕ) (a l b k : ℕ) : Type 0 where
   pub within : k ≤ l
-  pub rest : sameSpan X a l b l ≡ sameSpan X (a + k) (l - k) (b + k) (l - k)
+  pub rest : same_span X a l b l ≡ same_span X (a + k) (l - k) (b + k) (l - k)
 
 module _ (X : List ℕ) (a l b : ℕ) where
   pub alike-none : Alike X a l b 0
   alike-none = let z : a + 0 ≡ a = omega arith in let y : b + 0 ≡ b = omega arith in let x : l - 0 ≡ l = omega arith in record { within = omega arith; rest = rw (z, y, x) }
 
   module _ {k : ℕ} (i : Alike X a l b k) where
-    turn : k < l → l ≤ length X - a → l ≤ length X - b → sameSpan X a l b l ≡ (eqb (get_or X (a + k) 0) (get_or X (b + k) 0) && sameSpan X (suc (a + k)) (l - (k + 1)) (suc (b + k)) (l - (k + 1)))
-    turn h p q = let z : l - k ≡ suc (l - (k + 1)) = omega arith in i.rest ∙ ap (λ (r : ℕ). sameSpan X (a + k) r (b + k) r) z ∙ span-turn X (a + k) (b + k) (l - (k + 1)) (omega arith) (omega arith)
+    turn : k < l → l ≤ length X - a → l ≤ length X - b → same_span X a l b l ≡ (eqb (get_or X (a + k) 0) (get_or X (b + k) 0) && same_span X (suc (a + k)) (l - (k + 1)) (suc (b + k)) (l - (k + 1)))
+    turn h p q = let z : l - k ≡ suc (l - (k + 1)) = omega arith in i.rest ∙ ap (λ (r : ℕ). same_span X (a + k) r (b + k) r) z ∙ span-turn X (a + k) (b + k) (l - (k + 1)) (omega arith) (omega arith)
 
-    pub alike-differ : k < l → l ≤ length X - a → l ≤ length X - b → (get_or X (a + k) 0 ≡ get_or X (b + k) 0 → ⊥) → sameSpan X a l b l ≡ false
+    pub alike-differ : k < l → l ≤ length X - a → l ≤ length X - b → (get_or X (a + k) 0 ≡ get_or X (b + k) 0 → ⊥) → same_span X a l b l ≡ false
     alike-differ h p q d = turn h p q ∙ rw (ne_eqb _ _ d)
 
     pub alike-more : k < l → l ≤ length X - a → l ≤ length X - b → get_or X (a + k) 0 ≡ get_or X (b + k) 0 → Alike X a l b (k + 1)
@@ -81,8 +81,8 @@ module _ (X : List ℕ) (a l b : ℕ) where
         let y : b + (k + 1) ≡ suc (b + k) = omega arith in
         record { within = omega arith; rest = turn h p q ∙ rw (eq-eqb _ _ d, z, y) }
 
-    pub alike_all : l ≤ k → sameSpan X a l b l ≡ true
-    alike_all h = let z : l - k ≡ 0 = omega arith in i.rest ∙ ap (λ (r : ℕ). sameSpan X (a + k) r (b + k) r) z ∙ same_none X (a + k) (b + k)
+    pub alike_all : l ≤ k → same_span X a l b l ≡ true
+    alike_all h = let z : l - k ≡ 0 = omega arith in i.rest ∙ ap (λ (r : ℕ). same_span X (a + k) r (b + k) r) z ∙ same_none X (a + k) (b + k)
 
 -- a span of one byte
 pub byte-is : (X : List ℕ) (a l b : ℕ) → 1 ≡ length (bytes_of X a l) → eqb (get_or X a 0) b ≡ same (bytes_of X a l) (b ∷ [])

@@ -7,11 +7,11 @@ use Rattle.records.specs.Record.{start_of, len_of}
 abbrev pub bytes_of : List ℕ → ℕ → ℕ → List ℕ
 bytes_of X a l = take l (drop a X)
 
-abbrev pub sameSpan : List ℕ → ℕ → ℕ → ℕ → ℕ → Bool
-sameSpan X a l b m = same (bytes_of X a l) (bytes_of X b m)
+abbrev pub same_span : List ℕ → ℕ → ℕ → ℕ → ℕ → Bool
+same_span X a l b m = same (bytes_of X a l) (bytes_of X b m)
 
-unfoldable pub sameAt : List ℕ → List ℕ → List ℕ → ℕ → ℕ → Bool
-sameAt X t K i j = sameSpan X (start_of t K i) (len_of t K i) (start_of t K j) (len_of t K j)
+unfoldable pub same_at : List ℕ → List ℕ → List ℕ → ℕ → ℕ → Bool
+same_at X t K i j = same_span X (start_of t K i) (len_of t K i) (start_of t K j) (len_of t K j)
 
 unfoldable pub byte_at : List ℕ → List ℕ → List ℕ → ℕ → ℕ → Bool
 byte_at X t K i b = same (bytes_of X (start_of t K i) (len_of t K i)) (b ∷ [])

@@ -1,7 +1,7 @@
 // The texts of entries, by their spans. A span that ends past the text ends with it.
 ghost use Rattle.std.specs.Prelude.{◌≡◌, [], ◌∷◌, ◌-◌, ◌≤◌, length};
 ghost use Rattle.tokens.specs.Bytes.{same};
-ghost use Rattle.spans.specs.Spans.{bytes_of, sameSpan, sameAt, byte_at};
+ghost use Rattle.spans.specs.Spans.{bytes_of, same_span, same_at, byte_at};
 
 use records::record::{len_at, start_at};
 
@@ -9,7 +9,7 @@ use records::record::{len_at, start_at};
 fn same_bytes(text: &[u8], a: usize, b: usize, l: usize) -> bool
     requires l_in_bounds { l ≤ length text.now - a }
     requires l_in_bounds_2 { l ≤ length text.now - b }
-    ensures { result ≡ sameSpan text.now a l b l }
+    ensures { result ≡ same_span text.now a l b l }
 {
     let mut k = 0;
     while k < l {
@@ -35,7 +35,7 @@ fn span_len(text: &[u8], a: usize, l: usize) -> usize
 }
 
 fn same_span(text: &[u8], a: usize, l: usize, b: usize, m: usize) -> bool
-    ensures { result ≡ sameSpan text.now a l b m }
+    ensures { result ≡ same_span text.now a l b m }
 {
     let p = span_len(text, a, l);
     if p == span_len(text, b, m) {
@@ -47,7 +47,7 @@ fn same_span(text: &[u8], a: usize, l: usize, b: usize, m: usize) -> bool
 
 // Two entries have the same text.
 pub fn same_text(text: &[u8], tok: &[u32], work: &[u32], i: usize, j: usize) -> bool
-    ensures { result ≡ sameAt text.now tok.now work.now i j }
+    ensures { result ≡ same_at text.now tok.now work.now i j }
 {
     same_span(
         text,

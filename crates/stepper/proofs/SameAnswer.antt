@@ -5,12 +5,12 @@ use Prim.Native.Nat.{ℕ}
 use native.Mathlib.Omega.{arith}
 use lib.ListN.{length}
 use Rattle.tokens.specs.Lexeme.{Lexeme}
-use Rattle.lexing.specs.Rules.{byte_at, readAt}
-use Rattle.tokens.specs.Refusals.{textRefusal}
-use Rattle.tokens.proofs.Cases.{by-test, by-lt, by-option}
+use Rattle.lexing.specs.Rules.{byte_at, read_at}
+use Rattle.tokens.specs.Refusals.{text_refusal}
+use Rattle.tokens.proofs.Cases.{by_test, by_lt, by_option}
 use Rattle.stepper.specs.declared.Tokenizer.{Tokenizer}
-use Rattle.stepper.specs.Step.{StepAnswer, end, refused, tokenAnswer, waiting, state, fits, stepRefusal, stepped}
-use Rattle.stepper.proofs.Answers.{refused-text, refused-state, passed, step-refused, step-waiting, step-read, step_end, by-list}
+use Rattle.stepper.specs.Step.{StepAnswer, end, refused, token_answer, waiting, state, fits, step_refusal, stepped}
+use Rattle.stepper.proofs.Answers.{refused-text, refused-state, passed, step-refused, step-waiting, step-read, step_end, by_list}
 
 both : {A : Type 0} (P : A → A → Type 0) {a b c d : A} → a ≡ c → b ≡ d → P a b → P c d
 both P {a} {b} {c} {d} e f h = subst (P c) f (subst (λ (x : _). P x b) e h)
@@ -21,28 +21,28 @@ module _ (text : List ℕ) (s t : Tokenizer) (p : s.place ≡ t.place) (c : s.qu
   unfolding fits
   same-fits = rw (w, p, c)
 
-  same-refusal : stepRefusal text s ≡ stepRefusal text t
+  same-refusal : step_refusal text s ≡ step_refusal text t
   same-refusal =
-      by-option (textRefusal text)
+      by_option (text_refusal text)
       (λ a.
-      by-test (fits (length text) s) (λ f. passed text s a f ∙ sym (passed text t a (sym same-fits ∙ f)))
+      by_test (fits (length text) s) (λ f. passed text s a f ∙ sym (passed text t a (sym same-fits ∙ f)))
       (λ f. refused-state text s a f ∙ sym (refused-state text t a (sym same-fits ∙ f))))
       (λ k a. refused-text text s k a ∙ sym (refused-text text t k a))
 
   -- what holds of the same refusal, of the same token with the same state after it, and of End, holds of both steps
   pub by_both : (P : StepAnswer × Tokenizer → StepAnswer × Tokenizer → Type 0) → ((k : ℕ) → P (refused k, s) (refused k, t))
-      → ((u : Lexeme) (next : Tokenizer) → P (tokenAnswer u, next) (tokenAnswer u, next)) → P (end, s) (end, t)
+      → ((u : Lexeme) (next : Tokenizer) → P (token_answer u, next) (token_answer u, next)) → P (end, s) (end, t)
       → P (stepped text s) (stepped text t)
   by_both P f g h =
-      by-option (stepRefusal text s)
+      by_option (step_refusal text s)
       (λ r.
       let r' = sym same-refusal ∙ r in
-      by-list (waiting s.queued)
+      by_list (waiting s.queued)
       (λ e.
       let e' = sym w ∙ e in
-      by-lt s.place (length text)
+      by_lt s.place (length text)
       (λ l.
-      let q = readAt byte_at text s.place in
+      let q = read_at byte_at text s.place in
       both P (step-read text s r e l) (rw p (step-read text t r' e' (omega arith))) (g q.first (state q.next q.waiting)))
       (λ l. both P (step_end text s r e l) (step_end text t r' e' (omega arith)) h))
       (λ u us e.

@@ -6,9 +6,9 @@ use Rattle.lex.specs.declared.Spanned.{Spanned}
 use Rattle.lex.specs.declared.Queue.{Queue}
 use Rattle.tokens.specs.Kinds.{number_of}
 use Rattle.tokens.specs.Lexeme.{Lexeme, lexeme}
-use Rattle.lexing.specs.Rules.{byte_at, readAt}
-use Rattle.tokens.specs.Refusals.{textRefusal}
-use Rattle.lex.specs.Lex.{queueOf}
+use Rattle.lexing.specs.Rules.{byte_at, read_at}
+use Rattle.tokens.specs.Refusals.{text_refusal}
+use Rattle.lex.specs.Lex.{queue_of}
 use Rattle.stepper.specs.declared.Tokenizer.{Tokenizer}
 use Rattle.stepper.specs.declared.Stepped.{Stepped}
 use Rattle.stepper.specs.declared.Stepped.TheVariants as answer
@@ -25,20 +25,20 @@ answer_of (answer.Token t) = token t.start t.len (number_of t.token)
 answer_of answer.End = end
 answer_of (answer.Refused k) = refused k
 
-abbrev pub tokenAnswer : Lexeme → StepAnswer
-tokenAnswer t = token t.span.start t.span.len (number_of t.token)
+abbrev pub token_answer : Lexeme → StepAnswer
+token_answer t = token t.span.start t.span.len (number_of t.token)
 
 -- a token of the code's struct as a value of the definitions
-abbrev pub lexemeOf : Spanned → Lexeme
-lexemeOf t = lexeme t.start t.len t.token
+abbrev pub lexeme_of : Spanned → Lexeme
+lexeme_of t = lexeme t.start t.len t.token
 
 -- the tokens that are said to wait; places behind them are not looked at
 unfoldable pub waiting : Queue → List Lexeme
-waiting q = take q.count (lexemeOf q.first ∷ lexemeOf q.second ∷ lexemeOf q.third ∷ [])
+waiting q = take q.count (lexeme_of q.first ∷ lexeme_of q.second ∷ lexeme_of q.third ∷ [])
 
--- the state with a place and tokens that wait, at most three; where none waits, one fixed empty value stands (`noLexeme`)
+-- the state with a place and tokens that wait, at most three; where none waits, one fixed empty value stands (`no_lexeme`)
 abbrev pub state : ℕ → List Lexeme → Tokenizer
-state at ts = record { place = at; queued = queueOf ts }
+state at ts = record { place = at; queued = queue_of ts }
 
 -- at a text's start, with no token waiting
 abbrev pub fresh : Tokenizer
@@ -54,9 +54,9 @@ unfoldable pub fits : ℕ → Tokenizer → Bool
 fits size s = leb s.place size && (leb s.queued.count 3 && inside size (waiting s.queued))
 
 -- "For a step: 1, 2, then 5 if the place or a waiting token passes the text or more than three tokens are said to wait."
-unfoldable pub stepRefusal : List ℕ → Tokenizer → Option ℕ
-stepRefusal text s =
-    elim (textRefusal text) [
+unfoldable pub step_refusal : List ℕ → Tokenizer → Option ℕ
+step_refusal text s =
+    elim (text_refusal text) [
       | some k ↦ some k
       | none ↦
           elim (fits (length text) s) [ true ↦ none | false ↦ some 5 ]
@@ -67,16 +67,16 @@ stepRefusal text s =
 -- text's end, with no token waiting, a step answers End and changes nothing."
 unfoldable pub stepped : List ℕ → Tokenizer → StepAnswer × Tokenizer
 stepped text s =
-    elim (stepRefusal text s) [
+    elim (step_refusal text s) [
       | some k ↦ (refused k, s)
       | none ↦
           elim (waiting s.queued) [
-            | t ∷ ts ↦ (tokenAnswer t, state s.place ts)
+            | t ∷ ts ↦ (token_answer t, state s.place ts)
             | [] ↦
                 elim (ltb s.place (length text)) [
                   | true ↦
-                      let r = readAt byte_at text s.place in
-                      (tokenAnswer r.first, state r.next r.waiting)
+                      let r = read_at byte_at text s.place in
+                      (token_answer r.first, state r.next r.waiting)
                   | false ↦ (end, s)
                 ]
           ]
@@ -95,7 +95,7 @@ after zero text s = s
 after (suc k) text s = after k text (stepped text s).1
 
 -- the first k of a list's tokens, and End for ever
-unfoldable pub thenEnd : ℕ → List Lexeme → List StepAnswer
-thenEnd zero ts = []
-thenEnd (suc k) [] = end ∷ thenEnd k []
-thenEnd (suc k) (t ∷ ts) = tokenAnswer t ∷ thenEnd k ts
+unfoldable pub then_end : ℕ → List Lexeme → List StepAnswer
+then_end zero ts = []
+then_end (suc k) [] = end ∷ then_end k []
+then_end (suc k) (t ∷ ts) = token_answer t ∷ then_end k ts

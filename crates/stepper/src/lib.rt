@@ -1,9 +1,9 @@
 // The tokenizer as a state that is lent and stepped, one token a step: the Rust's Tokenizer, with the text as an argument.
 ghost use Rattle.std.specs.Prelude.{◌≡◌, true, [], ◌+◌, ◌≤◌, ◌<◌, leb, length, drop};
 ghost use Rattle.std.proofs.Math.Option.{none};
-ghost use Rattle.tokens.specs.Refusals.{textRefusal};
-ghost use Rattle.lex.specs.Lex.{spannedOf, noLexeme, queueOf};
-ghost use Rattle.stepper.specs.Step.{waiting, fits, fresh, answer_of, stepped, tokenAnswer, lexemeOf, state};
+ghost use Rattle.tokens.specs.Refusals.{text_refusal};
+ghost use Rattle.lex.specs.Lex.{spanned_of, no_lexeme, queue_of};
+ghost use Rattle.stepper.specs.Step.{waiting, fits, fresh, answer_of, stepped, token_answer, lexeme_of, state};
 
 use lex::{Lexing, Queue, Spanned, lex_at};
 use refusals::text::{Checked, check_text};
@@ -32,7 +32,7 @@ struct Advance {
 
 // What stands in a place where no token waits.
 fn no_token() -> Spanned
-    ensures { result ≡ spannedOf noLexeme }
+    ensures { result ≡ spanned_of no_lexeme }
 {
     Spanned {
         token: Token::Frac,
@@ -42,7 +42,7 @@ fn no_token() -> Spanned
 }
 
 fn no_tokens() -> Queue
-    ensures { result ≡ queueOf [] }
+    ensures { result ≡ queue_of [] }
 {
     Queue {
         count: 0,
@@ -94,7 +94,7 @@ fn state_fits(size: usize, s: Tokenizer) -> bool
 // The tokens behind the first one.
 fn behind_first(q: Queue) -> Queue
     requires { (0 < q.count) × (q.count ≤ 3) }
-    ensures { result ≡ queueOf (drop 1 (waiting q)) }
+    ensures { result ≡ queue_of (drop 1 (waiting q)) }
 {
     let count = q.count;
     if count == 1 {
@@ -121,7 +121,7 @@ fn behind_first(q: Queue) -> Queue
 // A step that answers the first token that waits.
 fn take_first(s: Tokenizer) -> Advance
     requires { (0 < s.queued.count) × (s.queued.count ≤ 3) }
-    ensures answer_value { answer_of result.answer ≡ tokenAnswer (lexemeOf s.queued.first) }
+    ensures answer_value { answer_of result.answer ≡ token_answer (lexeme_of s.queued.first) }
     ensures state_value { result.state ≡ state s.place (drop 1 (waiting s.queued)) }
 {
     let queued = s.queued;
@@ -166,7 +166,7 @@ fn read_on(text: &[u8], s: Tokenizer) -> Advance
 
 // A step that reads nothing: the refusal of the text, else `a`, which is what the step does over an accepted text.
 fn unless_refused(text: &[u8], s: Tokenizer, a: Advance) -> Advance
-    requires { textRefusal text.now ≡ none → (answer_of a.answer, a.state) ≡ stepped text.now s }
+    requires { text_refusal text.now ≡ none → (answer_of a.answer, a.state) ≡ stepped text.now s }
     ensures { (answer_of result.answer, result.state) ≡ stepped text.now s }
 {
     match check_text(text) {

@@ -8,9 +8,9 @@ use lib.ListN.{length, take, drop}
 use lib.Seq.{paste, take_at}
 use borrow.Author.Tests.{lt-ltb, le-ltb, lt-leb, le-leb}
 use Rattle.tokens.specs.Lexeme.{Lexeme}
-use Rattle.tokens.specs.Table.{tableWords, countOthers}
-use Rattle.tokens.specs.Refusals.{Answer, accepted, refused, textRefusal}
-use Rattle.tokens.proofs.Cases.{by-lt, by-option}
+use Rattle.tokens.specs.Table.{table_words, count_others}
+use Rattle.tokens.specs.Refusals.{Answer, accepted, refused, text_refusal}
+use Rattle.tokens.proofs.Cases.{by_lt, by_option}
 use Rattle.tokens.proofs.Order.{text-short}
 use Rattle.tokens.proofs.TokenList.{words-length, others-bound}
 use Rattle.lexing.specs.Rules.{tokens}
@@ -18,14 +18,14 @@ use Rattle.lexing.proofs.Theorems.{never-outnumber}
 use Rattle.lexer.specs.declared.Listing.{Listing}
 use Rattle.lexer.specs.declared.Listing.TheVariants.{Tokens, Refused}
 use Rattle.lexer.specs.declared.found.TokenRow.{TokenRow}
-use Rattle.lexer.specs.Lookup.{tokenRow}
-use Rattle.lexer.specs.Listing.{listInto, listedTo, listedReads}
-use Rattle.lexer.proofs.Into.{into-whole}
+use Rattle.lexer.specs.Lookup.{token_row}
+use Rattle.lexer.specs.Listing.{list_into, listed_to, listed_reads}
+use Rattle.lexer.proofs.Into.{into_whole}
 use Rattle.lexer.proofs.Places.{place-refused, place-accepted}
 use Rattle.tokenizer.specs.declared.TokenizedUnder.{TokenizedUnder}
-use Rattle.tokenizer.specs.Call.{tokenized, tokenizedUnder, counted}
-use Rattle.tokenizer.specs.Waiting.{allListed, Waiting}
-use Rattle.tokenizer.proofs.Whole.{allReads, whole}
+use Rattle.tokenizer.specs.Call.{tokenized, tokenized_under, counted}
+use Rattle.tokenizer.specs.Waiting.{all_listed, Waiting}
+use Rattle.tokenizer.proofs.Whole.{all_reads, whole}
 use Rattle.tokenizer.specs.declared.TokenizedUnder.TheVariants as under
 
 -- the first words of a list, pasted into a table
@@ -33,27 +33,27 @@ pasted : (list table words : List ℕ) (n : ℕ) → take n list ≡ words → p
 pasted list table words n e = let k : 0 + n ≡ n = omega arith in rw (e, k)
 
 module _ (text table : List ℕ) where
-  all-refused : (k : ℕ) → textRefusal text ≡ some k → ◌≡◌ {A = Listing × List ℕ} (listedReads text 0 (length text) table) (Refused k, table)
-  unfolding listedReads
-  all-refused k e = rw (place-refused text 0 k e, listedReads)
+  all-refused : (k : ℕ) → text_refusal text ≡ some k → ◌≡◌ {A = Listing × List ℕ} (listed_reads text 0 (length text) table) (Refused k, table)
+  unfolding listed_reads
+  all-refused k e = rw (place-refused text 0 k e, listed_reads)
 
-  all-tokens : textRefusal text ≡ none
-      → ◌≡◌ {A = Listing × List ℕ} (listedReads text 0 (length text) table) (Tokens (length (tokens text)) (countOthers (tokens text)) (allReads text).next (tokenRow (allReads text).row), listInto 0 table (tokens text))
-  unfolding listedReads listedTo
+  all-tokens : text_refusal text ≡ none
+      → ◌≡◌ {A = Listing × List ℕ} (listed_reads text 0 (length text) table) (Tokens (length (tokens text)) (count_others (tokens text)) (all_reads text).next (token_row (all_reads text).row), list_into 0 table (tokens text))
+  unfolding listed_reads listed_to
   all-tokens o =
-      let e : ◌≡◌ {A = Listing × List ℕ} (listedReads text 0 (length text) table) (of_list (allReads text).list) = rw (place-accepted text 0 o (omega arith), listedReads) in
+      let e : ◌≡◌ {A = Listing × List ℕ} (listed_reads text 0 (length text) table) (of_list (all_reads text).list) = rw (place-accepted text 0 o (omega arith), listed_reads) in
       e ∙ ap of_list (whole text)
     where
       of_list : List Lexeme → Listing × List ℕ
-      of_list ts = (Tokens (length ts) (countOthers ts) (allReads text).next (tokenRow (allReads text).row), listInto 0 table ts)
+      of_list ts = (Tokens (length ts) (count_others ts) (all_reads text).next (token_row (all_reads text).row), list_into 0 table ts)
 
   -- what an answer of `list_reads` says
-  module _ (r : Listing) (after : List ℕ) (e : ◌≡◌ {A = Listing × List ℕ} (r, after) (listedReads text 0 (length text) table)) where
-    pub answer-refused : (k : ℕ) → r ≡ Refused k → textRefusal text ≡ some k
+  module _ (r : Listing) (after : List ℕ) (e : ◌≡◌ {A = Listing × List ℕ} (r, after) (listed_reads text 0 (length text) table)) where
+    pub answer-refused : (k : ℕ) → r ≡ Refused k → text_refusal text ≡ some k
     answer-refused k f =
-        by-option (textRefusal text)
+        by_option (text_refusal text)
         (λ o.
-        let h : r ≡ Tokens (length (tokens text)) (countOthers (tokens text)) (allReads text).next (tokenRow (allReads text).row) = ap (λ (q : Listing × List ℕ). q.0) (e ∙ all-tokens o) in
+        let h : r ≡ Tokens (length (tokens text)) (count_others (tokens text)) (all_reads text).next (token_row (all_reads text).row) = ap (λ (q : Listing × List ℕ). q.0) (e ∙ all-tokens o) in
         let z : ◌≡◌ {A = ℕ} 0 1 = cc in
         absurd (omega arith))
         (λ j o.
@@ -63,19 +63,19 @@ module _ (text table : List ℕ) where
 
     pub answer-tokens : length table ≡ 480 → (all others next : ℕ) (row : TokenRow) → r ≡ Tokens all others next row → Waiting text after all others
     answer-tokens l all others next row f =
-        by-option (textRefusal text)
+        by_option (text_refusal text)
         (λ o.
-        let h : r ≡ Tokens (length (tokens text)) (countOthers (tokens text)) (allReads text).next (tokenRow (allReads text).row) = ap (λ (q : Listing × List ℕ). q.0) (e ∙ all-tokens o) in
+        let h : r ≡ Tokens (length (tokens text)) (count_others (tokens text)) (all_reads text).next (token_row (all_reads text).row) = ap (λ (q : Listing × List ℕ). q.0) (e ∙ all-tokens o) in
         let m : all ≡ length (tokens text) = cc in
-        let n : others ≡ countOthers (tokens text) = cc in
+        let n : others ≡ count_others (tokens text) = cc in
         record {
           accepted = o;
           all_are = m;
           others-are = n;
           words_are = λ s.
-              let w : after ≡ tableWords (tokens text) ++ drop (3 * length (tokens text)) table =
-              ap (λ (q : Listing × List ℕ). q.1) (e ∙ all-tokens o) ∙ into-whole table (tokens text) (omega arith) in
-              ap (take (3 * all)) w ∙ take_at (tableWords (tokens text)) _ (3 * all) (omega (arith, words-length (tokens text)));
+              let w : after ≡ table_words (tokens text) ++ drop (3 * length (tokens text)) table =
+              ap (λ (q : Listing × List ℕ). q.1) (e ∙ all-tokens o) ∙ into_whole table (tokens text) (omega arith) in
+              ap (take (3 * all)) w ∙ take_at (table_words (tokens text)) _ (3 * all) (omega (arith, words-length (tokens text)));
         })
         (λ j o.
         let h : r ≡ Refused j = ap (λ (q : Listing × List ℕ). q.0) (e ∙ all-refused j o) in
@@ -84,30 +84,30 @@ module _ (text table : List ℕ) where
 
 module _ (text table : List ℕ) (room : ℕ) where
   abbrev Under : TokenizedUnder → List ℕ → Type 0
-  Under r after = ◌≡◌ {A = TokenizedUnder × List ℕ} (r, after) (tokenizedUnder text table room)
+  Under r after = ◌≡◌ {A = TokenizedUnder × List ℕ} (r, after) (tokenized_under text table room)
 
-  pub under-refused : (k : ℕ) → textRefusal text ≡ some k → Under (under.Refused k) table
-  unfolding tokenizedUnder
-  under-refused k e = sym (rw (e, tokenizedUnder))
+  pub under-refused : (k : ℕ) → text_refusal text ≡ some k → Under (under.Refused k) table
+  unfolding tokenized_under
+  under-refused k e = sym (rw (e, tokenized_under))
 
-  module _ (o : textRefusal text ≡ none) (l : 3 * length (tokens text) ≤ length table) (m : countOthers (tokens text) < room) where
-    under-tokens : Under (under.Tokens (length (tokens text)) (countOthers (tokens text))) (tableWords (tokens text) ++ drop (3 * length (tokens text)) table)
-    unfolding tokenizedUnder
-    under-tokens = sym (rw (o, tokenizedUnder) (rw (le-ltb _ _ l) (rw (lt-leb room (countOthers (tokens text)) m))))
+  module _ (o : text_refusal text ≡ none) (l : 3 * length (tokens text) ≤ length table) (m : count_others (tokens text) < room) where
+    under-tokens : Under (under.Tokens (length (tokens text)) (count_others (tokens text))) (table_words (tokens text) ++ drop (3 * length (tokens text)) table)
+    unfolding tokenized_under
+    under-tokens = sym (rw (o, tokenized_under) (rw (le-ltb _ _ l) (rw (lt-leb room (count_others (tokens text)) m))))
 
-    all_under : allListed (listedReads text 0 (length text) table) ≡ tokenizedUnder text table room
+    all_under : all_listed (listed_reads text 0 (length text) table) ≡ tokenized_under text table room
     all_under =
-        ap allListed (all-tokens text table o)
-        ∙ ap (λ (t : List ℕ). (under.Tokens (length (tokens text)) (countOthers (tokens text)), t)) (into-whole table (tokens text) l)
+        ap all_listed (all-tokens text table o)
+        ∙ ap (λ (t : List ℕ). (under.Tokens (length (tokens text)) (count_others (tokens text)), t)) (into_whole table (tokens text) l)
         ∙ under-tokens
 
   -- a text with no more bytes than tokens fit
-  pub all_fit : length text ≤ length table / 3 → length text < room → allListed (listedReads text 0 (length text) table) ≡ tokenizedUnder text table room
+  pub all_fit : length text ≤ length table / 3 → length text < room → all_listed (listed_reads text 0 (length text) table) ≡ tokenized_under text table room
   all_fit l m =
-      by-option (textRefusal text)
+      by_option (text_refusal text)
       (λ o.
       all_under o (omega (arith, never-outnumber text)) (omega (arith, never-outnumber text, others-bound (tokens text))))
-      (λ k o. ap allListed (all-refused text table k o) ∙ under-refused k o)
+      (λ k o. ap all_listed (all-refused text table k o) ∙ under-refused k o)
 
   -- a text whose tokens wait
   module _ (list : List ℕ) (all others : ℕ) (w : Waiting text list all others) where
@@ -115,29 +115,29 @@ module _ (text table : List ℕ) (room : ℕ) where
     few = omega (arith, w.all_are, never-outnumber text, text-short text w.accepted)
 
     pub waiting-short : length table < 3 * all → Under (under.Refused 7) table
-    unfolding tokenizedUnder
-    waiting-short l = sym (rw (w.accepted, tokenizedUnder) (rw (lt-ltb (length table) (3 * length (tokens text)) (omega (arith, w.all_are)))))
+    unfolding tokenized_under
+    waiting-short l = sym (rw (w.accepted, tokenized_under) (rw (lt-ltb (length table) (3 * length (tokens text)) (omega (arith, w.all_are)))))
 
     module _ (l : 3 * all ≤ length table) where
       fit : 3 * length (tokens text) ≤ length table
       fit = omega (arith, w.all_are)
 
       pub waiting-many : room ≤ others → Under (under.Many others) table
-      unfolding tokenizedUnder
+      unfolding tokenized_under
       waiting-many m =
           rw w.others-are
-          (sym (rw (w.accepted, tokenizedUnder) (rw (le-ltb _ _ fit) (rw (le-leb room (countOthers (tokens text)) (omega (arith, w.others-are)))))))
+          (sym (rw (w.accepted, tokenized_under) (rw (le-ltb _ _ fit) (rw (le-leb room (count_others (tokens text)) (omega (arith, w.others-are)))))))
 
       module _ (m : others < room) where
-        below : countOthers (tokens text) < room
+        below : count_others (tokens text) < room
         below = omega (arith, w.others-are)
 
         pub waiting-copied : all ≤ 160 → Under (under.Tokens all others) (paste table 0 list (3 * all))
         waiting-copied h =
-            rw (pasted list table (tableWords (tokens text)) (3 * all) (w.words_are h), w.all_are, w.others-are)
+            rw (pasted list table (table_words (tokens text)) (3 * all) (w.words_are h), w.all_are, w.others-are)
             (under-tokens w.accepted fit below)
 
-        pub waiting-again : allListed (listedReads text 0 (length text) table) ≡ tokenizedUnder text table room
+        pub waiting-again : all_listed (listed_reads text 0 (length text) table) ≡ tokenized_under text table room
         waiting-again = all_under w.accepted fit below
 
 -- without a bound on the other tokens
@@ -146,25 +146,25 @@ unbounded (under.Tokens all others, table) = (accepted (all ∷ []), table)
 unbounded (under.Refused k, table) = (refused k, table)
 unbounded (under.Many others, table) = (refused 7, table)
 
-pub under-any : (text table : List ℕ) → unbounded (tokenizedUnder text table 4097) ≡ tokenized text table
-unfolding tokenizedUnder tokenized
+pub under-any : (text table : List ℕ) → unbounded (tokenized_under text table 4097) ≡ tokenized text table
+unfolding tokenized_under tokenized
 under-any text table =
-    by-option (textRefusal text)
+    by_option (text_refusal text)
     (λ o.
-    by-lt (length table) (3 * length (tokens text))
-    (λ l. rw (o, tokenizedUnder, tokenized) (rw (lt-ltb _ _ l)))
+    by_lt (length table) (3 * length (tokens text))
+    (λ l. rw (o, tokenized_under, tokenized) (rw (lt-ltb _ _ l)))
     (λ l.
-    let m : countOthers (tokens text) < 4097 = omega (arith, others-bound (tokens text), never-outnumber text, text-short text o) in
-    rw (o, tokenizedUnder, tokenized) (rw (le-ltb _ _ l) (rw (lt-leb 4097 (countOthers (tokens text)) m)))))
-    (λ k o. rw (o, tokenizedUnder, tokenized))
+    let m : count_others (tokens text) < 4097 = omega (arith, others-bound (tokens text), never-outnumber text, text-short text o) in
+    rw (o, tokenized_under, tokenized) (rw (le-ltb _ _ l) (rw (lt-leb 4097 (count_others (tokens text)) m)))))
+    (λ k o. rw (o, tokenized_under, tokenized))
 
 -- the counts of a list
 abbrev pub counts : Listing × List ℕ → Answer
 counts (Tokens all others next row, table) = accepted (all ∷ others ∷ [])
 counts (Refused k, table) = refused k
 
-pub counts-are : (text table : List ℕ) → counts (listedReads text 0 (length text) table) ≡ counted text
+pub counts-are : (text table : List ℕ) → counts (listed_reads text 0 (length text) table) ≡ counted text
 unfolding counted
 counts-are text table =
-    by-option (textRefusal text) (λ o. ap counts (all-tokens text table o) ∙ sym (rw (o, counted)))
+    by_option (text_refusal text) (λ o. ap counts (all-tokens text table o) ∙ sym (rw (o, counted)))
     (λ k o. ap counts (all-refused text table k o) ∙ sym (rw (o, counted)))

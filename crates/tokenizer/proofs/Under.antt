@@ -5,61 +5,61 @@ use mathlib.Core.List.{List, ◌++◌}
 use mathlib.Core.Option.{none, some}
 use lib.ListN.{length, drop}
 use borrow.Author.Tests.{lt-ltb, le-ltb, le-leb, lt-leb}
-use Rattle.tokens.specs.Table.{tableWords, tokenList, countOthers}
-use Rattle.tokens.specs.Refusals.{textRefusal, listRefusal}
-use Rattle.tokens.proofs.Cases.{by-lt, by-option, apart}
+use Rattle.tokens.specs.Table.{table_words, token_list, count_others}
+use Rattle.tokens.specs.Refusals.{text_refusal, list_refusal}
+use Rattle.tokens.proofs.Cases.{by_lt, by_option, apart}
 use Rattle.lexing.specs.Rules.{tokens}
-use Rattle.lexing.proofs.Theorems.{list-of-words, accepted-list}
+use Rattle.lexing.proofs.Theorems.{list-of_words, accepted-list}
 use Rattle.tokenizer.specs.declared.TokenizedUnder.{TokenizedUnder}
 use Rattle.tokenizer.specs.declared.TokenizedUnder.TheVariants as under
-use Rattle.tokenizer.specs.Call.{tokenizedUnder}
+use Rattle.tokenizer.specs.Call.{tokenized_under}
 
 module _ (text table : List ℕ) where
   -- what the tokenizer answers, case by case; the buffers have room for fewer than `room` tokens other than Space
   module _ (room : ℕ) where
-    under-refused : (k : ℕ) → textRefusal text ≡ some k → tokenizedUnder text table room ≡ (under.Refused k, table)
-    unfolding tokenizedUnder
-    under-refused k e = rw (e, tokenizedUnder)
+    under-refused : (k : ℕ) → text_refusal text ≡ some k → tokenized_under text table room ≡ (under.Refused k, table)
+    unfolding tokenized_under
+    under-refused k e = rw (e, tokenized_under)
 
-    module _ (ok : textRefusal text ≡ none) where
-      under-short : length table < 3 * length (tokens text) → tokenizedUnder text table room ≡ (under.Refused 7, table)
-      unfolding tokenizedUnder
-      under-short h = rw (ok, tokenizedUnder) (rw (lt-ltb (length table) (3 * length (tokens text)) h))
+    module _ (ok : text_refusal text ≡ none) where
+      under-short : length table < 3 * length (tokens text) → tokenized_under text table room ≡ (under.Refused 7, table)
+      unfolding tokenized_under
+      under-short h = rw (ok, tokenized_under) (rw (lt-ltb (length table) (3 * length (tokens text)) h))
 
       module _ (h : 3 * length (tokens text) ≤ length table) where
-        under-many : room ≤ countOthers (tokens text) → tokenizedUnder text table room ≡ (under.Many (countOthers (tokens text)), table)
-        unfolding tokenizedUnder
+        under-many : room ≤ count_others (tokens text) → tokenized_under text table room ≡ (under.Many (count_others (tokens text)), table)
+        unfolding tokenized_under
         under-many l =
-            rw (ok, tokenizedUnder) (rw (le-ltb (length table) (3 * length (tokens text)) h) (rw (le-leb room (countOthers (tokens text)) l)))
+            rw (ok, tokenized_under) (rw (le-ltb (length table) (3 * length (tokens text)) h) (rw (le-leb room (count_others (tokens text)) l)))
 
-        under-listed : countOthers (tokens text) < room
-            → tokenizedUnder text table room
-            ≡ (under.Tokens (length (tokens text)) (countOthers (tokens text)), tableWords (tokens text) ++ drop (3 * length (tokens text)) table)
-        unfolding tokenizedUnder
+        under-listed : count_others (tokens text) < room
+            → tokenized_under text table room
+            ≡ (under.Tokens (length (tokens text)) (count_others (tokens text)), table_words (tokens text) ++ drop (3 * length (tokens text)) table)
+        unfolding tokenized_under
         under-listed l =
-            rw (ok, tokenizedUnder) (rw (le-ltb (length table) (3 * length (tokens text)) h) (rw (lt-leb room (countOthers (tokens text)) l)))
+            rw (ok, tokenized_under) (rw (le-ltb (length table) (3 * length (tokens text)) h) (rw (lt-leb room (count_others (tokens text)) l)))
 
   -- the tokenizer has written the table, or not
-  module _ (room : ℕ) (r : TokenizedUnder) (next : List ℕ) (c : (r, next) ≡ tokenizedUnder text table room) where
-    answers : {a : TokenizedUnder} {t : List ℕ} → tokenizedUnder text table room ≡ (a, t) → (r ≡ a) × (next ≡ t)
+  module _ (room : ℕ) (r : TokenizedUnder) (next : List ℕ) (c : (r, next) ≡ tokenized_under text table room) where
+    answers : {a : TokenizedUnder} {t : List ℕ} → tokenized_under text table room ≡ (a, t) → (r ≡ a) × (next ≡ t)
     answers e = (ap (λ (x : TokenizedUnder × List ℕ). x.0) (c ∙ e), ap (λ (x : TokenizedUnder × List ℕ). x.1) (c ∙ e))
 
     -- Which of the four it is.
     pub by_answer : {A : Type 0}
-        → ((k : ℕ) → textRefusal text ≡ some k → r ≡ under.Refused k → next ≡ table → A)
-        → (textRefusal text ≡ none → length table < 3 * length (tokens text) → r ≡ under.Refused 7 → next ≡ table → A)
-        → (textRefusal text ≡ none → 3 * length (tokens text) ≤ length table → room ≤ countOthers (tokens text)
-        → r ≡ under.Many (countOthers (tokens text)) → next ≡ table → A)
-        → (textRefusal text ≡ none → 3 * length (tokens text) ≤ length table → countOthers (tokens text) < room
-        → r ≡ under.Tokens (length (tokens text)) (countOthers (tokens text)) → next ≡ tableWords (tokens text) ++ drop (3 * length (tokens text)) table → A)
+        → ((k : ℕ) → text_refusal text ≡ some k → r ≡ under.Refused k → next ≡ table → A)
+        → (text_refusal text ≡ none → length table < 3 * length (tokens text) → r ≡ under.Refused 7 → next ≡ table → A)
+        → (text_refusal text ≡ none → 3 * length (tokens text) ≤ length table → room ≤ count_others (tokens text)
+        → r ≡ under.Many (count_others (tokens text)) → next ≡ table → A)
+        → (text_refusal text ≡ none → 3 * length (tokens text) ≤ length table → count_others (tokens text) < room
+        → r ≡ under.Tokens (length (tokens text)) (count_others (tokens text)) → next ≡ table_words (tokens text) ++ drop (3 * length (tokens text)) table → A)
         → A
     by_answer refused-text short-table many all =
-        by-option (textRefusal text)
+        by_option (text_refusal text)
         (λ ok.
-        by-lt (length table) (3 * length (tokens text))
+        by_lt (length table) (3 * length (tokens text))
         (λ h. let a = answers (under-short room ok h) in short-table ok h a.0 a.1)
         (λ h.
-        by-lt (countOthers (tokens text)) room
+        by_lt (count_others (tokens text)) room
         (λ l. let a = answers (under-listed room ok h l) in all ok h l a.0 a.1)
         (λ l. let a = answers (under-many room ok h l) in many ok h l a.0 a.1)))
         (λ k e. let a = answers (under-refused room k e) in refused-text k e a.0 a.1)
@@ -67,12 +67,12 @@ module _ (text table : List ℕ) where
     -- what an accepted text's table says
     module _ (m others : ℕ) (q : r ≡ under.Tokens m others) where
       pub record Listed : Type 0 where
-        pub ok : textRefusal text ≡ none
+        pub ok : text_refusal text ≡ none
         pub long : 3 * length (tokens text) ≤ length table
-        pub few : countOthers (tokens text) < room
+        pub few : count_others (tokens text) < room
         pub all-is : m ≡ length (tokens text)
-        pub others-is : others ≡ countOthers (tokens text)
-        pub next-is : next ≡ tableWords (tokens text) ++ drop (3 * length (tokens text)) table
+        pub others-is : others ≡ count_others (tokens text)
+        pub next-is : next ≡ table_words (tokens text) ++ drop (3 * length (tokens text)) table
 
       pub facts : Listed
       facts =
@@ -82,8 +82,8 @@ module _ (text table : List ℕ) where
           (λ ok h l p n. apart cc)
           (λ ok h l p n. record { ok = ok; long = h; few = l; all-is = cc; others-is = cc; next-is = n })
 
-      pub list-is : tokenList m next ≡ tokens text
-      list-is = rw (facts.all-is, facts.next-is) (list-of-words (tokens text) (drop (3 * length (tokens text)) table))
+      pub list-is : token_list m next ≡ tokens text
+      list-is = rw (facts.all-is, facts.next-is) (list-of_words (tokens text) (drop (3 * length (tokens text)) table))
 
-      pub list-accepted : listRefusal text m next ≡ none
+      pub list-accepted : list_refusal text m next ≡ none
       list-accepted = rw (facts.all-is, facts.next-is) (accepted-list text (drop (3 * length (tokens text)) table) facts.ok)

@@ -6,8 +6,8 @@ use Rattle.tokenizer.specs.declared.Tokenized.TheVariants.{Tokens, Refused}
 use Rattle.tokenizer.specs.declared.TokenizedUnder.{TokenizedUnder}
 use Rattle.tokenizer.specs.declared.Counted.{Counted}
 use Rattle.lexing.specs.Rules.{tokens}
-use Rattle.tokens.specs.Table.{tableWords, countOthers}
-use Rattle.tokens.specs.Refusals.{Answer, accepted, refused, textRefusal}
+use Rattle.tokens.specs.Table.{table_words, count_others}
+use Rattle.tokens.specs.Refusals.{Answer, accepted, refused, text_refusal}
 use Rattle.tokenizer.specs.declared.TokenizedUnder.TheVariants as under
 use Rattle.tokenizer.specs.declared.Counted.TheVariants as count
 
@@ -20,31 +20,31 @@ answer_of (Refused k) = refused k
 -- in the first words, and the words past the list are unchanged.
 unfoldable pub tokenized : List ℕ → List ℕ → Answer × List ℕ
 tokenized text table =
-    elim (textRefusal text) [
+    elim (text_refusal text) [
       | some k ↦ (refused k, table)
       | none ↦
           elim (ltb (length table) (3 * length (tokens text))) [
             | true ↦ (refused 7, table)
             | false ↦
-                (accepted (length (tokens text) ∷ []), tableWords (tokens text) ++ drop (3 * length (tokens text)) table)
+                (accepted (length (tokens text) ∷ []), table_words (tokens text) ++ drop (3 * length (tokens text)) table)
           ]
     ]
 
 -- The same for a caller whose other buffers have room for fewer than `room` tokens other than Space: a text with `room` or more
 -- of them is only counted, so that the caller can refuse it with nothing changed.
-unfoldable pub tokenizedUnder : List ℕ → List ℕ → ℕ → TokenizedUnder × List ℕ
-tokenizedUnder text table room =
-    elim (textRefusal text) [
+unfoldable pub tokenized_under : List ℕ → List ℕ → ℕ → TokenizedUnder × List ℕ
+tokenized_under text table room =
+    elim (text_refusal text) [
       | some k ↦ (under.Refused k, table)
       | none ↦
           elim (ltb (length table) (3 * length (tokens text))) [
             | true ↦ (under.Refused 7, table)
             | false ↦
-                elim (leb room (countOthers (tokens text))) [
-                  | true ↦ (under.Many (countOthers (tokens text)), table)
+                elim (leb room (count_others (tokens text))) [
+                  | true ↦ (under.Many (count_others (tokens text)), table)
                   | false ↦ (
-                    under.Tokens (length (tokens text)) (countOthers (tokens text)),
-                    tableWords (tokens text) ++ drop (3 * length (tokens text)) table,
+                    under.Tokens (length (tokens text)) (count_others (tokens text)),
+                    table_words (tokens text) ++ drop (3 * length (tokens text)) table,
                   )
                 ]
           ]
@@ -57,7 +57,7 @@ count_of (count.Refused k) = refused k
 -- "For text: 1, 2": an accepted text's tokens, and n, "the tokens other than Space"
 unfoldable pub counted : List ℕ → Answer
 counted text =
-    elim (textRefusal text) [
+    elim (text_refusal text) [
       | some k ↦ refused k
-      | none ↦ accepted (length (tokens text) ∷ countOthers (tokens text) ∷ [])
+      | none ↦ accepted (length (tokens text) ∷ count_others (tokens text) ∷ [])
     ]

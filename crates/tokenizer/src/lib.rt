@@ -1,9 +1,9 @@
 // The calls on a text: its tokens listed, listed if they are few, and counted.
 ghost use Rattle.std.specs.Prelude.{◌≡◌, ◌≤◌, length};
 ghost use Rattle.std.proofs.Math.Seq.{paste};
-ghost use Rattle.lexer.specs.Listing.{listedReads};
-ghost use Rattle.tokenizer.specs.Waiting.{allListed, Waiting};
-ghost use Rattle.tokenizer.specs.Call.{answer_of, tokenized, tokenizedUnder, count_of, counted};
+ghost use Rattle.lexer.specs.Listing.{listed_reads};
+ghost use Rattle.tokenizer.specs.Waiting.{all_listed, Waiting};
+ghost use Rattle.tokenizer.specs.Call.{answer_of, tokenized, tokenized_under, count_of, counted};
 
 use lexer::{Listing, list_reads};
 
@@ -30,7 +30,7 @@ fn copy_words(list: &[u32], table: &mut [u32], n: usize)
 
 // All tokens of a text, for which the table has words.
 fn list_all(text: &[u8], table: &mut [u32]) -> TokenizedUnder
-    ensures { (result, table.new) ≡ allListed (listedReads text.now 0 (length text.now) table.old) }
+    ensures { (result, table.new) ≡ all_listed (listed_reads text.now 0 (length text.now) table.old) }
 {
     match list_reads(text, 0, text.len(), table) {
         Listing::Tokens {
@@ -53,7 +53,7 @@ fn take_list(
     others: usize,
 ) -> TokenizedUnder
     requires { Waiting text.now list.now all others }
-    ensures { (result, table.new) ≡ tokenizedUnder text.now table.old room }
+    ensures { (result, table.new) ≡ tokenized_under text.now table.old room }
 {
     if table.len() < 3 * all {
         return TokenizedUnder::Refused(7);
@@ -71,7 +71,7 @@ fn take_list(
 // Like tokenize, but only counts a text that has `room` or more tokens other than Space. Nothing is written before all refusals
 // are decided: where the table has three words for each byte there are none, else up to 160 tokens wait in a list.
 pub fn tokenize_under(text: &[u8], table: &mut [u32], room: usize) -> TokenizedUnder
-    ensures { (result, table.new) ≡ tokenizedUnder text.now table.old room }
+    ensures { (result, table.new) ≡ tokenized_under text.now table.old room }
 {
     let len = text.len();
     if len <= table.len() / 3 && len < room {

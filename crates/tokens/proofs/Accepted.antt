@@ -6,10 +6,10 @@ use mathlib.Core.Option.{Option, none, some}
 use Prim.Native.Nat.{ℕ, zero, suc, ◌+◌, ◌*◌, ◌≤◌, ◌<◌}
 use native.Mathlib.Omega.{arith}
 use lib.ListN.{length, get_or}
-use Rattle.tokens.specs.Refusals.{textRefusal, listRefusal}
-use Rattle.tokens.proofs.Cases.{by-test, by-eq, by-lt, by-option}
-use Rattle.tokens.proofs.Order.{text-short, text-first, count-large, table-short, to-tokens}
-use Rattle.tokens.proofs.Tokens.{refusalFrom, refusal-all, kind-refused, span-refused, space-refused, space-passed, other-passed}
+use Rattle.tokens.specs.Refusals.{text_refusal, list_refusal}
+use Rattle.tokens.proofs.Cases.{by_test, by_eq, by_lt, by_option}
+use Rattle.tokens.proofs.Order.{text-short, text-first, count-large, table-short, to_tokens}
+use Rattle.tokens.proofs.Tokens.{refusal_from, refusal-all, kind-refused, span-refused, space-refused, space-passed, other-passed}
 
 -- an answer is not both
 pub met : {A : Type 0} {o : Option ℕ} {k : ℕ} → o ≡ none → o ≡ some k → A
@@ -21,29 +21,29 @@ pub record Sound (size : ℕ) (table : List ℕ) (i : ℕ) : Type 0 where
   pub span : get_or table (3 * i) 0 + get_or table (3 * i + 1) 0 ≤ size
 
 module _ (size count : ℕ) (table : List ℕ) where
-  module _ (after : Bool) (i : ℕ) (p : refusalFrom size count table after i ≡ none) (h : i < count) where
+  module _ (after : Bool) (i : ℕ) (p : refusal_from size count table after i ≡ none) (h : i < count) where
     sound-now : Sound size table i
     sound-now =
-        let k = by-lt 23 (get_or table (3 * i + 2) 0) (λ l. met p (kind-refused size count table after i h l)) (λ l. l) in
+        let k = by_lt 23 (get_or table (3 * i + 2) 0) (λ l. met p (kind-refused size count table after i h l)) (λ l. l) in
         record {
           kind = k;
           span =
-              by-lt size (get_or table (3 * i) 0 + get_or table (3 * i + 1) 0) (λ l. met p (span-refused size count table after i h k l)) (λ l. l);
+              by_lt size (get_or table (3 * i) 0 + get_or table (3 * i + 1) 0) (λ l. met p (span-refused size count table after i h k l)) (λ l. l);
         }
 
     -- nor are the tokens after it refused
-    next-accepted : {A : Type 0} → ((b : Bool) → refusalFrom size count table b (i + 1) ≡ none → A) → A
+    next-accepted : {A : Type 0} → ((b : Bool) → refusal_from size count table b (i + 1) ≡ none → A) → A
     next-accepted f =
         let k = sound-now.kind in
         let l = sound-now.span in
-        by-eq (get_or table (3 * i + 2) 0) 23
+        by_eq (get_or table (3 * i + 2) 0) 23
         (λ z.
-        by-test after
+        by_test after
         (λ a. met p (space-refused size count table after i h k l a z))
         (λ a. f _ (sym (space-passed size count table after i h k l a z) ∙ p)))
         (λ z. f false (sym (other-passed size count table after i h k l z) ∙ p))
 
-  sound-after : (m i : ℕ) (after : Bool) → refusalFrom size count table after i ≡ none → i + m < count → Sound size table (i + m)
+  sound-after : (m i : ℕ) (after : Bool) → refusal_from size count table after i ≡ none → i + m < count → Sound size table (i + m)
   sound-after zero i after p h = let e : i + 0 ≡ i = omega arith in rw e (sound-now after i p (omega arith))
   sound-after (suc m) i after p h =
       let e : i + suc m ≡ i + 1 + m = omega arith in
@@ -55,17 +55,17 @@ pub record Accepted (text : List ℕ) (count : ℕ) (table : List ℕ) : Type 0 
   pub words : 3 * count ≤ length table
   pub sound : (i : ℕ) → i < count → Sound (length text) table i
 
-pub accepted : (text : List ℕ) (count : ℕ) (table : List ℕ) → listRefusal text count table ≡ none → Accepted text count table
+pub accepted : (text : List ℕ) (count : ℕ) (table : List ℕ) → list_refusal text count table ≡ none → Accepted text count table
 accepted text count table p =
-    by-option (textRefusal text)
+    by_option (text_refusal text)
     (λ o.
-    by-lt 4096 count
+    by_lt 4096 count
     (λ l. met p (count-large text table count o l))
     (λ few.
-    by-lt (length table) (3 * count)
+    by_lt (length table) (3 * count)
     (λ l. met p (table-short text table count o few l))
     (λ words.
-    let q = sym (to-tokens text table count o few words ∙ refusal-all (length text) count table) ∙ p in
+    let q = sym (to_tokens text table count o few words ∙ refusal-all (length text) count table) ∙ p in
     record {
       short = text-short text o;
       few = few;

@@ -7,28 +7,28 @@ use Prim.Native.Nat.{ℕ, ◌*◌, ◌≤◌, ◌<◌}
 use native.Mathlib.Omega.{arith}
 use lib.ListN.{length}
 use borrow.Author.Tests.{lt-ltb, le-ltb}
-use Rattle.tokens.specs.Refusals.{ascii, textRefusal, tableRefusal, listRefusal, tokensRefusal}
-use Rattle.tokens.proofs.Cases.{by-lt, by-test}
+use Rattle.tokens.specs.Refusals.{ascii, text_refusal, table_refusal, list_refusal, tokens_refusal}
+use Rattle.tokens.proofs.Cases.{by_lt, by_test}
 
 module _ (text : List ℕ) where
-  pub text-long : 4096 < length text → textRefusal text ≡ some 1
-  unfolding textRefusal
-  text-long h = rw (lt-ltb 4096 (length text) h, textRefusal)
+  pub text-long : 4096 < length text → text_refusal text ≡ some 1
+  unfolding text_refusal
+  text-long h = rw (lt-ltb 4096 (length text) h, text_refusal)
 
   module _ (h : length text ≤ 4096) where
-    pub text-other : ascii text ≡ false → textRefusal text ≡ some 2
-    unfolding textRefusal
-    text-other a = rw (le-ltb 4096 (length text) h, textRefusal) (rw a)
+    pub text-other : ascii text ≡ false → text_refusal text ≡ some 2
+    unfolding text_refusal
+    text-other a = rw (le-ltb 4096 (length text) h, text_refusal) (rw a)
 
-    pub text-passes : ascii text ≡ true → textRefusal text ≡ none
-    unfolding textRefusal
-    text-passes a = rw (le-ltb 4096 (length text) h, textRefusal) (rw a)
+    pub text-passes : ascii text ≡ true → text_refusal text ≡ none
+    unfolding text_refusal
+    text-passes a = rw (le-ltb 4096 (length text) h, text_refusal) (rw a)
 
   -- what is known of a text that is not refused
-  module _ (p : textRefusal text ≡ none) where
+  module _ (p : text_refusal text ≡ none) where
     pub text-short : length text ≤ 4096
     text-short =
-        by-lt 4096 (length text)
+        by_lt 4096 (length text)
         (λ l.
         let q = text-long l in
         let z : ◌≡◌ {A = ℕ} 0 1 = cc in
@@ -37,31 +37,31 @@ module _ (text : List ℕ) where
 
     pub text-ascii : ascii text ≡ true
     text-ascii =
-        by-test (ascii text) (λ a. a)
+        by_test (ascii text) (λ a. a)
         (λ a.
         let q = text-other text-short a in
         let z : ◌≡◌ {A = ℕ} 0 1 = cc in
         absurd (omega arith))
 
 module _ (text table : List ℕ) (count : ℕ) where
-  pub text-first : (k : ℕ) → textRefusal text ≡ some k → listRefusal text count table ≡ some k
-  unfolding listRefusal
-  text-first k e = rw (e, listRefusal)
+  pub text-first : (k : ℕ) → text_refusal text ≡ some k → list_refusal text count table ≡ some k
+  unfolding list_refusal
+  text-first k e = rw (e, list_refusal)
 
-  module _ (p : textRefusal text ≡ none) where
-    to-table : listRefusal text count table ≡ tableRefusal (length text) count table
-    unfolding listRefusal
-    to-table = rw (p, listRefusal)
+  module _ (p : text_refusal text ≡ none) where
+    to_table : list_refusal text count table ≡ table_refusal (length text) count table
+    unfolding list_refusal
+    to_table = rw (p, list_refusal)
 
-    pub count-large : 4096 < count → listRefusal text count table ≡ some 3
-    unfolding tableRefusal
-    count-large c = rw (to-table, tableRefusal, lt-ltb 4096 count c)
+    pub count-large : 4096 < count → list_refusal text count table ≡ some 3
+    unfolding table_refusal
+    count-large c = rw (to_table, table_refusal, lt-ltb 4096 count c)
 
     module _ (c : count ≤ 4096) where
-      pub table-short : length table < 3 * count → listRefusal text count table ≡ some 3
-      unfolding tableRefusal
-      table-short t = rw (to-table, tableRefusal, le-ltb 4096 count c, lt-ltb (length table) (3 * count) t)
+      pub table-short : length table < 3 * count → list_refusal text count table ≡ some 3
+      unfolding table_refusal
+      table-short t = rw (to_table, table_refusal, le-ltb 4096 count c, lt-ltb (length table) (3 * count) t)
 
-      pub to-tokens : 3 * count ≤ length table → listRefusal text count table ≡ tokensRefusal (length text) false count table
-      unfolding tableRefusal
-      to-tokens t = rw (to-table, tableRefusal, le-ltb 4096 count c, le-ltb (length table) (3 * count) t)
+      pub to_tokens : 3 * count ≤ length table → list_refusal text count table ≡ tokens_refusal (length text) false count table
+      unfolding table_refusal
+      to_tokens t = rw (to_table, table_refusal, le-ltb 4096 count c, le-ltb (length table) (3 * count) t)

@@ -7,34 +7,34 @@ use lib.ListN.{length, get_or, drop, get_or-eq_default}
 use lib.Seq.{get_or-drop, drop-drop}
 use borrow.Author.Tests.{ne_eqb}
 use Rattle.tokens.specs.declared.token.Token.TheVariants.{Space}
-use Rattle.tokens.specs.Kinds.{number_of, kinds, tokenOf}
+use Rattle.tokens.specs.Kinds.{number_of, kinds, token_of}
 use Rattle.tokens.specs.Lexeme.{Lexeme, lexeme}
-use Rattle.tokens.specs.Table.{tableWords, tokenList, countOthers}
-use Rattle.tokens.proofs.Cases.{by-eq, by-lt}
-use Rattle.tokens.proofs.Numbers.{number-of-token}
+use Rattle.tokens.specs.Table.{table_words, token_list, count_others}
+use Rattle.tokens.proofs.Cases.{by_eq, by_lt}
+use Rattle.tokens.proofs.Numbers.{number-of_token}
 
 -- a number of 23 or more stands for Space
-pub kind-space : (k : ℕ) → 23 ≤ k → number_of (tokenOf k) ≡ 23
+pub kind-space : (k : ℕ) → 23 ≤ k → number_of (token_of k) ≡ 23
 kind-space k h =
-    by-lt 23 k
+    by_lt 23 k
     (λ l. ap number_of (get_or-eq_default kinds Space {n = k} l))
-    (λ l. let e : k ≡ 23 = omega arith in ap (λ (n : ℕ). number_of (tokenOf n)) e)
+    (λ l. let e : k ≡ 23 = omega arith in ap (λ (n : ℕ). number_of (token_of n)) e)
 
 -- a lower one does not
-pub kind-other : (k : ℕ) → k < 23 → number_of (tokenOf k) ≡ 23 → ⊥
-kind-other k h z = omega (arith, number-of-token k (omega arith))
+pub kind-other : (k : ℕ) → k < 23 → number_of (token_of k) ≡ 23 → ⊥
+kind-other k h z = omega (arith, number-of_token k (omega arith))
 
-pub count-space : (t : Lexeme) (ts : List Lexeme) → number_of t.token ≡ 23 → countOthers (t ∷ ts) ≡ countOthers ts
-unfolding countOthers
-count-space t ts z = rw (countOthers, z)
+pub count-space : (t : Lexeme) (ts : List Lexeme) → number_of t.token ≡ 23 → count_others (t ∷ ts) ≡ count_others ts
+unfolding count_others
+count-space t ts z = rw (count_others, z)
 
-pub count-other : (t : Lexeme) (ts : List Lexeme) → (number_of t.token ≡ 23 → ⊥) → countOthers (t ∷ ts) ≡ suc (countOthers ts)
-unfolding countOthers
-count-other t ts z = rw (countOthers, ne_eqb (number_of t.token) 23 z)
+pub count-other : (t : Lexeme) (ts : List Lexeme) → (number_of t.token ≡ 23 → ⊥) → count_others (t ∷ ts) ≡ suc (count_others ts)
+unfolding count_others
+count-other t ts z = rw (count_others, ne_eqb (number_of t.token) 23 z)
 
 -- token i: its start, length and kind stand at 3 * i and behind it
-abbrev pub tokenAt : List ℕ → ℕ → Lexeme
-tokenAt table i = lexeme (get_or table (3 * i) 0) (get_or table (3 * i + 1) 0) (tokenOf (get_or table (3 * i + 2) 0))
+abbrev pub token_at : List ℕ → ℕ → Lexeme
+token_at table i = lexeme (get_or table (3 * i) 0) (get_or table (3 * i + 1) 0) (token_of (get_or table (3 * i + 2) 0))
 
 module _ (table : List ℕ) (i : ℕ) where
   pub word_at : (k : ℕ) → get_or (drop (3 * i) table) k 0 ≡ get_or table (3 * i + k) 0
@@ -47,53 +47,53 @@ module _ (table : List ℕ) (i : ℕ) where
   words-behind = let e : 3 * i + 3 ≡ 3 * (i + 1) = omega arith in drop-drop 3 (3 * i) table ∙ ap (λ (k : ℕ). drop k table) e
 
 -- the tokens from number i on
-abbrev pub tokensFrom : ℕ → List ℕ → ℕ → List Lexeme
-tokensFrom count table i = tokenList (count - i) (drop (3 * i) table)
+abbrev pub tokens_from : ℕ → List ℕ → ℕ → List Lexeme
+tokens_from count table i = token_list (count - i) (drop (3 * i) table)
 
 module _ (count : ℕ) (table : List ℕ) where
-  pub tokens-all : tokenList count table ≡ tokensFrom count table 0
+  pub tokens-all : token_list count table ≡ tokens_from count table 0
   tokens-all = let e : count - 0 ≡ count = omega arith in rw e
 
   module _ (i : ℕ) where
-    pub tokens_none : count ≤ i → tokensFrom count table i ≡ []
-    unfolding tokenList
+    pub tokens_none : count ≤ i → tokens_from count table i ≡ []
+    unfolding token_list
     tokens_none h = let e : count - i ≡ 0 = omega arith in rw e
 
-    pub tokens-next : i < count → tokensFrom count table i ≡ tokenAt table i ∷ tokensFrom count table (i + 1)
-    unfolding tokenList
+    pub tokens-next : i < count → tokens_from count table i ≡ token_at table i ∷ tokens_from count table (i + 1)
+    unfolding token_list
     tokens-next h =
         let e : count - i ≡ suc (count - (i + 1)) = omega arith in
-        rw (e, tokenList, first_word table i, word_at table i 1, word_at table i 2, words-behind table i)
+        rw (e, token_list, first_word table i, word_at table i 1, word_at table i 2, words-behind table i)
 
-    pub others_same : i < count → 23 ≤ get_or table (3 * i + 2) 0 → countOthers (tokensFrom count table i) ≡ countOthers (tokensFrom count table (i + 1))
+    pub others_same : i < count → 23 ≤ get_or table (3 * i + 2) 0 → count_others (tokens_from count table i) ≡ count_others (tokens_from count table (i + 1))
     others_same h k =
-        ap countOthers (tokens-next h)
-        ∙ count-space (tokenAt table i) (tokensFrom count table (i + 1)) (kind-space (get_or table (3 * i + 2) 0) k)
+        ap count_others (tokens-next h)
+        ∙ count-space (token_at table i) (tokens_from count table (i + 1)) (kind-space (get_or table (3 * i + 2) 0) k)
 
-    pub others-more : i < count → get_or table (3 * i + 2) 0 < 23 → countOthers (tokensFrom count table i) ≡ suc (countOthers (tokensFrom count table (i + 1)))
+    pub others-more : i < count → get_or table (3 * i + 2) 0 < 23 → count_others (tokens_from count table i) ≡ suc (count_others (tokens_from count table (i + 1)))
     others-more h k =
-        ap countOthers (tokens-next h)
-        ∙ count-other (tokenAt table i) (tokensFrom count table (i + 1)) (kind-other (get_or table (3 * i + 2) 0) k)
+        ap count_others (tokens-next h)
+        ∙ count-other (token_at table i) (tokens_from count table (i + 1)) (kind-other (get_or table (3 * i + 2) 0) k)
 
-pub others-few : (count : ℕ) (table : List ℕ) → countOthers (tokenList count table) ≤ count
-unfolding tokenList countOthers
+pub others-few : (count : ℕ) (table : List ℕ) → count_others (token_list count table) ≤ count
+unfolding token_list count_others
 others-few zero table = omega arith
 others-few (suc count) table =
-    let t = lexeme (get_or table 0 0) (get_or table 1 0) (tokenOf (get_or table 2 0)) in
-    let ts = tokenList count (drop 3 table) in
-    by-eq (number_of t.token) 23
+    let t = lexeme (get_or table 0 0) (get_or table 1 0) (token_of (get_or table 2 0)) in
+    let ts = token_list count (drop 3 table) in
+    by_eq (number_of t.token) 23
     (λ z. omega (arith, others-few count (drop 3 table), count-space t ts z))
     (λ z. omega (arith, others-few count (drop 3 table), count-other t ts z))
 
 -- of any tokens: how many words they have, and how many are other than Space
-pub words-length : (ts : List Lexeme) → length (tableWords ts) ≡ 3 * length ts
-unfolding tableWords
+pub words-length : (ts : List Lexeme) → length (table_words ts) ≡ 3 * length ts
+unfolding table_words
 words-length [] = refl
 words-length (t ∷ ts) = omega (arith, words-length ts)
 
-pub others-bound : (ts : List Lexeme) → countOthers ts ≤ length ts
-unfolding countOthers
+pub others-bound : (ts : List Lexeme) → count_others ts ≤ length ts
+unfolding count_others
 others-bound [] = omega arith
 others-bound (t ∷ ts) =
-    by-eq (number_of t.token) 23 (λ z. omega (arith, others-bound ts, count-space t ts z))
+    by_eq (number_of t.token) 23 (λ z. omega (arith, others-bound ts, count-space t ts z))
     (λ z. omega (arith, others-bound ts, count-other t ts z))

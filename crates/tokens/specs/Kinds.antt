@@ -7,15 +7,15 @@ use Rattle.tokens.specs.declared.token.Token.{Token}
 use Rattle.tokens.specs.declared.token.Token.TheVariants.{Frac, Super, Sub, Sep, Number, Text, Ident, Operator, Symbol, Sign, Function, Unary, Binary, OpenBracket, CloseBracket, OpenCloseBracket, Space}
 
 -- the number of a symbol's class: the field `class` of the printed tree
-abbrev pub classNumber : SymbolClass → ℕ
-classNumber class.Glyph = 0
-classNumber class.Name = 1
-classNumber class.Joining = 2
-classNumber class.JoiningName = 3
-classNumber class.Leading = 4
-classNumber class.LeadingName = 5
-classNumber class.Space = 6
-classNumber class.Separator = 7
+abbrev pub class_number : SymbolClass → ℕ
+class_number class.Glyph = 0
+class_number class.Name = 1
+class_number class.Joining = 2
+class_number class.JoiningName = 3
+class_number class.Leading = 4
+class_number class.LeadingName = 5
+class_number class.Space = 6
+class_number class.Separator = 7
 
 -- the number of a token
 abbrev pub number_of : Token → ℕ
@@ -27,7 +27,7 @@ number_of Number = 4
 number_of Text = 5
 number_of Ident = 6
 number_of Operator = 7
-number_of (Symbol c) = 8 + classNumber c
+number_of (Symbol c) = 8 + class_number c
 number_of Sign = 16
 number_of Function = 17
 number_of Unary = 18
@@ -46,5 +46,5 @@ kinds =
     CloseBracket ∷ OpenCloseBracket ∷ Space ∷ []
 
 -- the token of a number; above 23, where a list is refused (4), Space
-abbrev pub tokenOf : ℕ → Token
-tokenOf n = get_or kinds n Space
+abbrev pub token_of : ℕ → Token
+token_of n = get_or kinds n Space

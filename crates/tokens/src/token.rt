@@ -1,6 +1,6 @@
 // The kinds of tokens, as in the Rust's tokenizer.rs, and their numbers in the token table.
 ghost use Rattle.std.specs.Prelude.{◌≡◌};
-ghost use Rattle.tokens.specs.Kinds.{classNumber, number_of, tokenOf};
+ghost use Rattle.tokens.specs.Kinds.{class_number, number_of, token_of};
 
 use crate::kinds::{
     BINARY, CLOSE_BRACKET, FRAC, FUNCTION, IDENT, NUMBER, OPEN_BRACKET, OPEN_CLOSE_BRACKET,
@@ -44,7 +44,7 @@ pub enum Token {
 impl SymbolClass {
     // The class's number, from 0 in SymbolClass's order.
     pub fn number(self) -> u32
-        ensures { result ≡ classNumber self }
+        ensures { result ≡ class_number self }
     {
         match self {
             SymbolClass::Glyph => 0,
@@ -87,7 +87,7 @@ impl Token {
 
     // The token of a number; Space for a number above 23, which no accepted list has.
     pub fn of_number(n: u32) -> Token
-        ensures { result ≡ tokenOf n }
+        ensures { result ≡ token_of n }
     {
         match n {
             FRAC => Token::Frac,

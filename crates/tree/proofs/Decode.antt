@@ -9,22 +9,22 @@ use lib.Seq.{take-append_seam, drop-append_seam}
 use lib.Dec.{eqb}
 use Rattle.tokens.specs.declared.token.SymbolClass.TheVariants as class
 use Rattle.tree.specs.Tree.{Script, Head, Atom, Prefix, Node, node, Nodes, end, ◌▸◌, count}
-use Rattle.tree.specs.Words.{headWords, tailWords, ofItems, with_head, encode, encodes, encodeItem, encodeItems}
+use Rattle.tree.specs.Words.{head_words, tail_words, of_items, with_head, encode, encodes, encode_item, encode_items}
 use Rattle.tree.specs.WellFormed.{WellFormed}
 use Rattle.tree.specs.Laid.{Laid, Laids}
-use Rattle.tree.proofs.Laid.{expression-laid}
-use Rattle.tree.specs.Decode.{kindHead, head_of, below, times, decodeItem, decodeNode, decode, Decoder}
+use Rattle.tree.proofs.Laid.{expression_laid}
+use Rattle.tree.specs.Decode.{kind_head, head_of, below, times, decode_item, decode_node, decode, Decoder}
 
 -- What decoding reads in the words of a node whose own words come before `behind`.
 record Own (h : Head) (k : ℕ) (words behind : List ℕ) : Type 0 where
-  head : head_of words (tailWords h) ≡ h
-  items : ofItems (head_of words []) ≡ ofItems h
+  head : head_of words (tail_words h) ≡ h
+  items : of_items (head_of words []) ≡ of_items h
   many : below (head_of words []) (get_or words 3 0) ≡ below h k
   skip : drop (cond (eqb (get_or words 0 0) 16) 8 6) words ≡ behind
-  lines : cond (eqb (get_or words 0 0) 16) (get_or words 7 0) 0 ≡ length (tailWords h)
+  lines : cond (eqb (get_or words 0 0) 16) (get_or words 7 0) 0 ≡ length (tail_words h)
 
 -- every node has words of its own
-some_words : (h : Head) (k w : ℕ) → 1 ≤ length (headWords h k w)
+some_words : (h : Head) (k w : ℕ) → 1 ≤ length (head_words h k w)
 some_words Head.missing k w = omega arith
 some_words (Head.atom a sp) k w = omega arith
 some_words (Head.prefix p sp) k w = omega arith
@@ -35,8 +35,8 @@ some_words Head.cell k w = omega arith
 some_words (Head.group a b) k w = omega arith
 some_words (Head.matrix a b c ls) k w = omega arith
 
-own : (h : Head) (k w : ℕ) (behind : List ℕ) → Own h k (headWords h k w ++ behind) behind
-unfolding kindHead
+own : (h : Head) (k w : ℕ) (behind : List ℕ) → Own h k (head_words h k w ++ behind) behind
+unfolding kind_head
 own Head.missing k w r = search
 own (Head.atom Atom.number sp) k w r = search
 own (Head.atom Atom.text sp) k w r = search
@@ -73,10 +73,10 @@ own (Head.matrix a b c ls) k w r = search
 -- A node is read back if the nodes below it are.
 node-step : {h : Head} {l : Nodes} {words behind rest : List ℕ} (depth : ℕ) → Own h (count l) words behind →
     count l ≡ below h (count l) →
-    times (count l) (cond (ofItems h) (decodeItem (decodeNode depth)) (decodeNode depth)) behind
-    ≡ (l, tailWords h ++ rest) →
-    decodeNode (suc depth) words ≡ (node h l, rest)
-unfolding decodeNode
+    times (count l) (cond (of_items h) (decode_item (decode_node depth)) (decode_node depth)) behind
+    ≡ (l, tail_words h ++ rest) →
+    decode_node (suc depth) words ≡ (node h l, rest)
+unfolding decode_node
 node-step {h} {l} {words} {behind} {rest} depth o c t =
     rw (o.items, o.many, o.skip, o.lines, ← c, t, take-append_seam, drop-append_seam, o.head)
 
@@ -85,39 +85,39 @@ abbrev ReadBack : {A : Type 0} → (ℕ → Decoder A) → A → List ℕ → Ty
 ReadBack decoder a words = (depth : ℕ) (rest : List ℕ) → length words ≤ depth → decoder depth (words ++ rest) ≡ (a, rest)
 
 record Back (x : Node) : Type 0 where
-  one : ReadBack decodeNode x (encode x)
-  item : ReadBack (λ depth. decodeItem (decodeNode depth)) x (encodeItem x)
+  one : ReadBack decode_node x (encode x)
+  item : ReadBack (λ depth. decode_item (decode_node depth)) x (encode_item x)
 
 record Backs (l : Nodes) : Type 0 where
-  all : ReadBack (λ depth. times (count l) (decodeNode depth)) l (encodes l)
-  items : ReadBack (λ depth. times (count l) (decodeItem (decodeNode depth))) l (encodeItems l)
+  all : ReadBack (λ depth. times (count l) (decode_node depth)) l (encodes l)
+  items : ReadBack (λ depth. times (count l) (decode_item (decode_node depth))) l (encode_items l)
 
 -- the nodes below a node, which are items or not
 either : {l : Nodes} → Backs l → (items : Bool) →
-    ReadBack (λ depth. times (count l) (cond items (decodeItem (decodeNode depth)) (decodeNode depth))) l
-    (cond items (encodeItems l) (encodes l))
+    ReadBack (λ depth. times (count l) (cond items (decode_item (decode_node depth)) (decode_node depth))) l
+    (cond items (encode_items l) (encodes l))
 either b true = b.items
 either b false = b.all
 
 module _ (h : Head) (l : Nodes) (c : count l ≡ below h (count l)) (b : Backs l) where
-  node-back : ReadBack decodeNode (node h l) (encode (node h l))
+  node-back : ReadBack decode_node (node h l) (encode (node h l))
   unfolding encode
   node-back depth rest fit =
       go depth (omega (arith, simp length-append at fit, some_words h (count l) (length inner)))
     where
       inner : List ℕ
-      inner = cond (ofItems h) (encodeItems l) (encodes l)
+      inner = cond (of_items h) (encode_items l) (encodes l)
 
-      go : (d : ℕ) → suc (length inner) ≤ d → decodeNode d (with_head h (count l) inner ++ rest) ≡ (node h l, rest)
+      go : (d : ℕ) → suc (length inner) ≤ d → decode_node d (with_head h (count l) inner ++ rest) ≡ (node h l, rest)
       go zero k = absurd (omega arith)
       go (suc d) k =
           rw (append_assoc, append_assoc)
-          (node-step d (own h (count l) (length inner) (inner ++ (tailWords h ++ rest))) c
-          (either b (ofItems h) d (tailWords h ++ rest) (omega arith)))
+          (node-step d (own h (count l) (length inner) (inner ++ (tail_words h ++ rest))) c
+          (either b (of_items h) d (tail_words h ++ rest) (omega arith)))
 
 item_back : (h : Head) (l : Nodes) → count l ≡ below h (count l) → Backs l →
-    ReadBack (λ depth. decodeItem (decodeNode depth)) (node h l) (encodeItem (node h l))
-unfolding encode decodeItem
+    ReadBack (λ depth. decode_item (decode_node depth)) (node h l) (encode_item (node h l))
+unfolding encode decode_item
 item_back Head.frac l c b depth rest fit = rw (← c, b.all depth rest (omega arith))
 item_back Head.missing l c b depth rest fit = node-back _ l c b depth rest (omega arith)
 item_back (Head.atom a sp) l c b depth rest fit = node-back _ l c b depth rest (omega arith)
@@ -142,7 +142,7 @@ next {x} {l} b d = record {
       rw append_assoc (times-step _ _ (b.one depth (encodes l ++ rest) (omega arith)) (d.all depth rest (omega arith)));
   items = λ depth rest fit.
       let k = simp length-append at fit in
-      rw append_assoc (times-step _ _ (b.item depth (encodeItems l ++ rest) (omega arith)) (d.items depth rest (omega arith)));
+      rw append_assoc (times-step _ _ (b.item depth (encode_items l ++ rest) (omega arith)) (d.items depth rest (omega arith)));
 }
 
 none : Backs end
@@ -157,10 +157,10 @@ mutual
   backs end c = none
   backs (x ▸ l) c = next (back x c.0) (backs l c.1)
 
-decode-laid : (l : Nodes) → Laids l → (rest : List ℕ) → decode (count l) (encodeItems l ++ rest) ≡ l
+decode-laid : (l : Nodes) → Laids l → (rest : List ℕ) → decode (count l) (encode_items l ++ rest) ≡ l
 unfolding decode
 decode-laid l c rest =
-    ap (λ p. p.0) ((backs l c).items (length (encodeItems l ++ rest)) rest (simp length-append (omega arith)))
+    ap (λ p. p.0) ((backs l c).items (length (encode_items l ++ rest)) rest (simp length-append (omega arith)))
 
-pub decode-encode : (l : Nodes) → WellFormed l → (rest : List ℕ) → decode (count l) (encodeItems l ++ rest) ≡ l
-decode-encode l w rest = decode-laid l (expression-laid w) rest
+pub decode-encode : (l : Nodes) → WellFormed l → (rest : List ℕ) → decode (count l) (encode_items l ++ rest) ≡ l
+decode-encode l w rest = decode-laid l (expression_laid w) rest

@@ -25,33 +25,33 @@ mutual
   simple-laid (Simple.unary a) = (refl, (tt, (simple-laid a, tt)))
   simple-laid (Simple.sfunc a) = (refl, (tt, (simple-laid a, tt)))
   simple-laid (Simple.binary a b) = (refl, (tt, (simple-laid a, (simple-laid b, tt))))
-  simple-laid (Simple.group e) = (refl, (tt, expression-laid e))
+  simple-laid (Simple.group e) = (refl, (tt, expression_laid e))
   simple-laid (Simple.matrix c rows m k ls) = (refl, cells-laid c)
 
   cells-laid : {l : Nodes} → Cells l → AllCells l × Laids l
-  cells-laid Cells.no-more-cells = (tt, tt)
-  cells-laid (Cells.cell e m) = let c = cells-laid m in ((refl, c.0), ((refl, (tt, expression-laid e)), c.1))
+  cells-laid Cells.no_more_cells = (tt, tt)
+  cells-laid (Cells.cell e m) = let c = cells-laid m in ((refl, c.0), ((refl, (tt, expression_laid e)), c.1))
 
   arguments-laid : {sc : Script} {l : Nodes} → Arguments sc l → (count l ≡ arguments sc) × Laids l
-  arguments-laid Arguments.no-script = (refl, tt)
+  arguments-laid Arguments.no_script = (refl, tt)
   arguments-laid (Arguments.sub a) = (refl, (simple-laid a, tt))
   arguments-laid (Arguments.super a) = (refl, (simple-laid a, tt))
   arguments-laid (Arguments.subsuper a b) = (refl, (simple-laid a, (simple-laid b, tt)))
 
-  scriptFunc-laid : {x : Node} → ScriptFunc x → Laid x
-  scriptFunc-laid (ScriptFunc.simple a q) = let c = arguments-laid q in (ap suc c.0, (tt, (simple-laid a, c.1)))
-  scriptFunc-laid (ScriptFunc.func {x} {l} q a e) = let c = before x l (arguments-laid q) (scriptFunc-laid a) e in (c.0, (tt, c.1))
-  scriptFunc-laid (ScriptFunc.signed a) = (refl, (tt, (scriptFunc-laid a, tt)))
+  script_func-laid : {x : Node} → ScriptFunc x → Laid x
+  script_func-laid (ScriptFunc.simple a q) = let c = arguments-laid q in (ap suc c.0, (tt, (simple-laid a, c.1)))
+  script_func-laid (ScriptFunc.func {x} {l} q a e) = let c = before x l (arguments-laid q) (script_func-laid a) e in (c.0, (tt, c.1))
+  script_func-laid (ScriptFunc.signed a) = (refl, (tt, (script_func-laid a, tt)))
 
-  intermediate-laid : {x : Node} → Intermediate x → Laid x
-  intermediate-laid (Intermediate.scriptFunc a) = scriptFunc-laid a
-  intermediate-laid (Intermediate.frac a b) = (refl, (tt, (scriptFunc-laid a, (scriptFunc-laid b, tt))))
+  intermediate_laid : {x : Node} → Intermediate x → Laid x
+  intermediate_laid (Intermediate.script_func a) = script_func-laid a
+  intermediate_laid (Intermediate.frac a b) = (refl, (tt, (script_func-laid a, (script_func-laid b, tt))))
 
-  pub expression-laid : {l : Nodes} → Expression l → Laids l
-  expression-laid Expression.empty = tt
-  expression-laid (Expression.items a m) = (intermediate-laid a, behind-laid m)
+  pub expression_laid : {l : Nodes} → Expression l → Laids l
+  expression_laid Expression.empty = tt
+  expression_laid (Expression.items a m) = (intermediate_laid a, behind-laid m)
 
   behind-laid : {l : Nodes} → Behind l → Laids l
   behind-laid Behind.no_more = tt
-  behind-laid (Behind.item a m) = (intermediate-laid a, behind-laid m)
-  behind-laid (Behind.space k a m) = ((refl, (tt, tt)), (intermediate-laid a, behind-laid m))
+  behind-laid (Behind.item a m) = (intermediate_laid a, behind-laid m)
+  behind-laid (Behind.space k a m) = ((refl, (tt, tt)), (intermediate_laid a, behind-laid m))

@@ -6,29 +6,29 @@ use mathlib.Core.Bool.{Bool, true, false, cond}
 use native.Mathlib.Omega.{arith}
 use lib.ListN.{length, length-append}
 use Rattle.tree.specs.Tree.{Head, Node, node, Nodes, end, ◌▸◌, ◌⧺◌, count}
-use Rattle.tree.specs.Words.{headWords, tailWords, ofItems, isFrac, encode, encodes, encodeItem, encodeItems}
+use Rattle.tree.specs.Words.{head_words, tail_words, of_items, is_frac, encode, encodes, encode_item, encode_items}
 
 -- a node's own words, with a matrix's lines
-abbrev pub ownSize : Head → ℕ
-ownSize h = length (headWords h 0 0) + length (tailWords h)
+abbrev pub own_size : Head → ℕ
+own_size h = length (head_words h 0 0) + length (tail_words h)
 
 unfoldable mutual
   pub size : Node → ℕ
-  size (node h l) = ownSize h + cond (ofItems h) (sizeItems l) (sizes l)
+  size (node h l) = own_size h + cond (of_items h) (size_items l) (sizes l)
 
   pub sizes : Nodes → ℕ
   sizes end = 0
   sizes (x ▸ l) = size x + sizes l
 
-  pub sizeItem : Node → ℕ
-  sizeItem (node h l) = cond (isFrac h) (suc (sizes l)) (suc (ownSize h + cond (ofItems h) (sizeItems l) (sizes l)))
+  pub size_item : Node → ℕ
+  size_item (node h l) = cond (is_frac h) (suc (sizes l)) (suc (own_size h + cond (of_items h) (size_items l) (sizes l)))
 
-  pub sizeItems : Nodes → ℕ
-  sizeItems end = 0
-  sizeItems (x ▸ l) = sizeItem x + sizeItems l
+  pub size_items : Nodes → ℕ
+  size_items end = 0
+  size_items (x ▸ l) = size_item x + size_items l
 
 -- whatever their counts are
-own-size : (h : Head) (k w : ℕ) → length (headWords h k w) ≡ length (headWords h 0 0)
+own-size : (h : Head) (k w : ℕ) → length (head_words h k w) ≡ length (head_words h 0 0)
 own-size Head.missing k w = refl
 own-size (Head.atom a sp) k w = refl
 own-size (Head.prefix p sp) k w = refl
@@ -43,43 +43,43 @@ length-pick : (b : Bool) (x y : List ℕ) {m n : ℕ} → length x ≡ m → len
 length-pick true x y p q = p
 length-pick false x y p q = q
 
-module _ (h : Head) (l : Nodes) (all : length (encodes l) ≡ sizes l) (items : length (encodeItems l) ≡ sizeItems l) where
+module _ (h : Head) (l : Nodes) (all : length (encodes l) ≡ sizes l) (items : length (encode_items l) ≡ size_items l) where
   node-size : length (encode (node h l)) ≡ size (node h l)
   unfolding encode size
   node-size =
-      let below = cond (ofItems h) (encodeItems l) (encodes l) in
+      let below = cond (of_items h) (encode_items l) (encodes l) in
       simp length-append (omega (
         arith,
         own-size h (count l) (length below),
-        length-pick (ofItems h) (encodeItems l) (encodes l) items all,
+        length-pick (of_items h) (encode_items l) (encodes l) items all,
       ))
 
-  item-size : length (encodeItem (node h l)) ≡ sizeItem (node h l)
+  item-size : length (encode_item (node h l)) ≡ size_item (node h l)
   unfolding encode size
-  item-size = length-pick (isFrac h) _ _ (ap suc all) (ap suc node-size)
+  item-size = length-pick (is_frac h) _ _ (ap suc all) (ap suc node-size)
 
 mutual
   unfolding encode size
 
   pub length-encode : (x : Node) → length (encode x) ≡ size x
-  length-encode (node h l) = node-size h l (length-encodes l) (length-encodeItems l)
+  length-encode (node h l) = node-size h l (length-encodes l) (length-encode_items l)
 
   pub length-encodes : (l : Nodes) → length (encodes l) ≡ sizes l
   length-encodes end = refl
   length-encodes (x ▸ l) = length-append (encode x) (encodes l) ∙ ap₂ ◌+◌ (length-encode x) (length-encodes l)
 
-  pub length-encodeItem : (x : Node) → length (encodeItem x) ≡ sizeItem x
-  length-encodeItem (node h l) = item-size h l (length-encodes l) (length-encodeItems l)
+  pub length-encode_item : (x : Node) → length (encode_item x) ≡ size_item x
+  length-encode_item (node h l) = item-size h l (length-encodes l) (length-encode_items l)
 
-  pub length-encodeItems : (l : Nodes) → length (encodeItems l) ≡ sizeItems l
-  length-encodeItems end = refl
-  length-encodeItems (x ▸ l) = length-append (encodeItem x) (encodeItems l) ∙ ap₂ ◌+◌ (length-encodeItem x) (length-encodeItems l)
+  pub length-encode_items : (l : Nodes) → length (encode_items l) ≡ size_items l
+  length-encode_items end = refl
+  length-encode_items (x ▸ l) = length-append (encode_item x) (encode_items l) ∙ ap₂ ◌+◌ (length-encode_item x) (length-encode_items l)
 
 -- items behind items; nodes behind nodes
-pub sizeItems-join : (l m : Nodes) → sizeItems (l ⧺ m) ≡ sizeItems l + sizeItems m
+pub size_items-join : (l m : Nodes) → size_items (l ⧺ m) ≡ size_items l + size_items m
 unfolding size
-sizeItems-join end m = omega arith
-sizeItems-join (x ▸ l) m = omega (arith, sizeItems-join l m)
+size_items-join end m = omega arith
+size_items-join (x ▸ l) m = omega (arith, size_items-join l m)
 
 pub sizes-join : (l m : Nodes) → sizes (l ⧺ m) ≡ sizes l + sizes m
 unfolding size
@@ -87,7 +87,7 @@ sizes-join end m = omega arith
 sizes-join (x ▸ l) m = omega (arith, sizes-join l m)
 
 -- an item has one word in front at the most
-pub item-within : (x : Node) → sizeItem x ≤ suc (size x)
+pub item-within : (x : Node) → size_item x ≤ suc (size x)
 unfolding size
 item-within (node Head.missing l) = omega arith
 item-within (node (Head.atom a sp) l) = omega arith

@@ -10,65 +10,65 @@ use lib.Dec.{eqb, ltb, leb}
 use borrow.Author.Tests.{leb-true, lt-ltb, le-ltb, le-leb, lt-leb, ne_eqb}
 use Rattle.tree.specs.declared.walk.Opened.{Opened}
 use Rattle.tree.specs.declared.walk.Step.TheVariants.{Node, End}
-use Rattle.tree.specs.Walk.{belowOf, headedAt, fractionAt, placed_at, stepAt, cellsEnd}
+use Rattle.tree.specs.Walk.{below_of, headed_at, fraction_at, placed_at, step_at, cells_end}
 
-module _ (words : List ℕ) (head : ℕ) {kind held count : ℕ} (k : kind ≡ get_or words head 0) (h : held ≡ get_or words (head + 3) 0) (n : count ≡ belowOf kind held) where
+module _ (words : List ℕ) (head : ℕ) {kind held count : ℕ} (k : kind ≡ get_or words head 0) (h : held ≡ get_or words (head + 3) 0) (n : count ≡ below_of kind held) where
   pub headed-matrix : {tail : ℕ} → kind ≡ 16 → tail ≡ get_or words (head + 7) 0 →
-      record { kind = kind; head = head; from = head + 8; count = count; items = false; tail = tail } ≡ headedAt words head
-  unfolding headedAt
+      record { kind = kind; head = head; from = head + 8; count = count; items = false; tail = tail } ≡ headed_at words head
+  unfolding headed_at
   headed-matrix e t = rw (n, h, t, ← k, e)
 
   pub headed-group : (kind ≡ 16 → ⊥) → kind ≡ 15 →
-      record { kind = kind; head = head; from = head + 6; count = count; items = true; tail = 0 } ≡ headedAt words head
-  unfolding headedAt
+      record { kind = kind; head = head; from = head + 6; count = count; items = true; tail = 0 } ≡ headed_at words head
+  unfolding headed_at
   headed-group f e = rw (n, h, ← k, e)
 
   pub headed-other : (kind ≡ 16 → ⊥) → (kind ≡ 15 → ⊥) →
-      record { kind = kind; head = head; from = head + 6; count = count; items = eqb kind 17; tail = 0 } ≡ headedAt words head
-  unfolding headedAt
+      record { kind = kind; head = head; from = head + 6; count = count; items = eqb kind 17; tail = 0 } ≡ headed_at words head
+  unfolding headed_at
   headed-other f g = rw (n, h, ← k, ne_eqb kind 16 f, ne_eqb kind 15 g)
 
 module _ (words : List ℕ) (at : ℕ) (items : Bool) where
-  pub placed-fraction : {w : ℕ} → items ≡ true → w ≡ get_or words at 0 → w ≡ 1 → fractionAt at ≡ placed_at words at items
+  pub placed-fraction : {w : ℕ} → items ≡ true → w ≡ get_or words at 0 → w ≡ 1 → fraction_at at ≡ placed_at words at items
   unfolding placed_at
   placed-fraction i e o = rw (i, ← e, o)
 
-  pub placed-item : {w : ℕ} → items ≡ true → w ≡ get_or words at 0 → (w ≡ 1 → ⊥) → headedAt words (at + 1) ≡ placed_at words at items
+  pub placed-item : {w : ℕ} → items ≡ true → w ≡ get_or words at 0 → (w ≡ 1 → ⊥) → headed_at words (at + 1) ≡ placed_at words at items
   unfolding placed_at
   placed-item {w} i e o = rw (i, ← e, ne_eqb w 1 o)
 
-  pub placed-node : items ≡ false → headedAt words at ≡ placed_at words at items
+  pub placed-node : items ≡ false → headed_at words at ≡ placed_at words at items
   unfolding placed_at
   placed-node i = rw i
 
-  pub step-node : {o : Opened} → at < length words → o ≡ placed_at words at items → o.from ≤ length words → Node o ≡ stepAt words at items
-  unfolding stepAt
+  pub step-node : {o : Opened} → at < length words → o ≡ placed_at words at items → o.from ≤ length words → Node o ≡ step_at words at items
+  unfolding step_at
   step-node {o} h e f = rw (← e, lt-ltb at (length words) h, le-leb o.from (length words) f)
 
-  pub step_cut : {o : Opened} → at < length words → o ≡ placed_at words at items → length words < o.from → End ≡ stepAt words at items
-  unfolding stepAt
+  pub step_cut : {o : Opened} → at < length words → o ≡ placed_at words at items → length words < o.from → End ≡ step_at words at items
+  unfolding step_at
   step_cut {o} h e f = rw (← e, lt-ltb at (length words) h, lt-leb o.from (length words) f)
 
-  pub step_end : length words ≤ at → End ≡ stepAt words at items
-  unfolding stepAt
+  pub step_end : length words ≤ at → End ≡ step_at words at items
+  unfolding step_at
   step_end h = rw (le-ltb at (length words) h)
 
 module _ (words : List ℕ) where
   pub cell-more : (at left : ℕ) {w : ℕ} → 0 < left → at < length words → w ≡ get_or words (at + 4) 0 →
-      cellsEnd words (left - 1) (at + 6 + w) ≡ cellsEnd words left at
-  unfolding cellsEnd
+      cells_end words (left - 1) (at + 6 + w) ≡ cells_end words left at
+  unfolding cells_end
   cell-more at zero z h e = absurd (omega arith)
-  cell-more at (suc left) z h e = let p : suc left - 1 ≡ left = omega arith in rw (p, e, lt-ltb at (length words) h, cellsEnd)
+  cell-more at (suc left) z h e = let p : suc left - 1 ≡ left = omega arith in rw (p, e, lt-ltb at (length words) h, cells_end)
 
-  pub cell-none : (at left : ℕ) → left ≤ 0 → at ≡ cellsEnd words left at
-  unfolding cellsEnd
+  pub cell-none : (at left : ℕ) → left ≤ 0 → at ≡ cells_end words left at
+  unfolding cells_end
   cell-none at zero z = refl
   cell-none at (suc left) z = absurd (omega arith)
 
-  pub cell-past : (at left : ℕ) → length words ≤ at → at ≡ cellsEnd words left at
-  unfolding cellsEnd
+  pub cell-past : (at left : ℕ) → length words ≤ at → at ≡ cells_end words left at
+  unfolding cells_end
   cell-past at zero h = refl
-  cell-past at (suc left) h = rw (le-ltb at (length words) h, cellsEnd)
+  cell-past at (suc left) h = rw (le-ltb at (length words) h, cells_end)
 
 -- a part of the words, as the code cuts it
 module _ (words : List ℕ) (n : ℕ) {e end : ℕ} (u : e ≡ end) where
@@ -102,16 +102,16 @@ six true = omega arith
 six false = omega arith
 
 placed_on : (words : List ℕ) (at : ℕ) (items : Bool) → let o = placed_at words at items in (at < o.from) × (o.head ≤ o.from)
-unfolding placed_at headedAt
+unfolding placed_at headed_at
 placed_on words at false = let s = six (eqb (get_or words at 0) 16) in omega arith
 placed_on words at true = go (eqb (get_or words at 0) 1)
   where
-    go : (b : Bool) → let o = cond b (fractionAt at) (headedAt words (at + 1)) in (at < o.from) × (o.head ≤ o.from)
+    go : (b : Bool) → let o = cond b (fraction_at at) (headed_at words (at + 1)) in (at < o.from) × (o.head ≤ o.from)
     go true = omega arith
     go false = let s = six (eqb (get_or words (at + 1) 0) 16) in omega arith
 
-pub step-within : (words : List ℕ) (at : ℕ) (items : Bool) (o : Opened) → Node o ≡ stepAt words at items → Within words at o
-unfolding stepAt
+pub step-within : (words : List ℕ) (at : ℕ) (items : Bool) (o : Opened) → Node o ≡ step_at words at items → Within words at o
+unfolding step_at
 step-within words at items o e = go (ltb at (length words)) (leb p.from (length words)) refl e
   where
     p : Opened

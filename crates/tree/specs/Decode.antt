@@ -5,7 +5,7 @@ use Rattle.tokens.specs.declared.token.SymbolClass.{SymbolClass}
 use Rattle.tokens.specs.declared.token.SymbolClass.TheVariants as class
 use Rattle.tokens.specs.Lexeme.{Span}
 use Rattle.tree.specs.Tree.{Script, Head, Atom, Prefix, Node, node, Nodes, end, ◌▸◌, leaf}
-use Rattle.tree.specs.Words.{ofItems}
+use Rattle.tree.specs.Words.{of_items}
 
 -- the classes and the scripts in the order of their numbers
 abbrev pub classes : List SymbolClass
@@ -17,8 +17,8 @@ abbrev pub scripts : List Script
 scripts = Script.none ∷ Script.sub ∷ Script.super ∷ Script.subsuper ∷ []
 
 -- The head that a kind and a node's own words tell: the heads in the order of their kinds. A matrix's lines stand elsewhere.
-unfoldable pub kindHead : ℕ → List ℕ → List ℕ → Head
-kindHead kind words lines = get_or heads kind Head.missing
+unfoldable pub kind_head : ℕ → List ℕ → List ℕ → Head
+kind_head kind words lines = get_or heads kind Head.missing
   where
     word : ℕ → ℕ
     word i = get_or words i 0
@@ -56,7 +56,7 @@ kindHead kind words lines = get_or heads kind Head.missing
 
 -- the kind is a node's first word
 abbrev pub head_of : List ℕ → List ℕ → Head
-head_of words lines = kindHead (get_or words 0 0) words lines
+head_of words lines = kind_head (get_or words 0 0) words lines
 
 -- How many nodes stand below a head. Of a group, a cell and a matrix it is the number in their words, k.
 abbrev pub arguments : Script → ℕ
@@ -96,8 +96,8 @@ times (suc k) one words =
     (x.0 ▸ l.0, l.1)
 
 -- An item: the word in front says whether it is a fraction.
-unfoldable pub decodeItem : Decoder Node → Decoder Node
-decodeItem one words =
+unfoldable pub decode_item : Decoder Node → Decoder Node
+decode_item one words =
     elim (eqb (get_or words 0 0) 1) [
       | true ↦ let l = times 2 one (drop 1 words) in (node Head.frac l.0, l.1)
       | false ↦ one (drop 1 words)
@@ -105,16 +105,16 @@ decodeItem one words =
 
 -- A node: its own words, eight for a matrix and six for any other; the nodes below it; a matrix's lines. A tree that is deeper than
 -- `depth` is cut.
-unfoldable pub decodeNode : ℕ → Decoder Node
-decodeNode zero words = (leaf Head.missing, words)
-decodeNode (suc depth) words =
+unfoldable pub decode_node : ℕ → Decoder Node
+decode_node zero words = (leaf Head.missing, words)
+decode_node (suc depth) words =
     let h = head_of words [] in
     let matrix = eqb (get_or words 0 0) 16 in
-    let one = decodeNode depth in
-    let l = times (below h (get_or words 3 0)) (cond (ofItems h) (decodeItem one) one) (drop (cond matrix 8 6) words) in
+    let one = decode_node depth in
+    let l = times (below h (get_or words 3 0)) (cond (of_items h) (decode_item one) one) (drop (cond matrix 8 6) words) in
     let lines = cond matrix (get_or words 7 0) 0 in
     (node (head_of words (take lines l.1)) l.0, drop lines l.1)
 
 -- The tree. It is nowhere deeper than it has words.
 unfoldable pub decode : ℕ → List ℕ → Nodes
-decode items words = (times items (decodeItem (decodeNode (length words))) words).0
+decode items words = (times items (decode_item (decode_node (length words))) words).0

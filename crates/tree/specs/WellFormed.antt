@@ -4,14 +4,14 @@ use Rattle.std.specs.Prelude.{ℕ, ◌*◌, ◌≤◌, ◌<◌, ◌≡◌, Bool,
 use Rattle.tokens.specs.Lexeme.{Span}
 use Rattle.tree.specs.Tree.{Script, Head, Atom, Prefix, Node, node, Nodes, end, ◌▸◌, ◌⧺◌, count, leaf, one}
 
-abbrev pub isSpace : Atom → Bool
-isSpace Atom.number = false
-isSpace Atom.text = false
-isSpace Atom.ident = false
-isSpace Atom.operator = false
-isSpace Atom.sign = false
-isSpace Atom.space = true
-isSpace (Atom.symbol c) = false
+abbrev pub is_space : Atom → Bool
+is_space Atom.number = false
+is_space Atom.text = false
+is_space Atom.ident = false
+is_space Atom.operator = false
+is_space Atom.sign = false
+is_space Atom.space = true
+is_space (Atom.symbol c) = false
 
 -- Column boundaries with a line, in order: none before b, none behind the last column. A boundary may have several lines.
 pub data Lines (cols : ℕ) : ℕ → List ℕ → Type 0 where
@@ -21,7 +21,7 @@ pub data Lines (cols : ℕ) : ℕ → List ℕ → Type 0 where
 mutual
   pub data Simple : Node → Type 0 where
     missing : Simple (leaf Head.missing)
-    atom : {a : Atom} {sp : Span} → isSpace a ≡ false → Simple (leaf (Head.atom a sp))
+    atom : {a : Atom} {sp : Span} → is_space a ≡ false → Simple (leaf (Head.atom a sp))
     ssigned : {sp : Span} {x : Node} → Simple x → Simple (one (Head.prefix Prefix.ssigned sp) x)
     unary : {sp : Span} {x : Node} → Simple x → Simple (one (Head.prefix Prefix.unary sp) x)
     sfunc : {sp : Span} {x : Node} → Simple x → Simple (one (Head.prefix Prefix.sfunc sp) x)
@@ -33,12 +33,12 @@ mutual
         1 < count l → Lines cols 0 lines → Simple (node (Head.matrix left right cols lines) l)
 
   pub data Cells : Nodes → Type 0 where
-    no-more-cells : Cells end
+    no_more_cells : Cells end
     cell : {l m : Nodes} → Expression l → Cells m → Cells (node Head.cell l ▸ m)
 
   -- Script: its arguments
   pub data Arguments : Script → Nodes → Type 0 where
-    no-script : Arguments Script.none end
+    no_script : Arguments Script.none end
     sub : {x : Node} → Simple x → Arguments Script.sub (x ▸ end)
     super : {x : Node} → Simple x → Arguments Script.super (x ▸ end)
     subsuper : {x y : Node} → Simple x → Simple y → Arguments Script.subsuper (x ▸ y ▸ end)
@@ -53,7 +53,7 @@ mutual
 
   -- Intermediate, but for its Space
   pub data Intermediate : Node → Type 0 where
-    scriptFunc : {x : Node} → ScriptFunc x → Intermediate x
+    script_func : {x : Node} → ScriptFunc x → Intermediate x
     frac : {x y : Node} → ScriptFunc x → ScriptFunc y → Intermediate (node Head.frac (x ▸ y ▸ end))
 
   -- A Space stands between two other items only, and is not empty.

@@ -2,106 +2,106 @@
 -- a matrix's column lines. Each item of the root, a group or a cell has one word in front: 1 for a fraction, whose two parts follow
 -- without a header of their own, and 0 for any other item.
 use Rattle.std.specs.Prelude.{ℕ, Bool, true, false, cond, List, [], ◌∷◌, ◌++◌, length}
-use Rattle.tokens.specs.Kinds.{classNumber}
+use Rattle.tokens.specs.Kinds.{class_number}
 use Rattle.tree.specs.Tree.{Script, Head, Atom, Prefix, Node, node, Nodes, end, ◌▸◌, count}
 
 -- the number of a node's kind, its first word
-abbrev pub atomKind : Atom → ℕ
-atomKind Atom.number = 1
-atomKind Atom.text = 2
-atomKind Atom.ident = 3
-atomKind Atom.operator = 4
-atomKind Atom.sign = 5
-atomKind Atom.space = 6
-atomKind (Atom.symbol c) = 7
+abbrev pub atom_kind : Atom → ℕ
+atom_kind Atom.number = 1
+atom_kind Atom.text = 2
+atom_kind Atom.ident = 3
+atom_kind Atom.operator = 4
+atom_kind Atom.sign = 5
+atom_kind Atom.space = 6
+atom_kind (Atom.symbol c) = 7
 
-abbrev pub prefixKind : Prefix → ℕ
-prefixKind Prefix.signed = 8
-prefixKind Prefix.ssigned = 9
-prefixKind Prefix.unary = 10
-prefixKind Prefix.sfunc = 11
-prefixKind Prefix.binary = 12
+abbrev pub prefix_kind : Prefix → ℕ
+prefix_kind Prefix.signed = 8
+prefix_kind Prefix.ssigned = 9
+prefix_kind Prefix.unary = 10
+prefix_kind Prefix.sfunc = 11
+prefix_kind Prefix.binary = 12
 
-abbrev pub classWord : Atom → ℕ
-classWord Atom.number = 0
-classWord Atom.text = 0
-classWord Atom.ident = 0
-classWord Atom.operator = 0
-classWord Atom.sign = 0
-classWord Atom.space = 0
-classWord (Atom.symbol c) = classNumber c
+abbrev pub class_word : Atom → ℕ
+class_word Atom.number = 0
+class_word Atom.text = 0
+class_word Atom.ident = 0
+class_word Atom.operator = 0
+class_word Atom.sign = 0
+class_word Atom.space = 0
+class_word (Atom.symbol c) = class_number c
 
-abbrev pub scriptNumber : Script → ℕ
-scriptNumber Script.none = 0
-scriptNumber Script.sub = 1
-scriptNumber Script.super = 2
-scriptNumber Script.subsuper = 3
+abbrev pub script_number : Script → ℕ
+script_number Script.none = 0
+script_number Script.sub = 1
+script_number Script.super = 2
+script_number Script.subsuper = 3
 
 -- A node's own words: kind; at and len; class, script, or the number of items or cells; the right bracket's at and len, or a cell's
 -- words; for a matrix also its columns and the number of its lines. It has k nodes below it, which take w words.
-abbrev pub headWords : Head → ℕ → ℕ → List ℕ
-headWords Head.missing k w = 0 ∷ 0 ∷ 0 ∷ 0 ∷ 0 ∷ 0 ∷ []
-headWords (Head.atom a sp) k w = atomKind a ∷ sp.start ∷ sp.len ∷ classWord a ∷ 0 ∷ 0 ∷ []
-headWords (Head.prefix p sp) k w = prefixKind p ∷ sp.start ∷ sp.len ∷ 0 ∷ 0 ∷ 0 ∷ []
-headWords (Head.simple sc) k w = 13 ∷ 0 ∷ 0 ∷ scriptNumber sc ∷ 0 ∷ 0 ∷ []
-headWords (Head.func sp sc) k w = 14 ∷ sp.start ∷ sp.len ∷ scriptNumber sc ∷ 0 ∷ 0 ∷ []
-headWords (Head.group a b) k w = 15 ∷ a.start ∷ a.len ∷ k ∷ b.start ∷ b.len ∷ []
-headWords (Head.matrix a b c ls) k w = 16 ∷ a.start ∷ a.len ∷ k ∷ b.start ∷ b.len ∷ c ∷ length ls ∷ []
-headWords Head.cell k w = 17 ∷ 0 ∷ 0 ∷ k ∷ w ∷ 0 ∷ []
-headWords Head.frac k w = 18 ∷ 0 ∷ 0 ∷ 0 ∷ 0 ∷ 0 ∷ []
+abbrev pub head_words : Head → ℕ → ℕ → List ℕ
+head_words Head.missing k w = 0 ∷ 0 ∷ 0 ∷ 0 ∷ 0 ∷ 0 ∷ []
+head_words (Head.atom a sp) k w = atom_kind a ∷ sp.start ∷ sp.len ∷ class_word a ∷ 0 ∷ 0 ∷ []
+head_words (Head.prefix p sp) k w = prefix_kind p ∷ sp.start ∷ sp.len ∷ 0 ∷ 0 ∷ 0 ∷ []
+head_words (Head.simple sc) k w = 13 ∷ 0 ∷ 0 ∷ script_number sc ∷ 0 ∷ 0 ∷ []
+head_words (Head.func sp sc) k w = 14 ∷ sp.start ∷ sp.len ∷ script_number sc ∷ 0 ∷ 0 ∷ []
+head_words (Head.group a b) k w = 15 ∷ a.start ∷ a.len ∷ k ∷ b.start ∷ b.len ∷ []
+head_words (Head.matrix a b c ls) k w = 16 ∷ a.start ∷ a.len ∷ k ∷ b.start ∷ b.len ∷ c ∷ length ls ∷ []
+head_words Head.cell k w = 17 ∷ 0 ∷ 0 ∷ k ∷ w ∷ 0 ∷ []
+head_words Head.frac k w = 18 ∷ 0 ∷ 0 ∷ 0 ∷ 0 ∷ 0 ∷ []
 
 -- whether the nodes below are items
-abbrev pub ofItems : Head → Bool
-ofItems Head.missing = false
-ofItems (Head.atom a sp) = false
-ofItems (Head.prefix p sp) = false
-ofItems (Head.simple sc) = false
-ofItems (Head.func sp sc) = false
-ofItems Head.frac = false
-ofItems Head.cell = true
-ofItems (Head.group a b) = true
-ofItems (Head.matrix a b c ls) = false
+abbrev pub of_items : Head → Bool
+of_items Head.missing = false
+of_items (Head.atom a sp) = false
+of_items (Head.prefix p sp) = false
+of_items (Head.simple sc) = false
+of_items (Head.func sp sc) = false
+of_items Head.frac = false
+of_items Head.cell = true
+of_items (Head.group a b) = true
+of_items (Head.matrix a b c ls) = false
 
-abbrev pub isFrac : Head → Bool
-isFrac Head.missing = false
-isFrac (Head.atom a sp) = false
-isFrac (Head.prefix p sp) = false
-isFrac (Head.simple sc) = false
-isFrac (Head.func sp sc) = false
-isFrac Head.frac = true
-isFrac Head.cell = false
-isFrac (Head.group a b) = false
-isFrac (Head.matrix a b c ls) = false
+abbrev pub is_frac : Head → Bool
+is_frac Head.missing = false
+is_frac (Head.atom a sp) = false
+is_frac (Head.prefix p sp) = false
+is_frac (Head.simple sc) = false
+is_frac (Head.func sp sc) = false
+is_frac Head.frac = true
+is_frac Head.cell = false
+is_frac (Head.group a b) = false
+is_frac (Head.matrix a b c ls) = false
 
 -- what stands behind the nodes below
-abbrev pub tailWords : Head → List ℕ
-tailWords Head.missing = []
-tailWords (Head.atom a sp) = []
-tailWords (Head.prefix p sp) = []
-tailWords (Head.simple sc) = []
-tailWords (Head.func sp sc) = []
-tailWords Head.frac = []
-tailWords Head.cell = []
-tailWords (Head.group a b) = []
-tailWords (Head.matrix a b c ls) = ls
+abbrev pub tail_words : Head → List ℕ
+tail_words Head.missing = []
+tail_words (Head.atom a sp) = []
+tail_words (Head.prefix p sp) = []
+tail_words (Head.simple sc) = []
+tail_words (Head.func sp sc) = []
+tail_words Head.frac = []
+tail_words Head.cell = []
+tail_words (Head.group a b) = []
+tail_words (Head.matrix a b c ls) = ls
 
 -- a node with the words of those below it
 abbrev pub with_head : Head → ℕ → List ℕ → List ℕ
-with_head h k below = headWords h k (length below) ++ (below ++ tailWords h)
+with_head h k below = head_words h k (length below) ++ (below ++ tail_words h)
 
 unfoldable mutual
   pub encode : Node → List ℕ
-  encode (node h l) = with_head h (count l) (cond (ofItems h) (encodeItems l) (encodes l))
+  encode (node h l) = with_head h (count l) (cond (of_items h) (encode_items l) (encodes l))
 
   pub encodes : Nodes → List ℕ
   encodes end = []
   encodes (x ▸ l) = encode x ++ encodes l
 
-  pub encodeItem : Node → List ℕ
-  encodeItem (node h l) =
-      cond (isFrac h) (1 ∷ encodes l) (0 ∷ with_head h (count l) (cond (ofItems h) (encodeItems l) (encodes l)))
+  pub encode_item : Node → List ℕ
+  encode_item (node h l) =
+      cond (is_frac h) (1 ∷ encodes l) (0 ∷ with_head h (count l) (cond (of_items h) (encode_items l) (encodes l)))
 
   -- the words of a tree: its items
-  pub encodeItems : Nodes → List ℕ
-  encodeItems end = []
-  encodeItems (x ▸ l) = encodeItem x ++ encodeItems l
+  pub encode_items : Nodes → List ℕ
+  encode_items end = []
+  encode_items (x ▸ l) = encode_item x ++ encode_items l

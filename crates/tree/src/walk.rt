@@ -1,7 +1,7 @@
 // One step of a walk over tree words, in preorder: what stands at a place, and where the nodes below it begin. Past the last of them,
 // and past the words behind them, the next node of the same row begins.
 ghost use Rattle.std.specs.Prelude.{◌≡◌, ◌≤◌, ◌<◌, length, get_or, drop};
-ghost use Rattle.tree.specs.Walk.{argumentsOf, belowOf, headedAt, placed_at, past_of, stepAt, cellsEnd, lines_of};
+ghost use Rattle.tree.specs.Walk.{arguments_of, below_of, headed_at, placed_at, past_of, step_at, cells_end, lines_of};
 
 use crate::kinds::{
     NODE_BINARY, NODE_CELL, NODE_FRAC, NODE_GROUP, NODE_MATRIX, NODE_SIGNED, NODE_SIMPLE,
@@ -58,7 +58,7 @@ pub fn past(words: &[u32], at: usize, tail: usize) -> usize
 }
 
 fn arguments(script: u32) -> u32
-    ensures value { result ≡ argumentsOf script }
+    ensures value { result ≡ arguments_of script }
     ensures upper_bound { result ≤ 2 }
 {
     if script == 0 {
@@ -72,7 +72,7 @@ fn arguments(script: u32) -> u32
 
 // How many nodes stand below one of this kind whose word 3 is `held`.
 fn below(kind: u32, held: u32) -> u32
-    ensures { result ≡ belowOf kind held }
+    ensures { result ≡ below_of kind held }
 {
     if kind < NODE_SIGNED {
         0
@@ -92,7 +92,7 @@ fn below(kind: u32, held: u32) -> u32
 // The node whose own words begin at `head`.
 fn headed(words: &[u32], head: usize) -> Opened
     requires { head ≤ length words.now }
-    ensures { result ≡ headedAt words.now head }
+    ensures { result ≡ headed_at words.now head }
 {
     let kind = word(words, head);
     let count = below(kind, word(words, head + 3)) as usize;
@@ -145,7 +145,7 @@ fn placed(words: &[u32], at: usize, items: bool) -> Opened
 
 // The node at a place of a row of items, or of nodes that are none.
 pub fn node_at(words: &[u32], at: usize, items: bool) -> Step
-    ensures { result ≡ stepAt words.now at items }
+    ensures { result ≡ step_at words.now at items }
 {
     if at < words.len() {
         let o = placed(words, at, items);
@@ -161,7 +161,7 @@ pub fn node_at(words: &[u32], at: usize, items: bool) -> Step
 
 // The end of `count` cells.
 fn cells_end(words: &[u32], from: usize, count: usize) -> usize
-    ensures { result ≡ cellsEnd words.now count from }
+    ensures { result ≡ cells_end words.now count from }
 {
     let mut at = from;
     let mut left = count;
@@ -196,7 +196,7 @@ pub fn column_lines(words: &[u32], o: Opened) -> &[u32]
 
 // The column lines of the matrix whose own words begin at `head`.
 pub fn lines_at(words: &[u32], head: usize) -> &[u32]
-    ensures { result.now ≡ lines_of words.now (headedAt words.now head) }
+    ensures { result.now ≡ lines_of words.now (headed_at words.now head) }
 {
     let len = words.len();
     if head < len {

@@ -7,29 +7,29 @@ use native.Mathlib.Nat.{add-zero}
 use native.Mathlib.Numerals.{add-one}
 use lib.ListN.{length, get_or, set, take, length-append, length-set}
 use lib.Seq.{sets, set_out, length-sets, take-suc}
-use Rattle.tokens.proofs.Cases.{by-lt}
+use Rattle.tokens.proofs.Cases.{by_lt}
 use Rattle.writer.specs.Put.{Put, most}
 
 -- what lies past the end is not stored
-sets-out : (x v : List ℕ) (e : ℕ) → length x ≤ e → sets x e v ≡ x
-sets-out x [] e h = refl
-sets-out x (b ∷ v) e h = rw (set_out x e b h) (sets-out x v (suc e) (omega arith))
+sets_out : (x v : List ℕ) (e : ℕ) → length x ≤ e → sets x e v ≡ x
+sets_out x [] e h = refl
+sets_out x (b ∷ v) e h = rw (set_out x e b h) (sets_out x v (suc e) (omega arith))
 
 -- one run behind another is one run
-sets-append : (x v w : List ℕ) (e : ℕ) → sets (sets x e v) (e + length v) w ≡ sets x e (v ++ w)
-sets-append x [] w e = rw add-zero
-sets-append x (b ∷ v) w e =
+sets_append : (x v w : List ℕ) (e : ℕ) → sets (sets x e v) (e + length v) w ≡ sets x e (v ++ w)
+sets_append x [] w e = rw add-zero
+sets_append x (b ∷ v) w e =
     let n : e + suc (length v) ≡ suc e + length v = omega arith in
-    rw n (sets-append (set x e b) v w (suc e))
+    rw n (sets_append (set x e b) v w (suc e))
 
 -- the place behind a run may be any one past the end
 sets_then : (x v w : List ℕ) (e f : ℕ) → length x ≤ most → f ≡ min (e + length v) most → sets (sets x e v) f w ≡ sets x e (v ++ w)
 sets_then x v w e f h k =
-    by-lt most (e + length v)
+    by_lt most (e + length v)
     (λ l.
     let n : length (sets x e v) ≡ length x = length-sets x e v in
-    sets-out (sets x e v) w f (omega arith) ∙ sym (sets-out (sets x e v) w (e + length v) (omega arith)) ∙ sets-append x v w e)
-    (λ l. let n : f ≡ e + length v = omega arith in rw n (sets-append x v w e))
+    sets_out (sets x e v) w f (omega arith) ∙ sym (sets_out (sets x e v) w (e + length v) (omega arith)) ∙ sets_append x v w e)
+    (λ l. let n : f ≡ e + length v = omega arith in rw n (sets_append x v w e))
 
 pub none : (x : List ℕ) (e : ℕ) → length x ≤ most → e ≤ most → Put x e x e []
 none x e a h = record { fits = a; same = refl; count = omega arith; bytes = refl }
@@ -52,7 +52,7 @@ put_as u p = rw u at p
 
 -- all of them past the end
 pub past_end : (x v : List ℕ) (e f : ℕ) → length x ≤ most → length x ≤ e → f ≡ min (e + length v) most → Put x e x f v
-past_end x v e f a h k = record { fits = a; same = refl; count = k; bytes = sym (sets-out x v e h) }
+past_end x v e f a h k = record { fits = a; same = refl; count = k; bytes = sym (sets_out x v e h) }
 
 put-to : {x y v : List ℕ} {e f g : ℕ} → f ≡ g → Put x e y f v → Put x e y g v
 put-to u p = rw u at p

@@ -1,5 +1,5 @@
 use mathlib.Core.Path.{sym, ap}
-use Rattle.asciimath_answers.specs.Exported.{lookedUp}
+use Rattle.asciimath_answers.specs.Exported.{looked_up}
 use Rattle.asciimath_answers.proofs.Passing.{given-as}
 use borrow.Author.Rules.{rules}
 use Rattle.asciimath.proofs.asciimath_lookup.Statement.{statement}
@@ -15,7 +15,7 @@ same_length : tie.Need-same-length
 same_length c = search rules
 
 returns : tie.Need-returns
-returns c = let g = given-as (ap lookedUp (sym c.before.before.before.before.get-longest-prefix.ensures)) c.before.before.put-longest.ensures in (g.code, g.values)
+returns c = let g = given-as (ap looked_up (sym c.before.before.before.before.get-longest-prefix.ensures)) c.before.before.put-longest.ensures in (g.code, g.values)
 
 pub asciimath-lookup-spec : {M : Type 1} → statement M
 asciimath-lookup-spec = tie.close (tie.spec get-longest-prefix-requires put-longest-requires same_length returns)

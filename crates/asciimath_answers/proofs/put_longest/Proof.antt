@@ -1,5 +1,5 @@
 use mathlib.Core.Path.{ap}
-use Rattle.asciimath_answers.specs.Exported.{lookedUp}
+use Rattle.asciimath_answers.specs.Exported.{looked_up}
 use Rattle.asciimath_answers.proofs.Passing.{given-as}
 use borrow.Author.Rules.{rules}
 use Rattle.asciimath_answers.proofs.put_longest.Statement.{statement}
@@ -27,13 +27,13 @@ same_length : tie.Need-same-length
 same_length c = search rules
 
 returns : tie.Need-returns
-returns c = given-as (ap lookedUp c.before.before.before.before.enum_told.given.1) c.before.before.put_one.ensures
+returns c = given-as (ap looked_up c.before.before.before.before.enum_told.given.1) c.before.before.put_one.ensures
 
 same-length-2 : tie.Need-same-length-2
 same-length-2 c = search rules
 
 returns-2 : tie.Need-returns-2
-returns-2 c = given-as (ap lookedUp c.before.before.before.before.before.before.got.given.1) (rw c.before.before.before.before.number.ensures at c.before.before.put_three.ensures)
+returns-2 c = given-as (ap looked_up c.before.before.before.before.before.before.got.given.1) (rw c.before.before.before.before.number.ensures at c.before.before.put_three.ensures)
 
 pub put-longest-spec : {M : Type 1} → statement M
 put-longest-spec = tie.close (tie.spec enum_told put-one-requires enum-known-got number-requires cast-kind put-three-requires same_length returns same-length-2 returns-2)

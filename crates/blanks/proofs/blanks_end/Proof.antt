@@ -5,13 +5,13 @@ use native.Mathlib.Omega.{arith}
 use lib.ListN.{length}
 use borrow.Author.Tests.{not-true, not-false}
 use borrow.Author.Rules.{rules}
-use Rattle.lexing.specs.Rules.{blank, runEnd}
+use Rattle.lexing.specs.Rules.{blank, run_end}
 use Rattle.lexing.proofs.Runs.{run_more, run-stop, run_past}
 use Rattle.blanks.proofs.blanks_end.Statement.{statement}
 use Rattle.blanks.proofs.blanks_end.Tie as tie
 
 abbrev invariant-loop : tie.invariant-loop
-invariant-loop text at i₀ i = runEnd blank text at ≡ runEnd blank text i
+invariant-loop text at i₀ i = run_end blank text at ≡ run_end blank text i
 
 abbrev decreases-loop : tie.decreases-loop
 decreases-loop text at i₀ i = length text - i

@@ -3,13 +3,13 @@ use Prim.Native.Nat.{◌-◌, ◌≤◌}
 use mathlib.Core.Path.{◌≡◌, sym, ◌∙◌}
 use native.Mathlib.Omega.{arith}
 use borrow.Author.Rules.{rules}
-use Rattle.brackets.specs.Brackets.{attemptsFrom, hasAttempts}
+use Rattle.brackets.specs.Brackets.{attempts_from, has_attempts}
 use Rattle.brackets.proofs.Attempts.{found_all, found_here, found-later, found_nowhere}
 use Rattle.brackets.proofs.has_attempts.Statement.{statement}
 use Rattle.brackets.proofs.has_attempts.Tie as tie
 
 abbrev invariant-loop : tie.invariant-loop
-invariant-loop text tok work n i₀ i = (attemptsFrom text tok work n i (n - i) ≡ hasAttempts text tok work n) × (i ≤ n)
+invariant-loop text tok work n i₀ i = (attempts_from text tok work n i (n - i) ≡ has_attempts text tok work n) × (i ≤ n)
 
 abbrev decreases-loop : tie.decreases-loop
 decreases-loop text tok work n i₀ i = n - i

@@ -15,7 +15,7 @@ fits-requires c κs = search rules
 
 mul-tree : tie.Need-overflow-mul-tree
 mul-tree c = let a = c.before.before.before.args in
-    omega (arith, leb-true (a.i + 6) (length a.tree.now) (sym c.before.fits2.ensures ∙ c.if1.true), c.before.before.before.well-formed.0.0)
+    omega (arith, leb-true (a.i + 6) (length a.tree.now) (sym c.before.fits2.ensures ∙ c.if1.true), c.before.before.before.well_formed.0.0)
 
 slice-write-tree : tie.Need-slice-write-tree
 slice-write-tree c = let a = c.before.before.before.args in
@@ -23,11 +23,11 @@ slice-write-tree c = let a = c.before.before.before.args in
 
 add-tree : tie.Need-overflow-add-tree
 add-tree c = let a = c.before.before.before.args in
-    omega (arith, leb-true (a.i + 6) (length a.tree.now) (sym c.before.fits2.ensures ∙ c.if1.true), c.before.before.before.well-formed.0.0)
+    omega (arith, leb-true (a.i + 6) (length a.tree.now) (sym c.before.fits2.ensures ∙ c.if1.true), c.before.before.before.well_formed.0.0)
 
 mul-tree-2 : tie.Need-overflow-mul-tree-2
 mul-tree-2 c = let a = c.before.before.before.args in
-    omega (arith, leb-true (a.i + 6) (length a.tree.now) (sym c.before.fits2.ensures ∙ c.if1.true), c.before.before.before.well-formed.0.0)
+    omega (arith, leb-true (a.i + 6) (length a.tree.now) (sym c.before.fits2.ensures ∙ c.if1.true), c.before.before.before.well_formed.0.0)
 
 slice-write-tree-2 : tie.Need-slice-write-tree-2
 slice-write-tree-2 c = let a = c.before.before.before.args in
@@ -35,11 +35,11 @@ slice-write-tree-2 c = let a = c.before.before.before.args in
 
 add-tree-2 : tie.Need-overflow-add-tree-2
 add-tree-2 c = let a = c.before.before.before.args in
-    omega (arith, leb-true (a.i + 6) (length a.tree.now) (sym c.before.fits2.ensures ∙ c.if1.true), c.before.before.before.well-formed.0.0)
+    omega (arith, leb-true (a.i + 6) (length a.tree.now) (sym c.before.fits2.ensures ∙ c.if1.true), c.before.before.before.well_formed.0.0)
 
 mul-tree-3 : tie.Need-overflow-mul-tree-3
 mul-tree-3 c = let a = c.before.before.before.args in
-    omega (arith, leb-true (a.i + 6) (length a.tree.now) (sym c.before.fits2.ensures ∙ c.if1.true), c.before.before.before.well-formed.0.0)
+    omega (arith, leb-true (a.i + 6) (length a.tree.now) (sym c.before.fits2.ensures ∙ c.if1.true), c.before.before.before.well_formed.0.0)
 
 slice-write-tree-3 : tie.Need-slice-write-tree-3
 slice-write-tree-3 c = let a = c.before.before.before.args in
@@ -47,11 +47,11 @@ slice-write-tree-3 c = let a = c.before.before.before.args in
 
 add-tree-3 : tie.Need-overflow-add-tree-3
 add-tree-3 c = let a = c.before.before.before.args in
-    omega (arith, leb-true (a.i + 6) (length a.tree.now) (sym c.before.fits2.ensures ∙ c.if1.true), c.before.before.before.well-formed.0.0)
+    omega (arith, leb-true (a.i + 6) (length a.tree.now) (sym c.before.fits2.ensures ∙ c.if1.true), c.before.before.before.well_formed.0.0)
 
 mul-tree-4 : tie.Need-overflow-mul-tree-4
 mul-tree-4 c = let a = c.before.before.before.args in
-    omega (arith, leb-true (a.i + 6) (length a.tree.now) (sym c.before.fits2.ensures ∙ c.if1.true), c.before.before.before.well-formed.0.0)
+    omega (arith, leb-true (a.i + 6) (length a.tree.now) (sym c.before.fits2.ensures ∙ c.if1.true), c.before.before.before.well_formed.0.0)
 
 slice-write-tree-4 : tie.Need-slice-write-tree-4
 slice-write-tree-4 c = let a = c.before.before.before.args in
@@ -59,11 +59,11 @@ slice-write-tree-4 c = let a = c.before.before.before.args in
 
 add-tree-4 : tie.Need-overflow-add-tree-4
 add-tree-4 c = let a = c.before.before.before.args in
-    omega (arith, leb-true (a.i + 6) (length a.tree.now) (sym c.before.fits2.ensures ∙ c.if1.true), c.before.before.before.well-formed.0.0)
+    omega (arith, leb-true (a.i + 6) (length a.tree.now) (sym c.before.fits2.ensures ∙ c.if1.true), c.before.before.before.well_formed.0.0)
 
 mul-tree-5 : tie.Need-overflow-mul-tree-5
 mul-tree-5 c = let a = c.before.before.before.args in
-    omega (arith, leb-true (a.i + 6) (length a.tree.now) (sym c.before.fits2.ensures ∙ c.if1.true), c.before.before.before.well-formed.0.0)
+    omega (arith, leb-true (a.i + 6) (length a.tree.now) (sym c.before.fits2.ensures ∙ c.if1.true), c.before.before.before.well_formed.0.0)
 
 slice-write-tree-5 : tie.Need-slice-write-tree-5
 slice-write-tree-5 c = let a = c.before.before.before.args in
@@ -71,11 +71,11 @@ slice-write-tree-5 c = let a = c.before.before.before.args in
 
 add-tree-5 : tie.Need-overflow-add-tree-5
 add-tree-5 c = let a = c.before.before.before.args in
-    omega (arith, leb-true (a.i + 6) (length a.tree.now) (sym c.before.fits2.ensures ∙ c.if1.true), c.before.before.before.well-formed.0.0)
+    omega (arith, leb-true (a.i + 6) (length a.tree.now) (sym c.before.fits2.ensures ∙ c.if1.true), c.before.before.before.well_formed.0.0)
 
 mul-tree-6 : tie.Need-overflow-mul-tree-6
 mul-tree-6 c = let a = c.before.before.before.args in
-    omega (arith, leb-true (a.i + 6) (length a.tree.now) (sym c.before.fits2.ensures ∙ c.if1.true), c.before.before.before.well-formed.0.0)
+    omega (arith, leb-true (a.i + 6) (length a.tree.now) (sym c.before.fits2.ensures ∙ c.if1.true), c.before.before.before.well_formed.0.0)
 
 slice-write-tree-6 : tie.Need-slice-write-tree-6
 slice-write-tree-6 c = let a = c.before.before.before.args in

@@ -1,7 +1,7 @@
 -- `list_closers`: the pass goes over the list, and its closers are written.
 use native.Mathlib.Omega.{arith}
 use mathlib.Core.Path.{◌∙◌}
-use Rattle.closers.proofs.Calls.{not-refused, not_plain, few-entries, list-closed-words}
+use Rattle.closers.proofs.Calls.{not_refused, not_plain, few-entries, list-closed_words}
 use borrow.Author.Rules.{rules}
 use Rattle.closers.proofs.list_closers.Statement.{statement}
 use Rattle.closers.proofs.list_closers.Tie as tie
@@ -36,7 +36,7 @@ returns : tie.Need-returns
 returns c =
     let S = c.before.before.before.before.before.before.before.before.before.before.before.before.before.before.before.before in
     c.before.before.put-closers.ensures
-    ∙ list-closed-words S.args.text.now S.args.table.now S.args.count S.requires.0 S.args.work.now S.requires.1.0 _ _ c.before.before.before.before.before.before.before.before.before.before.pair-list.ensures _ _ c.before.before.before.before.before.before.entries.given.1 _ S.requires.1.1
+    ∙ list-closed_words S.args.text.now S.args.table.now S.args.count S.requires.0 S.args.work.now S.requires.1.0 _ _ c.before.before.before.before.before.before.before.before.before.before.pair-list.ensures _ _ c.before.before.before.before.before.before.entries.given.1 _ S.requires.1.1
 
 same-length-3 : tie.Need-same-length-3
 same-length-3 c = search rules
@@ -52,7 +52,7 @@ same-length-4 c = search rules
 returns-3 : tie.Need-returns-3
 returns-3 c =
     let S = c.before.before.before.before.before.before.before.before.before.before in
-    not-refused S.args.text.now S.args.table.now S.args.count S.requires.0 S.args.work.now S.requires.1.0 _ _ c.before.before.before.before.pair-list.ensures _ c.enum-told2.given.1
+    not_refused S.args.text.now S.args.table.now S.args.count S.requires.0 S.args.work.now S.requires.1.0 _ _ c.before.before.before.before.pair-list.ensures _ c.enum-told2.given.1
 
 pub list-closers-spec : {M : Type 1} → statement M
 list-closers-spec =

@@ -3,20 +3,20 @@ use Prim.Native.Nat.{◌+◌, ◌-◌, ◌≤◌}
 use mathlib.Core.Path.{◌≡◌, ap}
 use mathlib.Core.Logic.{⊎_elim}
 use native.Mathlib.Omega.{arith}
-use Rattle.tokens.specs.Table.{tokenList, countOthers}
-use Rattle.tokens.proofs.TokenList.{tokensFrom, tokens-all, tokens_none, others_same, others-more}
+use Rattle.tokens.specs.Table.{token_list, count_others}
+use Rattle.tokens.proofs.TokenList.{tokens_from, tokens-all, tokens_none, others_same, others-more}
 use Rattle.entries.proofs.count_entries.Statement.{statement}
 use Rattle.entries.proofs.count_entries.Tie as tie
 
 abbrev invariant-loop : tie.invariant-loop
-invariant-loop table count n₀ i₀ n i = (i ≤ count) × (n ≤ i) × (countOthers (tokenList count table) ≡ n + countOthers (tokensFrom count table i))
+invariant-loop table count n₀ i₀ n i = (i ≤ count) × (n ≤ i) × (count_others (token_list count table) ≡ n + count_others (tokens_from count table i))
 
 abbrev decreases-loop : tie.decreases-loop
 decreases-loop table count n₀ i₀ n i = count - i
 
 loop-holds : tie.Need-loop-init invariant-loop decreases-loop
 loop-holds c = let a = c.args in
-    (omega arith, omega arith, omega (arith, ap countOthers (tokens-all a.count a.table.now)))
+    (omega arith, omega arith, omega (arith, ap count_others (tokens-all a.count a.table.now)))
 
 mul-if1 : tie.Need-overflow-mul-if1 invariant-loop decreases-loop
 mul-if1 c = omega arith
@@ -49,10 +49,10 @@ loop-again c = let a = c.before.before.before.before.args in
     c.if1.branch
 
 returns : tie.Need-returns invariant-loop decreases-loop
-unfolding countOthers
+unfolding count_others
 returns c = let a = c.before.before.args in
     let p = c.before.loop in
-    omega (arith, p.invariant.2, ap countOthers (tokens_none a.count a.table.now p.i c.loop-test.false))
+    omega (arith, p.invariant.2, ap count_others (tokens_none a.count a.table.now p.i c.loop-test.false))
 
 pub count-entries-spec : {M : Type 1} → statement M
 count-entries-spec =

@@ -5,7 +5,7 @@ use mathlib.Core.Logic.{⊎_elim}
 use native.Mathlib.Omega.{arith}
 use borrow.Author.Rules.{rules}
 use Rattle.entries.proofs.Matching.{chain-top}
-use Rattle.entries.proofs.Filling.{Filling, filling-none, filling-space, filling-entry, filling-done, all-counted}
+use Rattle.entries.proofs.Filling.{Filling, filling_none, filling_space, filling_entry, filling_done, all-counted}
 use Rattle.entries.proofs.fill.Statement.{statement}
 use Rattle.entries.proofs.fill.Tie as tie
 
@@ -17,7 +17,7 @@ decreases-loop table count work₀ n₀ top₀ i₀ work n top i = count - i
 
 loop-holds : tie.Need-loop-init invariant-loop decreases-loop
 loop-holds c = let a = c.before.before.args in
-    filling-none a.count a.table.now a.work.now
+    filling_none a.count a.table.now a.work.now
 
 mul-kind : tie.Need-overflow-mul-kind invariant-loop decreases-loop
 mul-kind c = omega arith
@@ -55,8 +55,8 @@ loop-again c = let a = c.before.before.before.before.before.before.args in
     let p = c.before.before.before.loop in
     let h = c.before.before.loop-test.true in
     ⊎_elim
-    (λ w. rw (w.9, w.10, w.11) (filling-entry a.count a.table.now a.work.now p.invariant h c.before.before.before.before.before.before.requires.0 w.0.taken c.before.before.before.before.before.before.requires.1.1 w.2.ensures w.6.ensures))
-    (λ w. rw (w.1, w.2, w.3) (filling-space a.count a.table.now a.work.now p.invariant h w.0.left))
+    (λ w. rw (w.9, w.10, w.11) (filling_entry a.count a.table.now a.work.now p.invariant h c.before.before.before.before.before.before.requires.0 w.0.taken c.before.before.before.before.before.before.requires.1.1 w.2.ensures w.6.ensures))
+    (λ w. rw (w.1, w.2, w.3) (filling_space a.count a.table.now a.work.now p.invariant h w.0.left))
     c.if1.branch
 
 same_length : tie.Need-same-length invariant-loop decreases-loop
@@ -66,7 +66,7 @@ returns : tie.Need-returns invariant-loop decreases-loop
 returns c = let a = c.before.before.before.before.args in
     let p = c.before.loop in
     let room = c.before.before.before.before.requires.1.1 in (
-      filling-done a.count a.table.now a.work.now p.work p.n p.top p.i p.invariant c.loop-test.false room,
+      filling_done a.count a.table.now a.work.now p.work p.n p.top p.i p.invariant c.loop-test.false room,
       sym (all-counted a.count a.table.now a.work.now p.work p.n p.top p.i p.invariant c.loop-test.false room),
     )
 

@@ -22,11 +22,11 @@ is-short-requires c κs = search rules
 
 returns-3 : tie.Need-returns-3
 returns-3 c = let a = c.before.before.before.before.before.before.args in
-    short-work a.count a.table.now a.work.now c.before.before.before.if1.false c.before.before.if2.false (sym c.before.is-short.ensures ∙ c.if3.true)
+    short-work a.count a.table.now a.work.now c.before.before.before.if1.false c.before.before.if2.false (sym c.before.is_short.ensures ∙ c.if3.true)
 
 fill-requires : tie.Need-fill-requires
 fill-requires c κs = let a = c.before.before.before.before.before.before.before.args in
-    (c.before.before.before.before.if1.false, (c.before.before.before.if2.false, enough a.count a.table.now a.work.now (sym c.before.before.is-short.ensures ∙ c.before.if3.false)))
+    (c.before.before.before.before.if1.false, (c.before.before.before.if2.false, enough a.count a.table.now a.work.now (sym c.before.before.is_short.ensures ∙ c.before.if3.false)))
 
 clear-open-requires : tie.Need-clear-open-requires
 clear-open-requires c κs = let f = c.before.before.before.fill.ensures.0 in record { stack = f.stack; chain = chain-narrow f.chain }
@@ -37,7 +37,7 @@ same_length c = search rules
 returns-4 : tie.Need-returns-4
 returns-4 c = let a = c.before.before.before.before.before.before.before.before.before.before.before.before.before.before.args in
     let f = c.before.before.before.before.before.before.fill.ensures in
-    ready a.count a.table.now a.work.now c.before.before.before.before.before.before.before.before.before.before.before.if1.false c.before.before.before.before.before.before.before.before.before.before.if2.false (sym c.before.before.before.before.before.before.before.before.before.is-short.ensures ∙ c.before.before.before.before.before.before.before.before.if3.false) f.1
+    ready a.count a.table.now a.work.now c.before.before.before.before.before.before.before.before.before.before.before.if1.false c.before.before.before.before.before.before.before.before.before.before.if2.false (sym c.before.before.before.before.before.before.before.before.before.is_short.ensures ∙ c.before.before.before.before.before.before.before.before.if3.false) f.1
     (c.before.before.clear-open.ensures f.0.stack (chain-narrow f.0.chain) ∙ f.0.words)
 
 pub prepare-spec : {M : Type 1} → statement M

@@ -2,7 +2,7 @@
 use mathlib.Core.Path.{ap, ◌∙◌}
 use borrow.Author.Rules.{rules}
 use Rattle.records.specs.declared.bits.Bits.TheVariants.{High}
-use Rattle.records.specs.Record.{bitsOf, afterClose}
+use Rattle.records.specs.Record.{bits_of, after_close}
 use Rattle.fields.proofs.after_close.Statement.{statement}
 use Rattle.fields.proofs.after_close.Tie as tie
 
@@ -16,8 +16,8 @@ cast-result : tie.Need-overflow-cast-result
 cast-result c = search rules
 
 returns : tie.Need-returns
-unfolding afterClose
-returns c = c.bits_of.ensures ∙ ap (bitsOf High) c.before.word.ensures
+unfolding after_close
+returns c = c.bits_of.ensures ∙ ap (bits_of High) c.before.word.ensures
 
 pub after-close-spec : {M : Type 1} → statement M
 after-close-spec = tie.close (tie.spec word-requires bits-of-requires cast-result returns)

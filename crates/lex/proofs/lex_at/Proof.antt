@@ -3,7 +3,7 @@ use mathlib.Core.Path.{◌∙◌}
 use native.Mathlib.Omega.{arith}
 use borrow.Author.Rules.{rules}
 use Rattle.lex.specs.declared.Lexing.TheVariants.{Tokens}
-use Rattle.lex.proofs.Answers.{lex-end}
+use Rattle.lex.proofs.Answers.{lex_end}
 use Rattle.lex.proofs.Single.{answer-refused, accepted, some-listed, single-is}
 use Rattle.lex.proofs.lex_at.Statement.{statement}
 use Rattle.lex.proofs.lex_at.Tie as tie
@@ -23,7 +23,7 @@ enum-known-all c = search rules
 returns : tie.Need-returns
 returns c =
     let o = accepted _ _ _ _ _ c.before.before.before.before.before.list-reads.ensures _ _ _ _ c.before.before.all.given.1 in
-    lex-end _ _ o (omega arith)
+    lex_end _ _ o (omega arith)
 
 spanned-at-requires : tie.Need-spanned-at-requires
 spanned-at-requires c κs = search rules

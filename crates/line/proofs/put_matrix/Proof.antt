@@ -3,7 +3,7 @@ use mathlib.Core.Path.{◌≡◌}
 use lib.ListN.{get_or}
 use Rattle.writer.proofs.Puts.{then, put_as}
 use Rattle.tree.specs.Walk.{lines_of}
-use Rattle.line.specs.Lines.{matrixOf}
+use Rattle.line.specs.Lines.{matrix_of}
 use borrow.Author.Rules.{rules}
 use Rattle.line.proofs.put_matrix.Statement.{statement}
 use Rattle.line.proofs.put_matrix.Tie as tie
@@ -39,12 +39,12 @@ same_length : tie.Need-same-length
 same_length c = search rules
 
 returns : tie.Need-returns
-unfolding matrixOf lines_of
+unfolding matrix_of lines_of
 returns c =
     let a = c.before.before.before.before.before.before.before.before.before.before.before.before.before.before.before.before.before.before.before.before.before.before.before.args in
     let w = a.own.now in
-    let same : matrixOf (get_or w 4 0) (get_or w 5 0) c.before.before.before.before.before.before.before.before.before.before.before.before.before.word.result a.o.count c.before.before.before.column-lines.result.now
-    ≡ matrixOf (get_or w 4 0) (get_or w 5 0) (get_or w 6 0) a.o.count (lines_of a.words.now a.o) = rw (c.before.before.before.before.before.before.before.before.before.before.before.before.before.word.ensures, c.before.before.before.column-lines.ensures) in
+    let same : matrix_of (get_or w 4 0) (get_or w 5 0) c.before.before.before.before.before.before.before.before.before.before.before.before.before.word.result a.o.count c.before.before.before.column-lines.result.now
+    ≡ matrix_of (get_or w 4 0) (get_or w 5 0) (get_or w 6 0) a.o.count (lines_of a.words.now a.o) = rw (c.before.before.before.before.before.before.before.before.before.before.before.before.before.word.ensures, c.before.before.before.column-lines.ensures) in
     put_as same (then c.before.before.before.before.before.before.before.before.before.before.before.before.before.before.before.before.before.before.put_right.ensures (then c.before.before.before.before.before.before.before.before.before.before.before.before.put-number.ensures (then c.before.before.before.before.before.before.before.put-number2.ensures c.before.before.put-lines.ensures)))
 
 pub put-matrix-spec : {M : Type 1} → statement M

@@ -2,7 +2,7 @@
 use mathlib.Core.Path.{◌≡◌}
 use lib.ListN.{get_or}
 use Rattle.writer.proofs.Puts.{then, put_as}
-use Rattle.line.specs.Lines.{rightOf}
+use Rattle.line.specs.Lines.{right_of}
 use borrow.Author.Rules.{rules}
 use Rattle.line.proofs.put_right.Statement.{statement}
 use Rattle.line.proofs.put_right.Tie as tie
@@ -35,10 +35,10 @@ same_length : tie.Need-same-length
 same_length c = search rules
 
 returns : tie.Need-returns
-unfolding rightOf
+unfolding right_of
 returns c =
     let w = c.before.before.before.before.before.before.before.before.before.before.before.before.before.before.args.own.now in
-    let same : rightOf c.before.before.before.before.before.before.before.before.before.before.before.word.result c.before.before.before.before.before.before.before.before.before.before.word2.result ≡ rightOf (get_or w 4 0) (get_or w 5 0) = rw (c.before.before.before.before.before.before.before.before.before.before.before.word.ensures, c.before.before.before.before.before.before.before.before.before.before.word2.ensures) in
+    let same : right_of c.before.before.before.before.before.before.before.before.before.before.before.word.result c.before.before.before.before.before.before.before.before.before.before.word2.result ≡ right_of (get_or w 4 0) (get_or w 5 0) = rw (c.before.before.before.before.before.before.before.before.before.before.before.word.ensures, c.before.before.before.before.before.before.before.before.before.before.word2.ensures) in
     put_as same (then c.before.before.before.before.before.before.before.put-number.ensures c.before.before.put-number2.ensures)
 
 pub put-right-spec : {M : Type 1} → statement M

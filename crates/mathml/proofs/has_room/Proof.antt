@@ -4,8 +4,8 @@ use mathlib.Core.Bool.{false}
 use borrow.Author.Tests.{leb-true}
 use Rattle.tokens.proofs.Cases.{clash}
 use borrow.Author.Rules.{rules}
-use Rattle.mathml.proofs.has_room.Statement.{statement}
-use Rattle.mathml.proofs.has_room.Tie as tie
+use Rattle.mathml.proofs.has_room_lem.Statement.{statement}
+use Rattle.mathml.proofs.has_room_lem.Tie as tie
 
 mul-result : tie.Need-overflow-mul-result
 mul-result c = search rules

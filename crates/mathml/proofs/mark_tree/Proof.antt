@@ -21,7 +21,7 @@ same_length : tie.Need-same-length
 same_length c = search rules
 
 returns-2 : tie.Need-returns-2
-returns-2 c = let a = c.before.before.before.before.before.before.before.before.before.before.before.args in tree-fits a.out.now c.before.before.before.before.before.before.before.pass-row.ensures c.before.before.before.before.before.before.if1.false (omega arith) (c.before.before.before.before.before.has_room.ensures c.before.before.before.before.if2.true) c.before.before.put-root.ensures
+returns-2 c = let a = c.before.before.before.before.before.before.before.before.before.before.before.args in tree-fits a.out.now c.before.before.before.before.before.before.before.pass-row.ensures c.before.before.before.before.before.before.if1.false (omega arith) (c.before.before.before.before.before.has_room_lem.ensures c.before.before.before.before.if2.true) c.before.before.put-root.ensures
 
 slice-aggregate-put-root : tie.Need-slice-aggregate-put-root
 slice-aggregate-put-root c = search rules

@@ -3,7 +3,7 @@ use Rattle.buffer.proofs.Stores.{stored-in, stored-out, stored-none}
 use borrow.Author.Tests.{leb-true, leb-false, lt-ltb, le-ltb}
 use Rattle.nodes.proofs.Gaps.{one-item, seven-words, no_item, no_words}
 use Prim.Native.Nat.{◌+◌, ◌≤◌}
-use Rattle.nodes.specs.Nodes.{gapLen, gapWords, gapItems}
+use Rattle.nodes.specs.Nodes.{gap_len, gap_words, gap_items}
 use native.Mathlib.Numerals.{add-one}
 use lib.ListN.{length, set, length-set}
 use mathlib.Core.Path.{refl, sym, ◌∙◌}
@@ -17,7 +17,7 @@ returns c = let a = c.before.before.before.before.args in
     (sym (no_item a.tok.now a.work.now a.n a.first a.i c.if1.true), rw (no_words a.tok.now a.work.now a.n a.first a.i c.if1.true) (sym (stored-none a.tree.now a.e)))
 
 returns-2 : tie.Need-returns-2
-unfolding gapWords gapItems gapLen
+unfolding gap_words gap_items gap_len
 returns-2 c = let a = c.before.before.before.before.before.args in
     rw (c.before.if1.false, le-ltb _ _ c.if2.true) (refl, sym (stored-none a.tree.now a.e))
 
@@ -25,7 +25,7 @@ space-len-requires : tie.Need-space-len-requires
 space-len-requires c κs = search rules
 
 returns-3 : tie.Need-returns-3
-unfolding gapWords gapItems gapLen
+unfolding gap_words gap_items gap_len
 returns-3 c = let a = c.before.before.before.before.before.before.before.args in
     rw (c.before.before.before.if1.false, lt-ltb _ _ c.before.before.if2.false, ← c.before.space-len.ensures, c.if3.true) (refl, sym (stored-none a.tree.now a.e))
 

@@ -1,6 +1,6 @@
 -- The tokens, or what the tokenizer says of them; then the reading of their list.
 use borrow.Author.Rules.{rules}
-use Rattle.parse.proofs.Calls.{tokens-refused, tokens-many, list-accepted, list-fits, list-not-refused, list-was-read}
+use Rattle.parse.proofs.Calls.{tokens-refused, tokens-many, list-accepted, list-fits, list-not_refused, list-was_read}
 use Rattle.parse.proofs.parse.Statement.{statement}
 use Rattle.parse.proofs.parse.Tie as tie
 
@@ -61,7 +61,7 @@ same-length-5 c = search rules
 returns-3 : tie.Need-returns-3
 returns-3 c =
     let a = c.before.before.before.before.before.before.before.before.before.before.before.before.before.before.before.before.before.before.before.before.before.before.before.args in
-    list-not-refused a.text.now a.table.now a.work.now a.tree.now _ _ _ c.before.before.before.before.before.before.before.before.before.before.before.before.before.before.before.before.tokenize-under.ensures _ _ c.before.before.before.before.before.before.before.before.before.before.before.before.all.given.1 c.before.before.before.before.before.before.before.before.before.before.before.before.before.before.before.before.before.before.room_for.ensures _ _ _ c.before.before.before.before.before.before.before.read-list.ensures _ c.before.k2.given.1
+    list-not_refused a.text.now a.table.now a.work.now a.tree.now _ _ _ c.before.before.before.before.before.before.before.before.before.before.before.before.before.before.before.before.tokenize-under.ensures _ _ c.before.before.before.before.before.before.before.before.before.before.before.before.all.given.1 c.before.before.before.before.before.before.before.before.before.before.before.before.before.before.before.before.before.before.room_for.ensures _ _ _ c.before.before.before.before.before.before.before.read-list.ensures _ c.before.k2.given.1
 
 same-length-6 : tie.Need-same-length-6
 same-length-6 c = search rules
@@ -75,7 +75,7 @@ same-length-8 c = search rules
 returns-4 : tie.Need-returns-4
 returns-4 c =
     let a = c.before.before.before.before.before.before.before.before.before.before.before.before.before.before.before.before.before.before.before.before.before.before.before.args in
-    list-was-read a.text.now a.table.now a.work.now a.tree.now _ _ _ c.before.before.before.before.before.before.before.before.before.before.before.before.before.before.before.before.tokenize-under.ensures _ _ c.before.before.before.before.before.before.before.before.before.before.before.before.all.given.1 c.before.before.before.before.before.before.before.before.before.before.before.before.before.before.before.before.before.before.room_for.ensures _ _ _ c.before.before.before.before.before.before.before.read-list.ensures _ _ _ c.before.takes.given.1
+    list-was_read a.text.now a.table.now a.work.now a.tree.now _ _ _ c.before.before.before.before.before.before.before.before.before.before.before.before.before.before.before.before.tokenize-under.ensures _ _ c.before.before.before.before.before.before.before.before.before.before.before.before.all.given.1 c.before.before.before.before.before.before.before.before.before.before.before.before.before.before.before.before.before.before.room_for.ensures _ _ _ c.before.before.before.before.before.before.before.read-list.ensures _ _ _ c.before.takes.given.1
 
 pub parse-spec : {M : Type 1} → statement M
 parse-spec =

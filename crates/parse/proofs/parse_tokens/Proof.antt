@@ -2,8 +2,8 @@
 use mathlib.Core.Path.{sym, ap, ◌∙◌}
 use Prim.Native.Nat.{ℕ}
 use lib.ListN.{length}
-use Rattle.tokens.specs.Refusals.{roomRefusal}
-use Rattle.room.proofs.Lengths.{refusalIn, refusal-in}
+use Rattle.tokens.specs.Refusals.{room_refusal}
+use Rattle.room.proofs.Lengths.{refusal_in, refusal-in}
 use Rattle.lists.proofs.Cases.{checked_refused, checked-accepted}
 use Rattle.parse.proofs.Calls.{list-refused, room-refused}
 use borrow.Author.Rules.{rules}
@@ -31,7 +31,7 @@ enum_told c = search rules
 read-list-requires : tie.Need-read-list-requires
 read-list-requires c κs = let a = c.before.before.before.before.before.before.before.before.before.before.before.before.before.args in
     let k = checked-accepted a.text.now a.table.now a.count _ c.before.before.before.before.before.before.before.before.check-list.ensures _ c.before.before.before.before.before.before.others.given.1 in
-    (k.0, ap (λ (n : ℕ). roomRefusal n (length a.work.now) (length a.tree.now)) (sym k.1) ∙ refusal-in _ _ _ _ c.before.before.before.before.check-room.ensures ∙ ap refusalIn c.before.before.enum_told.given.1)
+    (k.0, ap (λ (n : ℕ). room_refusal n (length a.work.now) (length a.tree.now)) (sym k.1) ∙ refusal-in _ _ _ _ c.before.before.before.before.check-room.ensures ∙ ap refusal_in c.before.before.enum_told.given.1)
 
 returns : tie.Need-returns
 returns c = let a = c.before.before.before.before.before.before.before.before.args in
@@ -40,7 +40,7 @@ returns c = let a = c.before.before.before.before.before.before.before.before.ar
 returns-2 : tie.Need-returns-2
 returns-2 c = let a = c.before.before.before.before.before.before.before.before.before.before.before.before.args in
     let k = checked-accepted a.text.now a.table.now a.count _ c.before.before.before.before.before.before.before.check-list.ensures _ c.before.before.before.before.before.others.given.1 in
-    room-refused a.text.now a.table.now a.count a.work.now a.tree.now k.0 _ (ap (λ (n : ℕ). roomRefusal n (length a.work.now) (length a.tree.now)) (sym k.1) ∙ refusal-in _ _ _ _ c.before.before.before.check-room.ensures ∙ ap refusalIn c.before.k2.given.1)
+    room-refused a.text.now a.table.now a.count a.work.now a.tree.now k.0 _ (ap (λ (n : ℕ). room_refusal n (length a.work.now) (length a.tree.now)) (sym k.1) ∙ refusal-in _ _ _ _ c.before.before.before.check-room.ensures ∙ ap refusal_in c.before.k2.given.1)
 
 same_length : tie.Need-same-length
 same_length c = search rules

@@ -3,7 +3,7 @@ use mathlib.Core.Path.{ap, ◌∙◌}
 use Prim.Native.Nat.{ℕ}
 use lib.ListN.{replicate}
 use borrow.Author.Rules.{rules}
-use Rattle.parse.proofs.Calls.{not-refused, few-here, plain-number, plain_ready, plain-reads, read_number, read-ready, read-reads, reads-list}
+use Rattle.parse.proofs.Calls.{not_refused, few-here, plain-number, plain_ready, plain-reads, read_number, read-ready, read-reads, reads-list}
 use Rattle.parse.proofs.read_list.Statement.{statement}
 use Rattle.parse.proofs.read_list.Tie as tie
 
@@ -77,7 +77,7 @@ same-length-5 c = search rules
 returns-3 : tie.Need-returns-3
 returns-3 c =
     let S = c.before.before.before.before.before.before.before.before.before.before.before in
-    not-refused S.args.text.now S.args.table.now S.args.count S.args.work.now S.args.tree.now S.requires.0 S.requires.1 _ _ c.before.before.before.before.before.pair-list.ensures _ c.before.k.given.1
+    not_refused S.args.text.now S.args.table.now S.args.count S.args.work.now S.args.tree.now S.requires.0 S.requires.1 _ _ c.before.before.before.before.before.pair-list.ensures _ c.before.k.given.1
 
 pub read-list-spec : {M : Type 1} → statement M
 read-list-spec =

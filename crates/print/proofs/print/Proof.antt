@@ -2,7 +2,7 @@
 use mathlib.Core.Path.{ap}
 use Rattle.parse.specs.Call as read
 use Rattle.printer.specs.Call as tree
-use Rattle.print.proofs.Calls.{when-refused, too_short, printed-whole}
+use Rattle.print.proofs.Calls.{when_refused, too_short, printed-whole}
 use borrow.Author.Rules.{rules}
 use Rattle.print.proofs.print.Statement.{statement}
 use Rattle.print.proofs.print.Tie as tie
@@ -40,7 +40,7 @@ same-length-3 c = search rules
 returns : tie.Need-returns
 returns c =
     let a = c.before.before.before.before.before.before.before.before.before.before.before.before.before.before.before.before.before.before.args in
-    when-refused a.text.now a.table.now a.work.now a.tree.now a.out.now _ _ _ _ c.before.before.before.before.before.before.before.before.before.parse.ensures _
+    when_refused a.text.now a.table.now a.work.now a.tree.now a.out.now _ _ _ _ c.before.before.before.before.before.before.before.before.before.parse.ensures _
     (ap read.answer_of c.before.k.given.1)
 
 same-length-4 : tie.Need-same-length-4

@@ -1,6 +1,6 @@
 -- The first line, then the rows of the root.
 use Rattle.writer.proofs.Puts.{then}
-use Rattle.printer.specs.Call.{printWords}
+use Rattle.printer.specs.Call.{print_words}
 use borrow.Author.Rules.{rules}
 use Rattle.printer.proofs.put_tree.Statement.{statement}
 use Rattle.printer.proofs.put_tree.Tie as tie
@@ -15,7 +15,7 @@ same_length : tie.Need-same-length
 same_length c = search rules
 
 returns : tie.Need-returns
-unfolding printWords
+unfolding print_words
 returns c = then c.before.before.before.before.before.before.put_first.ensures c.before.before.put-row.ensures.put
 
 pub put-tree-spec : {M : Type 1} → statement M

@@ -1,6 +1,6 @@
 -- The call's print, or the line of its refusal.
 use native.Mathlib.Omega.{arith}
-use Rattle.read.proofs.Replies.{refused-line, too_long, when-refused, printed-whole}
+use Rattle.read.proofs.Replies.{refused-line, too_long, when_refused, printed-whole}
 use borrow.Author.Rules.{rules}
 use Rattle.read.proofs.reply.Statement.{statement}
 use Rattle.read.proofs.reply.Tie as tie
@@ -46,7 +46,7 @@ same-length-3 c = search rules
 
 returns-3 : tie.Need-returns-3
 returns-3 c =
-    let w = when-refused c.before.before.before.before.before.before.before.before.before.before.before.before.before.before.before.before.before.before.before.before.args.text.now _ _ _ c.before.before.before.before.before.before.before.before.before.before.before.before.before.before.before.before.before.before.before.before.args.out.now (search rules) (search rules) (search rules) (search rules) (search rules) _ _ _ _ _ c.before.before.before.before.before.before.before.before.before.before.before.before.print.ensures _ c.before.before.before.before.before.number.given.1 in
+    let w = when_refused c.before.before.before.before.before.before.before.before.before.before.before.before.before.before.before.before.before.before.before.before.args.text.now _ _ _ c.before.before.before.before.before.before.before.before.before.before.before.before.before.before.before.before.before.before.before.before.args.out.now (search rules) (search rules) (search rules) (search rules) (search rules) _ _ _ _ _ c.before.before.before.before.before.before.before.before.before.before.before.before.print.ensures _ c.before.before.before.before.before.number.given.1 in
     rw w.1 (refused-line _ _ _ _ (search rules) w.0 c.before.before.put-refusal2.ensures)
 
 pub reply-spec : {M : Type 1} → statement M

@@ -3,20 +3,20 @@ use Prim.Native.Nat.{◌+◌, ◌-◌, ◌≤◌}
 use mathlib.Core.Path.{◌≡◌}
 use mathlib.Core.Logic.{⊎_elim}
 use native.Mathlib.Omega.{arith}
-use Rattle.tokens.specs.Table.{tokenList, countOthers}
+use Rattle.tokens.specs.Table.{token_list, count_others}
 use Rattle.read_brackets.proofs.Others.{others_same, others-next}
 use borrow.Author.Rules.{rules}
 use Rattle.read_brackets.proofs.place_of.Statement.{statement}
 use Rattle.read_brackets.proofs.place_of.Tie as tie
 
 abbrev invariant-loop : tie.invariant-loop
-invariant-loop table count i left₀ j₀ left j = (j ≤ count) × (left + countOthers (tokenList j table) ≡ i)
+invariant-loop table count i left₀ j₀ left j = (j ≤ count) × (left + count_others (token_list j table) ≡ i)
 
 abbrev decreases-loop : tie.decreases-loop
 decreases-loop table count i left₀ j₀ left j = count - j
 
 loop-holds : tie.Need-loop-init invariant-loop decreases-loop
-unfolding tokenList countOthers
+unfolding token_list count_others
 loop-holds c = search rules
 
 mul-if1 : tie.Need-overflow-mul-if1 invariant-loop decreases-loop

@@ -4,7 +4,7 @@ use mathlib.Core.Option.{none, some}
 use native.Mathlib.Omega.{arith}
 use borrow.Author.Rules.{rules}
 use Rattle.room.specs.declared.Room.TheVariants.{Refused}
-use Rattle.room.specs.Room.{roomOf}
+use Rattle.room.specs.Room.{room_of}
 use Rattle.room.proofs.Lengths.{room-enough, one-short, answers}
 use Rattle.room.proofs.check_room.Statement.{statement}
 use Rattle.room.proofs.check_room.Tie as tie
@@ -13,14 +13,14 @@ room-for-requires : tie.Need-room-for-requires
 room-for-requires c κs = search rules
 
 returns : tie.Need-returns
-unfolding roomOf
+unfolding room_of
 returns c = answers _ _ _ none (room-enough _ _ _ _ (omega arith) (omega arith))
 
 lacking-requires : tie.Need-lacking-requires
 lacking-requires c κs = search rules
 
 returns-2 : tie.Need-returns-2
-unfolding roomOf
+unfolding room_of
 returns-2 c =
     let a = c.before.before.before.args in
     ap Refused c.lacking.ensures

@@ -12,11 +12,11 @@ is-byte-requires-2 c κs = search rules
 
 returns : tie.Need-returns
 unfolding pair_at
-returns c = simp (c.before.before.before.if1.true, ← c.before.before.is-byte.ensures, c.before.if2.true, ← c.is-byte2.ensures)
+returns c = simp (c.before.before.before.if1.true, ← c.before.before.is_byte_lem.ensures, c.before.if2.true, ← c.is-byte2.ensures)
 
 returns-2 : tie.Need-returns-2
 unfolding pair_at
-returns-2 c = simp (c.before.before.if1.true, ← c.before.is-byte.ensures, c.if2.false)
+returns-2 c = simp (c.before.before.if1.true, ← c.before.is_byte_lem.ensures, c.if2.false)
 
 is-byte-requires-3 : tie.Need-is-byte-requires-3
 is-byte-requires-3 c κs = search rules

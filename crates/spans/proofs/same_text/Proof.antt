@@ -1,8 +1,8 @@
--- `same_text`: the spans of two entries.
-use Rattle.spans.specs.Spans.{sameAt}
+-- `same_text_lem`: the spans of two entries.
+use Rattle.spans.specs.Spans.{same_at}
 use borrow.Author.Rules.{rules}
-use Rattle.spans.proofs.same_text.Statement.{statement}
-use Rattle.spans.proofs.same_text.Tie as tie
+use Rattle.spans.proofs.same_text_lem.Statement.{statement}
+use Rattle.spans.proofs.same_text_lem.Tie as tie
 
 start-at-requires : tie.Need-start-at-requires
 start-at-requires c κs = search rules
@@ -32,7 +32,7 @@ same-span-requires : tie.Need-same-span-requires
 same-span-requires c κs = search rules
 
 returns : tie.Need-returns
-unfolding sameAt
+unfolding same_at
 returns c = rw (← c.before.before.before.before.start-at.ensures, ← c.before.before.before.len-at.ensures, ← c.before.before.start-at2.ensures, ← c.before.len-at2.ensures) c.same_span.ensures
 
 pub same-text-spec : {M : Type 1} → statement M

@@ -2,7 +2,7 @@
 use mathlib.Core.Path.{sym, ap, ◌∙◌}
 use borrow.Author.Rules.{rules}
 use Rattle.lexer.specs.declared.Listing.{Listing}
-use Rattle.tokenizer.specs.Waiting.{allListed}
+use Rattle.tokenizer.specs.Waiting.{all_listed}
 use Rattle.tokenizer.proofs.list_all.Statement.{statement}
 use Rattle.tokenizer.proofs.list_all.Tie as tie
 
@@ -19,13 +19,13 @@ same_length : tie.Need-same-length
 same_length c = search rules
 
 returns : tie.Need-returns
-returns c = ap (λ (r : Listing). allListed (r, c.before.before.before.before.before.list-reads.new.1.1.1.0)) (sym c.before.all.given.1) ∙ ap allListed c.before.before.before.before.before.list-reads.ensures
+returns c = ap (λ (r : Listing). all_listed (r, c.before.before.before.before.before.list-reads.new.1.1.1.0)) (sym c.before.all.given.1) ∙ ap all_listed c.before.before.before.before.before.list-reads.ensures
 
 same-length-2 : tie.Need-same-length-2
 same-length-2 c = search rules
 
 returns-2 : tie.Need-returns-2
-returns-2 c = ap (λ (r : Listing). allListed (r, c.before.before.before.before.before.list-reads.new.1.1.1.0)) (sym c.before.k.given.1) ∙ ap allListed c.before.before.before.before.before.list-reads.ensures
+returns-2 c = ap (λ (r : Listing). all_listed (r, c.before.before.before.before.before.list-reads.new.1.1.1.0)) (sym c.before.k.given.1) ∙ ap all_listed c.before.before.before.before.before.list-reads.ensures
 
 pub list-all-spec : {M : Type 1} → statement M
 list-all-spec =

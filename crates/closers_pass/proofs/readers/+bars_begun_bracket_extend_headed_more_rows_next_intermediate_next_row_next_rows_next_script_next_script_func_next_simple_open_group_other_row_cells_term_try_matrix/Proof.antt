@@ -53,7 +53,7 @@ use Rattle.closers_pass.proofs.readers.+bars_begun_bracket_extend_headed_more_ro
 use Rattle.closers_pass.proofs.readers.next_simple.Reads as next-simple
 use Rattle.closers_pass.proofs.readers.+bars_begun_bracket_extend_headed_more_rows_next_intermediate_next_row_next_rows_next_script_next_script_func_next_simple_open_group_other_row_cells_term_try_matrix.Lts-next_simple as next-simple-lts
 use Rattle.closers_pass.proofs.readers.+bars_begun_bracket_extend_headed_more_rows_next_intermediate_next_row_next_rows_next_script_next_script_func_next_simple_open_group_other_row_cells_term_try_matrix.Proof.NextSimple as next-simple-need
-use Rattle.closers_pass.proofs.readers.open_group.Reads as open-group
+use Rattle.closers_pass.proofs.readers.open_group.Reads as open_group
 use Rattle.closers_pass.proofs.readers.+bars_begun_bracket_extend_headed_more_rows_next_intermediate_next_row_next_rows_next_script_next_script_func_next_simple_open_group_other_row_cells_term_try_matrix.Lts-open_group as open-group-lts
 use Rattle.closers_pass.proofs.readers.+bars_begun_bracket_extend_headed_more_rows_next_intermediate_next_row_next_rows_next_script_next_script_func_next_simple_open_group_other_row_cells_term_try_matrix.Proof.OpenGroup as open-group-need
 use Rattle.closers_pass.proofs.readers.other.Reads as other
@@ -328,7 +328,7 @@ pub +bars-begun-bracket-extend-headed-more-rows-next-intermediate-next-row-next-
     (λ t. open-group-lts.spec
     (open-group-need.uses t)
     (open-group-at t)
-    open-group.Post
+    open_group.Post
     (open-group-need.extend-requires t)
     (open-group-need.cast-at t)
     (open-group-need.is-at-requires t)

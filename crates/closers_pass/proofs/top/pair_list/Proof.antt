@@ -3,7 +3,7 @@ use mathlib.Core.Path.{sym}
 use borrow.Author.Rules.{rules}
 use borrow.Author.Tests.{not-true, not-false}
 use lib.Seq.{length-take-le}
-use Rattle.closers_pass.proofs.Called.{few, fit, lent_fits, pass-refused, pass-plain, pass-read}
+use Rattle.closers_pass.proofs.Called.{few, fit, lent_fits, pass_refused, pass_plain, pass_read}
 use Rattle.closers_pass.proofs.top.pair_list.Statement.{statement}
 use Rattle.closers_pass.proofs.top.pair_list.Tie as tie
 
@@ -25,7 +25,7 @@ same_length c = search rules
 returns : tie.Need-returns
 returns c =
     let a = c.before.before.before.before.before.before.before.before.before.before.before.before.before.args in
-    pass-plain a.text.now a.table.now a.count a.always a.work.now _ _ c.before.before.before.before.before.before.before.before.prepare.ensures _ c.before.before.before.before.n.given.1 _ c.before.is-wanted.ensures (not-true _ c.if1.true)
+    pass_plain a.text.now a.table.now a.count a.always a.work.now _ _ c.before.before.before.before.before.before.before.before.prepare.ensures _ c.before.before.before.before.n.given.1 _ c.before.is-wanted.ensures (not-true _ c.if1.true)
 
 mul-read-all : tie.Need-overflow-mul-read-all
 mul-read-all c =
@@ -56,7 +56,7 @@ same-length-2 c = search rules
 returns-2 : tie.Need-returns-2
 returns-2 c =
     let a = c.before.before.before.before.before.before.before.before.before.before.args in
-    pass-refused a.text.now a.table.now a.count a.always a.work.now _ _ c.before.before.before.before.before.prepare.ensures _ c.before.k.given.1
+    pass_refused a.text.now a.table.now a.count a.always a.work.now _ _ c.before.before.before.before.before.prepare.ensures _ c.before.k.given.1
 
 same-length-3 : tie.Need-same-length-3
 same-length-3 c = search rules
@@ -64,7 +64,7 @@ same-length-3 c = search rules
 returns-3 : tie.Need-returns-3
 returns-3 c =
     let a = c.before.before.before.before.before.before.before.before.before.before.before.before.before.before.before.before.before.args in
-    pass-read a.text.now a.table.now a.count a.always a.work.now _ _ c.before.before.before.before.before.before.before.before.before.before.before.before.prepare.ensures _ c.before.before.before.before.before.before.before.before.n.given.1 _ _ c.before.before.read_all.ensures _ c.before.before.before.before.before.is-wanted.ensures (not-false _ c.before.before.before.before.if1.false) c.before.before.read_all.type-inv
+    pass_read a.text.now a.table.now a.count a.always a.work.now _ _ c.before.before.before.before.before.before.before.before.before.before.before.before.prepare.ensures _ c.before.before.before.before.before.before.before.before.n.given.1 _ _ c.before.before.read_all.ensures _ c.before.before.before.before.before.is-wanted.ensures (not-false _ c.before.before.before.before.if1.false) c.before.before.read_all.type-inv
 
 pub pair-list-spec : {M : Type 1} → statement M
 pair-list-spec =

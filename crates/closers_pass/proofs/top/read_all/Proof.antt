@@ -1,6 +1,6 @@
 -- `read_all`: round by round.
-use Rattle.closers_pass.proofs.Tops.{Round, round-none, round-open, round-drop, round-wrap}
-use Rattle.lookahead.specs.Tests.{isKind}
+use Rattle.closers_pass.proofs.Tops.{Round, round_none, round_open, round_drop, round_wrap}
+use Rattle.lookahead.specs.Tests.{is_kind}
 use Rattle.lookahead.proofs.Testing.{test_below}
 use borrow.Author.Rules.{rules}
 use borrow.Author.Tests.{not-true, not-false}
@@ -17,7 +17,7 @@ abbrev decreases-all : tie.decreases-all
 decreases-all text tok n work₀ cur₀ first₀ sign₀ wraps₀ work cur first sign wraps = n - cur.pos
 
 all-holds : tie.Need-all-init invariant-all decreases-all
-all-holds c = round-none _ _ _ _
+all-holds c = round_none _ _ _ _
 
 extend-requires : tie.Need-extend-requires invariant-all decreases-all
 extend-requires c κs = let v = c.before.all.invariant in record { few = c.before.before.before.before.before.requires.0; fit = omega (arith, c.before.before.before.before.before.requires.1, v.kept.long); here = v.within }
@@ -32,28 +32,28 @@ look-requires : tie.Need-look-requires invariant-all decreases-all
 look-requires c κs = search rules
 
 next-requires : tie.Need-next-requires invariant-all decreases-all
-next-requires c κs = let b = test_below _ _ c.before.before.before.before.before.before.before.before.before.before.before.before.before.args.n (isKind 21) _ (sym c.before.is_at.ensures ∙ not-false _ c.if1.false) in omega (arith, c.before.before.before.before.before.before.before.before.before.before.before.before.before.requires.0)
+next-requires c κs = let b = test_below _ _ c.before.before.before.before.before.before.before.before.before.before.before.before.before.args.n (is_kind 21) _ (sym c.before.is_at.ensures ∙ not-false _ c.if1.false) in omega (arith, c.before.before.before.before.before.before.before.before.before.before.before.before.before.requires.0)
 
 add_wraps : tie.Need-overflow-add-wraps invariant-all decreases-all
 add_wraps c = omega (arith, c.if2.true)
 
 all-less : tie.Need-all-smaller invariant-all decreases-all
-all-less c = let b = test_below _ _ c.before.before.before.before.before.before.before.before.before.before.before.before.before.before.before.args.n (isKind 21) _ (sym c.before.before.before.is_at.ensures ∙ not-false _ c.before.before.if1.false) in let m = c.before.before.before.before.before.before.before.before.before.extend.ensures.moves in let np : c.before.next.result.pos ≡ c.before.before.before.before.before.before.before.before.before.extend.result.cur.pos + 1 = rw c.before.next.ensures in omega (arith, m.on)
+all-less c = let b = test_below _ _ c.before.before.before.before.before.before.before.before.before.before.before.before.before.before.before.args.n (is_kind 21) _ (sym c.before.before.before.is_at.ensures ∙ not-false _ c.before.before.if1.false) in let m = c.before.before.before.before.before.before.before.before.before.extend.ensures.moves in let np : c.before.next.result.pos ≡ c.before.before.before.before.before.before.before.before.before.extend.result.cur.pos + 1 = rw c.before.next.ensures in omega (arith, m.on)
 
 all-again : tie.Need-all-preserved invariant-all decreases-all
-all-again c = rw c.before.next.ensures (round-wrap c.before.before.before.before.before.before.before.before.before.before.before.all.invariant c.before.before.before.before.before.before.before.before.before.extend.ensures (sym c.before.before.before.is_at.ensures ∙ not-false _ c.before.before.if1.false) c.if2.true)
+all-again c = rw c.before.next.ensures (round_wrap c.before.before.before.before.before.before.before.before.before.before.before.all.invariant c.before.before.before.before.before.before.before.before.before.extend.ensures (sym c.before.before.before.is_at.ensures ∙ not-false _ c.before.before.if1.false) c.if2.true)
 
 all-less-2 : tie.Need-all-smaller-2 invariant-all decreases-all
-all-less-2 c = let b = test_below _ _ c.before.before.before.before.before.before.before.before.before.before.before.before.before.before.before.args.n (isKind 21) _ (sym c.before.before.before.is_at.ensures ∙ not-false _ c.before.before.if1.false) in let m = c.before.before.before.before.before.before.before.before.before.extend.ensures.moves in let np : c.before.next.result.pos ≡ c.before.before.before.before.before.before.before.before.before.extend.result.cur.pos + 1 = rw c.before.next.ensures in omega (arith, m.on)
+all-less-2 c = let b = test_below _ _ c.before.before.before.before.before.before.before.before.before.before.before.before.before.before.before.args.n (is_kind 21) _ (sym c.before.before.before.is_at.ensures ∙ not-false _ c.before.before.if1.false) in let m = c.before.before.before.before.before.before.before.before.before.extend.ensures.moves in let np : c.before.next.result.pos ≡ c.before.before.before.before.before.before.before.before.before.extend.result.cur.pos + 1 = rw c.before.next.ensures in omega (arith, m.on)
 
 all-again-2 : tie.Need-all-preserved-2 invariant-all decreases-all
-all-again-2 c = rw c.before.next.ensures (round-drop c.before.before.before.before.before.before.before.before.before.before.before.all.invariant c.before.before.before.before.before.before.before.before.before.extend.ensures (sym c.before.before.before.is_at.ensures ∙ not-false _ c.before.before.if1.false) c.if2.false)
+all-again-2 c = rw c.before.next.ensures (round_drop c.before.before.before.before.before.before.before.before.before.before.before.all.invariant c.before.before.before.before.before.before.before.before.before.extend.ensures (sym c.before.before.before.is_at.ensures ∙ not-false _ c.before.before.if1.false) c.if2.false)
 
 same_length : tie.Need-same-length invariant-all decreases-all
 same_length c = c.before.before.before.before.before.before.before.before.extend.ensures.moves.kept.long ∙ c.before.before.before.before.before.before.before.before.before.before.all.invariant.kept.long
 
 returns : tie.Need-returns invariant-all decreases-all
-returns c = rw c.look.ensures (round-open c.before.before.before.before.before.before.before.before.before.before.all.invariant c.before.before.before.before.before.before.before.before.extend.ensures (sym c.before.before.is_at.ensures ∙ not-true _ c.before.if1.true))
+returns c = rw c.look.ensures (round_open c.before.before.before.before.before.before.before.before.before.before.all.invariant c.before.before.before.before.before.before.before.before.extend.ensures (sym c.before.before.is_at.ensures ∙ not-true _ c.before.if1.true))
 
 pub read-all-spec : {M : Type 1} → statement M
 read-all-spec =

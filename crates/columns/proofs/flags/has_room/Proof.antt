@@ -2,8 +2,8 @@
 use mathlib.Core.Path.{◌∙◌}
 use Rattle.columns.proofs.Shape.{room-none, room-some, room-many}
 use borrow.Author.Rules.{rules}
-use Rattle.columns.proofs.flags.has_room.Statement.{statement}
-use Rattle.columns.proofs.flags.has_room.Tie as tie
+use Rattle.columns.proofs.flags.has_room_lem.Statement.{statement}
+use Rattle.columns.proofs.flags.has_room_lem.Tie as tie
 
 fits-requires : tie.Need-fits-requires
 fits-requires c κs = search rules

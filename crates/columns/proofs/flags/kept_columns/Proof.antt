@@ -7,14 +7,14 @@ use native.Mathlib.Omega.{arith}
 use borrow.Author.Rules.{rules}
 use lib.ListN.{drop}
 use lib.Dec.{eqb}
-use Rattle.reading.specs.Reading.{keptCols}
+use Rattle.reading.specs.Reading.{kept_cols}
 use Rattle.columns.specs.Steps.{flags, bits}
 use Rattle.columns.proofs.Boundaries.{one-most, count-more, count-done}
 use Rattle.columns.proofs.flags.kept_columns.Statement.{statement}
 use Rattle.columns.proofs.flags.kept_columns.Tie as tie
 
 abbrev invariant-loop : tie.invariant-loop
-invariant-loop tree end cols n₀ k₀ n k = (k ≤ cols) × ((n ≤ k) × ((m : List Bool) → flags end cols tree ≡ bits m → n + keptCols (drop k m) ≡ keptCols m))
+invariant-loop tree end cols n₀ k₀ n k = (k ≤ cols) × ((n ≤ k) × ((m : List Bool) → flags end cols tree ≡ bits m → n + kept_cols (drop k m) ≡ kept_cols m))
 
 abbrev decreases-loop : tie.decreases-loop
 decreases-loop tree end cols n₀ k₀ n k = cols - k

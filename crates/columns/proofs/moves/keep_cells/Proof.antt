@@ -4,7 +4,7 @@ use native.Mathlib.Omega.{arith}
 use borrow.Author.Rules.{rules}
 use lib.Dec.{eqb}
 use Rattle.columns.proofs.Boundaries.{one-most}
-use Rattle.columns.proofs.Keeping.{Keeping, keeping_none, keeping-fits, keeping-more, keeping-done}
+use Rattle.columns.proofs.Keeping.{Keeping, keeping_none, keeping_fits, keeping_more, keeping_done}
 use Rattle.columns.proofs.moves.keep_cells.Statement.{statement}
 use Rattle.columns.proofs.moves.keep_cells.Tie as tie
 
@@ -18,13 +18,13 @@ loop-holds : tie.Need-loop-init invariant-loop decreases-loop
 loop-holds c = keeping_none c.before.requires
 
 cell-len-requires : tie.Need-cell-len-requires invariant-loop decreases-loop
-cell-len-requires c κs = omega (arith, keeping-fits c.before.before.before.before.requires c.before.before.loop.invariant c.before.loop-test.true, c.before.before.loop.invariant.long, c.before.before.before.before.requires.room)
+cell-len-requires c κs = omega (arith, keeping_fits c.before.before.before.before.requires c.before.before.loop.invariant c.before.loop-test.true, c.before.before.loop.invariant.long, c.before.before.before.before.requires.room)
 
 word-requires : tie.Need-word-requires invariant-loop decreases-loop
 word-requires c κs = omega (arith, c.before.before.before.before.loop.invariant.long, c.before.before.before.before.before.before.requires.room, c.before.before.before.before.loop.invariant.col)
 
 keep-cell-requires : tie.Need-keep-cell-requires invariant-loop decreases-loop
-keep-cell-requires c κs = (c.before.before.before.before.before.before.loop.invariant.behind, omega (arith, keeping-fits c.before.before.before.before.before.before.before.before.requires c.before.before.before.before.before.before.loop.invariant c.before.before.before.before.before.loop-test.true, c.before.before.before.before.before.before.loop.invariant.long, c.before.before.before.before.before.before.before.before.requires.room, c.before.before.before.cell-len.ensures))
+keep-cell-requires c κs = (c.before.before.before.before.before.before.loop.invariant.behind, omega (arith, keeping_fits c.before.before.before.before.before.before.before.before.requires c.before.before.before.before.before.before.loop.invariant c.before.before.before.before.before.loop-test.true, c.before.before.before.before.before.before.loop.invariant.long, c.before.before.before.before.before.before.before.before.requires.room, c.before.before.before.cell-len.ensures))
 
 flag-kept-requires : tie.Need-flag-kept-requires invariant-loop decreases-loop
 flag-kept-requires c κs = search rules
@@ -33,7 +33,7 @@ add-count : tie.Need-overflow-add-count invariant-loop decreases-loop
 add-count c = let o = one-most (eqb c.before.before.before.before.before.word.result 0) in omega (arith, c.flag-kept.ensures, c.before.before.before.before.before.before.before.before.before.before.loop.invariant.most)
 
 add_at : tie.Need-overflow-add-at invariant-loop decreases-loop
-add_at c = omega (arith, keeping-fits c.before.before.before.before.before.before.before.before.before.before.before.before.requires c.before.before.before.before.before.before.before.before.before.before.loop.invariant c.before.before.before.before.before.before.before.before.before.loop-test.true, c.before.before.before.before.before.before.before.before.before.before.loop.invariant.long, c.before.before.before.before.before.before.before.before.before.before.before.before.requires.room, c.before.before.before.before.before.before.before.cell-len.ensures)
+add_at c = omega (arith, keeping_fits c.before.before.before.before.before.before.before.before.before.before.before.before.requires c.before.before.before.before.before.before.before.before.before.before.loop.invariant c.before.before.before.before.before.before.before.before.before.loop-test.true, c.before.before.before.before.before.before.before.before.before.before.loop.invariant.long, c.before.before.before.before.before.before.before.before.before.before.before.before.requires.room, c.before.before.before.before.before.before.before.cell-len.ensures)
 
 next-col-requires : tie.Need-next-col-requires invariant-loop decreases-loop
 next-col-requires c κs = c.before.before.before.before.before.before.before.before.before.before.loop.invariant.col
@@ -45,13 +45,13 @@ loop-less : tie.Need-loop-smaller invariant-loop decreases-loop
 loop-less c = search rules
 
 loop-again : tie.Need-loop-preserved invariant-loop decreases-loop
-loop-again c = keeping-more c.before.before.before.before.before.before.before.before.before.before.before.before.before.requires c.before.before.before.before.before.before.before.before.before.before.before.loop.invariant c.before.before.before.before.before.before.before.before.before.before.loop-test.true c.before.before.before.before.before.before.before.before.cell-len.ensures c.before.before.before.before.before.before.word.ensures c.before.before.before.before.keep-cell.ensures.0 c.before.before.before.before.keep-cell.ensures.1 c.before.flag-kept.ensures c.next-col.ensures
+loop-again c = keeping_more c.before.before.before.before.before.before.before.before.before.before.before.before.before.requires c.before.before.before.before.before.before.before.before.before.before.before.loop.invariant c.before.before.before.before.before.before.before.before.before.before.loop-test.true c.before.before.before.before.before.before.before.before.cell-len.ensures c.before.before.before.before.before.before.word.ensures c.before.before.before.before.keep-cell.ensures.0 c.before.before.before.before.keep-cell.ensures.1 c.before.flag-kept.ensures c.next-col.ensures
 
 same_length : tie.Need-same-length invariant-loop decreases-loop
 same_length c = c.before.loop.invariant.long
 
 returns : tie.Need-returns invariant-loop decreases-loop
-returns c = keeping-done c.before.before.before.requires c.before.loop.invariant c.loop-test.false
+returns c = keeping_done c.before.before.before.requires c.before.loop.invariant c.loop-test.false
 
 pub keep-cells-spec : {M : Type 1} → statement M
 keep-cells-spec =

@@ -5,7 +5,7 @@ use native.Mathlib.Omega.{arith}
 use borrow.Author.Rules.{rules}
 use lib.ListN.{length}
 use Rattle.lexer.specs.declared.Listing.TheVariants.{Tokens}
-use Rattle.lexer.proofs.Passes.{Listing, listing_start, listing-placed, listing-on, listing-next, listing-end}
+use Rattle.lexer.proofs.Passes.{Listing, listing_start, listing_placed, listing_on, listing_next, listing_end}
 use Rattle.lexer.proofs.list.list_in.Statement.{statement}
 use Rattle.lexer.proofs.list.list_in.Tie as tie
 
@@ -25,21 +25,21 @@ read-token-requires c κs =
     let s = c.before.before.before.before.before.before in
     let a = s.args in
     let l = c.before.before.before.loop in
-    (s.requires.0, listing-placed a.stop a.text.now a.from a.table.now l.p l.table l.invariant s.requires.2 s.requires.3 c.before.if1.true, s.requires.1)
+    (s.requires.0, listing_placed a.stop a.text.now a.from a.table.now l.p l.table l.invariant s.requires.2 s.requires.3 c.before.if1.true, s.requires.1)
 
 loop-less : tie.Need-loop-smaller invariant-loop decreases-loop
 loop-less c =
     let s = c.before.before.before.before.before.before.before.before.before in
     let a = s.args in
     let l = c.before.before.before.before.before.before.loop in
-    omega (arith, listing-on a.stop a.text.now a.from a.table.now l.p l.table l.invariant s.requires.2 s.requires.3 c.before.before.before.before.if1.true c.before.before.read-token.result c.before.before.read-token.new.1.1.1.1.0 c.before.before.read-token.ensures.0)
+    omega (arith, listing_on a.stop a.text.now a.from a.table.now l.p l.table l.invariant s.requires.2 s.requires.3 c.before.before.before.before.if1.true c.before.before.read-token.result c.before.before.read-token.new.1.1.1.1.0 c.before.before.read-token.ensures.0)
 
 loop-again : tie.Need-loop-preserved invariant-loop decreases-loop
 loop-again c =
     let s = c.before.before.before.before.before.before.before.before.before in
     let a = s.args in
     let l = c.before.before.before.before.before.before.loop in
-    listing-next a.stop a.text.now a.from a.table.now l.p l.table l.invariant s.requires.2 s.requires.3 c.before.before.before.before.if1.true c.before.before.read-token.result c.before.before.read-token.new.1.1.1.1.0 c.before.before.read-token.ensures.0 c.before.before.read-token.ensures.1 c.before.before.read-token.auto.1.1.1.1.0
+    listing_next a.stop a.text.now a.from a.table.now l.p l.table l.invariant s.requires.2 s.requires.3 c.before.before.before.before.if1.true c.before.before.read-token.result c.before.before.read-token.new.1.1.1.1.0 c.before.before.read-token.ensures.0 c.before.before.read-token.ensures.1 c.before.before.read-token.auto.1.1.1.1.0
 
 sub-t12 : tie.Need-overflow-sub-t12 invariant-loop decreases-loop
 sub-t12 c = c.before.before.before.loop.invariant.few
@@ -56,7 +56,7 @@ returns c =
     let a = s.args in
     let l = c.before.before.before.before.loop in
     (λ i. (Tokens l.p.all (l.p.all - l.p.spaces) l.p.next (c.row_in.ensures i), l.table))
-    ∙ listing-end a.stop a.text.now a.from a.table.now l.p l.table l.invariant (omega arith)
+    ∙ listing_end a.stop a.text.now a.from a.table.now l.p l.table l.invariant (omega arith)
 
 pub list-in-spec : {M : Type 1} → statement M
 list-in-spec =

@@ -3,12 +3,12 @@ use mathlib.Core.Path.{refl}
 use borrow.Author.Rules.{rules}
 use Rattle.lexing.specs.Spellings.{rows}
 use Rattle.lexing.specs.Rules.{blank, digit, letter}
-use Rattle.lexer.specs.Constants.{flat, words_of, countBelow, is_byte, tokenOfByte, plainKind, firstsOf, flatBytes, rowWords, firstWords}
+use Rattle.lexer.specs.Constants.{flat, words_of, count_below, is_byte, token_of_byte, plain_kind, firsts_of, flat_bytes, row_words, first_words}
 use Rattle.lexer.proofs.prefix_map.get_longest_prefix.Statement.{statement}
 use Rattle.lexer.proofs.prefix_map.get_longest_prefix.Tie as tie
 
 longest-in-requires : tie.Need-longest-in-requires
-unfolding flat words_of countBelow is_byte tokenOfByte plainKind blank digit letter firstsOf flatBytes rowWords firstWords rows
+unfolding flat words_of count_below is_byte token_of_byte plain_kind blank digit letter firsts_of flat_bytes row_words first_words rows
 longest-in-requires c κs = record { bytes-are = refl; rows_are = refl; first-are = refl }
 
 returns : tie.Need-returns

@@ -5,13 +5,13 @@ use native.Mathlib.Omega.{arith}
 use lib.ListN.{length}
 use borrow.Author.Tests.{not-true, not-false}
 use borrow.Author.Rules.{rules}
-use Rattle.lexing.specs.Rules.{digit, runEnd}
+use Rattle.lexing.specs.Rules.{digit, run_end}
 use Rattle.lexing.proofs.Runs.{run_more, run-stop, run_past}
 use Rattle.lexer.proofs.rules.digits_end.Statement.{statement}
 use Rattle.lexer.proofs.rules.digits_end.Tie as tie
 
 abbrev invariant-loop : tie.invariant-loop
-invariant-loop text at i₀ i = runEnd digit text at ≡ runEnd digit text i
+invariant-loop text at i₀ i = run_end digit text at ≡ run_end digit text i
 
 abbrev decreases-loop : tie.decreases-loop
 decreases-loop text at i₀ i = length text - i

@@ -5,13 +5,13 @@ use Prim.Native.Nat.{◌-◌}
 use native.Mathlib.Omega.{arith}
 use lib.ListN.{length}
 use borrow.Author.Tests.{eq-eqb, ne_eqb}
-use Rattle.lexing.specs.Rules.{other, runEnd}
+use Rattle.lexing.specs.Rules.{other, run_end}
 use Rattle.lexing.proofs.Runs.{run_more, run-stop, run_past}
 use Rattle.lexer.proofs.rules.find_end.Statement.{statement}
 use Rattle.lexer.proofs.rules.find_end.Tie as tie
 
 abbrev invariant-loop : tie.invariant-loop
-invariant-loop text at b i₀ i = runEnd (other b) text at ≡ runEnd (other b) text i
+invariant-loop text at b i₀ i = run_end (other b) text at ≡ run_end (other b) text i
 
 abbrev decreases-loop : tie.decreases-loop
 decreases-loop text at b i₀ i = length text - i

@@ -1,7 +1,7 @@
 -- The two rows, and no other.
 use mathlib.Core.Path.{sym, ◌∙◌}
 use borrow.Author.Tests.{eq-eqb, ne_eqb}
-use Rattle.tokens.proofs.Cases.{by-eq}
+use Rattle.tokens.proofs.Cases.{by_eq}
 use Rattle.lexer.proofs.RuleCases.{command-text, command-mbox, command-other}
 use Rattle.lexer.proofs.rules.is_text_command.Statement.{statement}
 use Rattle.lexer.proofs.rules.is_text_command.Tie as tie
@@ -10,7 +10,7 @@ returns : tie.Need-returns
 returns c = sym (command-text _ c.if1.true)
 
 returns-2 : tie.Need-returns-2
-returns-2 c = by-eq c.before.args.row 272
+returns-2 c = by_eq c.before.args.row 272
     (λ e. eq-eqb c.before.args.row 272 e ∙ sym (command-mbox c.before.args.row e))
     (λ f. ne_eqb c.before.args.row 272 f ∙ sym (command-other c.before.args.row c.before.requires c.if1.false f))
 

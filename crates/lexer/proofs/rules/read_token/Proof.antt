@@ -5,13 +5,13 @@ use native.Mathlib.Omega.{arith}
 use lib.ListN.{get_or}
 use borrow.Author.Rules.{rules}
 use Rattle.tokens.specs.Lexeme.{lexeme}
-use Rattle.lexing.specs.Rules.{byte_at, readAt}
-use Rattle.lexer.specs.Coded.{fromNumber, fromRow}
+use Rattle.lexing.specs.Rules.{byte_at, read_at}
+use Rattle.lexer.specs.Coded.{from_number, from_row}
 use Rattle.lexer.proofs.Adding.{added-read}
 use Rattle.lexer.proofs.Lookup.{past_row}
 use Rattle.lexer.proofs.RuleCases.{read-row}
-use Rattle.lexer.proofs.ByteKinds.{ascii-byte, kind-blank, kind-other, kind-digit, kind-operator, read_plain, lone}
-use Rattle.lexer.proofs.FoundWords.{kind-of-byte, past-row-read, byte-row-read, blank-longer, placed-found, at_place, read_found}
+use Rattle.lexer.proofs.ByteKinds.{ascii-byte, kind-blank, kind-other, kind-digit, kind-operator, read_plain_lem, lone}
+use Rattle.lexer.proofs.FoundWords.{kind-of_byte, past-row_read, byte-row_read, blank-longer, placed-found, at_place, read_found}
 use Rattle.lexer.proofs.rules.read_token.Statement.{statement}
 use Rattle.lexer.proofs.rules.read_token.Tie as tie
 
@@ -47,7 +47,7 @@ strip-blanks-requires c κs =
     let text = s.args.text.now in
     let at = s.args.p.next in
     let w = c.before.before.before.before.byte_word.ensures in
-    let k = kind-of-byte (get_or text at 0) w c.before.before.before.kind-in.ensures in
+    let k = kind-of_byte (get_or text at 0) w c.before.before.before.kind-in.ensures in
     let e = c.with-found.ensures in
     (placed-found text s.args.p e s.requires.1, rw e (kind-blank (get_or text at 0) (sym k ∙ c.before.before.if1.true)))
 
@@ -60,11 +60,11 @@ returns c =
     let text = s.args.text.now in
     let at = s.args.p.next in
     let w = c.before.before.before.before.before.before.before.byte_word.ensures in
-    let k = kind-of-byte (get_or text at 0) w c.before.before.before.before.before.before.kind-in.ensures in
+    let k = kind-of_byte (get_or text at 0) w c.before.before.before.before.before.before.kind-in.ensures in
     let e = c.before.before.before.with-found.ensures in
     let b = kind-blank (get_or text at 0) (sym k ∙ c.before.before.before.before.before.if1.true) in
     let h = s.requires.1.inside in
-    read_found text s.args.p e c.before.before.strip-blanks.ensures (at_place text s.args.p e (readAt byte_at) refl) (byte-row-read text at h (blank-longer text at h b) w)
+    read_found text s.args.p e c.before.before.strip-blanks.ensures (at_place text s.args.p e (read_at byte_at) refl) (byte-row_read text at h (blank-longer text at h b) w)
 
 past-longer-requires : tie.Need-past-longer-requires
 past-longer-requires c κs =
@@ -107,13 +107,13 @@ returns-2 c =
     let text = s.args.text.now in
     let at = s.args.p.next in
     let w = c.before.before.before.before.before.before.before.before.before.before.byte_word.ensures in
-    let k = kind-of-byte (get_or text at 0) w c.before.before.before.before.before.before.before.before.before.kind-in.ensures in
+    let k = kind-of_byte (get_or text at 0) w c.before.before.before.before.before.before.before.before.before.kind-in.ensures in
     let past = c.before.before.before.before.before.before.before.past-longer.result in
     let v = past_row text at past c.before.before.before.before.before.before.before.past-longer.ensures c.before.before.before.before.before.before.if2.true in
     let e = c.before.before.before.with-found2.ensures in
     let b = kind-other (get_or text at 0) (λ z. c.before.before.before.before.before.before.before.before.if1.false (k ∙ z)) in
-    read_found text s.args.p e c.before.before.strip-spelling.ensures (at_place text s.args.p e (fromRow (past - 1)) (read-row text at b (past - 1) v.0 v.1))
-    (c.before.before.before.before.word_of.ensures ∙ past-row-read text at past c.before.before.before.before.before.before.before.past-longer.ensures c.before.before.before.before.before.before.if2.true)
+    read_found text s.args.p e c.before.before.strip-spelling.ensures (at_place text s.args.p e (from_row (past - 1)) (read-row text at b (past - 1) v.0 v.1))
+    (c.before.before.before.before.word_of.ensures ∙ past-row_read text at past c.before.before.before.before.before.before.before.past-longer.ensures c.before.before.before.before.before.before.if2.true)
 
 cast-if3 : tie.Need-overflow-cast-if3
 cast-if3 c = search rules
@@ -127,7 +127,7 @@ strip-number-requires c κs =
     let text = s.args.text.now in
     let at = s.args.p.next in
     let w = c.before.before.before.before.before.before.before.byte_word.ensures in
-    let k = kind-of-byte (get_or text at 0) w c.before.before.before.before.before.before.kind-in.ensures in
+    let k = kind-of_byte (get_or text at 0) w c.before.before.before.before.before.before.kind-in.ensures in
     let e = c.with-found3.ensures in
     (placed-found text s.args.p e s.requires.1, rw e (kind-operator (get_or text at 0) (sym k ∙ c.before.before.if3.true)).1)
 
@@ -140,15 +140,15 @@ returns-3 c =
     let text = s.args.text.now in
     let at = s.args.p.next in
     let w = c.before.before.before.before.before.before.before.before.before.before.byte_word.ensures in
-    let k = kind-of-byte (get_or text at 0) w c.before.before.before.before.before.before.before.before.before.kind-in.ensures in
+    let k = kind-of_byte (get_or text at 0) w c.before.before.before.before.before.before.before.before.before.kind-in.ensures in
     let past = c.before.before.before.before.before.before.before.past-longer.result in
     let zero : past ≡ 0 = omega arith in
     let z = sym c.before.before.before.before.before.before.before.past-longer.ensures ∙ zero in
     let e = c.before.before.before.with-found3.ensures in
     let h = s.requires.1.inside in
     let b = (kind-operator (get_or text at 0) (sym k ∙ c.before.before.before.before.before.if3.true)).0 in
-    read_found text s.args.p e c.before.before.strip-number.ensures (at_place text s.args.p e fromNumber (read_plain text at h z (λ y. c.before.before.before.before.before.before.before.before.if1.false (k ∙ y)) b))
-    (byte-row-read text at h z w)
+    read_found text s.args.p e c.before.before.strip-number.ensures (at_place text s.args.p e from_number (read_plain_lem text at h z (λ y. c.before.before.before.before.before.before.before.before.if1.false (k ∙ y)) b))
+    (byte-row_read text at h z w)
 
 cast-if4 : tie.Need-overflow-cast-if4
 cast-if4 c = search rules
@@ -162,7 +162,7 @@ strip-digits-requires c κs =
     let text = s.args.text.now in
     let at = s.args.p.next in
     let w = c.before.before.before.before.before.before.before.before.byte_word.ensures in
-    let k = kind-of-byte (get_or text at 0) w c.before.before.before.before.before.before.before.kind-in.ensures in
+    let k = kind-of_byte (get_or text at 0) w c.before.before.before.before.before.before.before.kind-in.ensures in
     let e = c.with-found4.ensures in
     (placed-found text s.args.p e s.requires.1, rw e (kind-digit (get_or text at 0) (sym k ∙ c.before.before.if4.true)).1)
 
@@ -175,15 +175,15 @@ returns-4 c =
     let text = s.args.text.now in
     let at = s.args.p.next in
     let w = c.before.before.before.before.before.before.before.before.before.before.before.byte_word.ensures in
-    let k = kind-of-byte (get_or text at 0) w c.before.before.before.before.before.before.before.before.before.before.kind-in.ensures in
+    let k = kind-of_byte (get_or text at 0) w c.before.before.before.before.before.before.before.before.before.before.kind-in.ensures in
     let past = c.before.before.before.before.before.before.before.before.past-longer.result in
     let zero : past ≡ 0 = omega arith in
     let z = sym c.before.before.before.before.before.before.before.before.past-longer.ensures ∙ zero in
     let e = c.before.before.before.with-found4.ensures in
     let h = s.requires.1.inside in
     let b = (kind-digit (get_or text at 0) (sym k ∙ c.before.before.before.before.before.if4.true)).0 in
-    read_found text s.args.p e c.before.before.strip-digits.ensures (at_place text s.args.p e fromNumber (read_plain text at h z (λ y. c.before.before.before.before.before.before.before.before.before.if1.false (k ∙ y)) b))
-    (byte-row-read text at h z w)
+    read_found text s.args.p e c.before.before.strip-digits.ensures (at_place text s.args.p e from_number (read_plain_lem text at h z (λ y. c.before.before.before.before.before.before.before.before.before.if1.false (k ∙ y)) b))
+    (byte-row_read text at h z w)
 
 with-found-requires-5 : tie.Need-with-found-requires-5
 with-found-requires-5 c κs = search rules
@@ -211,16 +211,16 @@ returns-5 c =
     let text = s.args.text.now in
     let at = s.args.p.next in
     let w = c.before.before.before.before.before.before.before.before.before.before.before.byte_word.ensures in
-    let k = kind-of-byte (get_or text at 0) w c.before.before.before.before.before.before.before.before.before.before.kind-in.ensures in
+    let k = kind-of_byte (get_or text at 0) w c.before.before.before.before.before.before.before.before.before.before.kind-in.ensures in
     let past = c.before.before.before.before.before.before.before.before.past-longer.result in
     let zero : past ≡ 0 = omega arith in
     let z = sym c.before.before.before.before.before.before.before.before.past-longer.ensures ∙ zero in
     let e = c.before.before.before.with-found5.ensures in
     let h = s.requires.1.inside in
     let v = lone text at h z (λ y. c.before.before.before.before.before.before.before.before.before.if1.false (k ∙ y)) (λ y. c.before.before.before.before.before.if4.false (k ∙ y)) (λ y. c.before.before.before.before.before.before.if3.false (k ∙ y)) in
-    let a = added-read (lexeme at 1 v.token) v.no-space v.read_is c.before.before.put_other.ensures.0
+    let a = added-read (lexeme at 1 v.token) v.no_space v.read_is c.before.before.put_other.ensures.0
     (rw (k ∙ sym v.kind-is) at c.before.before.put_other.ensures.1) in
-    read_found text s.args.p e a refl (byte-row-read text at h z w)
+    read_found text s.args.p e a refl (byte-row_read text at h z w)
 
 pub read-token-spec : {M : Type 1} → statement M
 read-token-spec =

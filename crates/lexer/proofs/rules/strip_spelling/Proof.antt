@@ -6,7 +6,7 @@ use borrow.Author.Rules.{rules}
 use Rattle.tokens.specs.Lexeme.{lexeme}
 use Rattle.lexer.specs.Constants.{row_of, kind_of, no_row}
 use Rattle.lexing.specs.Rules.{alone}
-use Rattle.lexing.proofs.Rows.{well-formed}
+use Rattle.lexing.proofs.Rows.{well_formed}
 use Rattle.lexer.proofs.RuleCases.{row_plain, row-command, command-four}
 use Rattle.lexer.proofs.Adding.{added-read, added-as}
 use Rattle.lexer.proofs.rules.strip_spelling.Statement.{statement}
@@ -41,7 +41,7 @@ same-length-2 c = search rules
 
 returns-2 : tie.Need-returns-2
 unfolding row_of kind_of
-returns-2 c = added-read (lexeme c.before.before.before.before.before.before.before.before.before.before.args.p.next c.before.before.before.before.before.len_of_lem.result (row_of c.before.before.before.before.before.before.before.before.before.before.args.row).token) (well-formed no_row c.before.before.before.before.before.before.before.before.before.before.args.row c.before.before.before.before.before.before.before.before.before.before.requires.1).no-space (ap (λ (n : ℕ). alone c.before.before.before.before.before.before.before.before.before.before.args.p.next n (row_of c.before.before.before.before.before.before.before.before.before.before.args.row).token) c.before.before.before.before.before.len_of_lem.ensures ∙ row_plain c.before.before.before.before.before.before.before.before.before.before.args.row c.before.before.before.before.before.before.before.before.before.before.args.text.now c.before.before.before.before.before.before.before.before.before.before.args.p.next (sym c.before.before.before.before.before.before.before.is-text-command.ensures ∙ c.before.before.before.before.before.before.if1.false)) c.before.before.put_other.ensures.0 (rw c.before.before.before.kind-of.ensures at c.before.before.put_other.ensures.1)
+returns-2 c = added-read (lexeme c.before.before.before.before.before.before.before.before.before.before.args.p.next c.before.before.before.before.before.len_of_lem.result (row_of c.before.before.before.before.before.before.before.before.before.before.args.row).token) (well_formed no_row c.before.before.before.before.before.before.before.before.before.before.args.row c.before.before.before.before.before.before.before.before.before.before.requires.1).no_space (ap (λ (n : ℕ). alone c.before.before.before.before.before.before.before.before.before.before.args.p.next n (row_of c.before.before.before.before.before.before.before.before.before.before.args.row).token) c.before.before.before.before.before.len_of_lem.ensures ∙ row_plain c.before.before.before.before.before.before.before.before.before.before.args.row c.before.before.before.before.before.before.before.before.before.before.args.text.now c.before.before.before.before.before.before.before.before.before.before.args.p.next (sym c.before.before.before.before.before.before.before.is-text-command.ensures ∙ c.before.before.before.before.before.before.if1.false)) c.before.before.put_other.ensures.0 (rw c.before.before.before.kind-of.ensures at c.before.before.put_other.ensures.1)
 
 pub strip-spelling-spec : {M : Type 1} → statement M
 strip-spelling-spec =

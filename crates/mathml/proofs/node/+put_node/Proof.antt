@@ -4,7 +4,7 @@ use mathlib.Core.Path.{◌∙◌}
 use mathlib.Core.Logic.{⊎_elim}
 use Prim.Native.Nat.{◌-◌}
 use lib.ListN.{length}
-use Rattle.mathml.specs.Walks.{countAt}
+use Rattle.mathml.specs.Walks.{count_at}
 use Rattle.mathml.proofs.Writing.{Midway, begin, more, closed, leaf-put, child-as}
 use Prim.Native.Nat.{ℕ, ◌<◌}
 use borrow.Fn.Kinds.{In}
@@ -35,7 +35,7 @@ put-node-Inv-all words text out₀ at items place m next₀ end₀ left₀ i₀ 
     Midway words text out₀ at items place m out next end left i
 
 abbrev put-node-μ-all : put-node-lts.decreases-all
-put-node-μ-all words text out₀ at items place m next₀ end₀ left₀ i₀ out next end left i = countAt words at items - i
+put-node-μ-all words text out₀ at items place m next₀ end₀ left₀ i₀ out next end left i = count_at words at items - i
 
 put-node-all-holds : (t : ℕ) → put-node-lts.Need-all-init (put-node-uses t) (put-node-at t) put-node.Post put-node-Inv-all put-node-μ-all
 put-node-all-holds t c = begin _ _ _ _ _ _ _ c.before.before.before.requires.1 (omega arith) (omega arith)

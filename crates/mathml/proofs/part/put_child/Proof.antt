@@ -1,7 +1,7 @@
 -- What stands before a child.
 use mathlib.Core.Path.{refl, ap, ◌∙◌}
 use Prim.Native.Nat.{ℕ}
-use Rattle.mathml_rules.specs.Parts.{cellsLeft}
+use Rattle.mathml_rules.specs.Parts.{cells_left}
 use borrow.Author.Rules.{rules}
 use Rattle.mathml.proofs.part.put_child.Statement.{statement}
 use Rattle.mathml.proofs.part.put_child.Tie as tie
@@ -25,7 +25,7 @@ same_length : tie.Need-same-length
 same_length c = search rules
 
 returns : tie.Need-returns
-returns c = let a = c.before.before.before.before.before.before.before.before.before.before.before.args in record { more = refl; place = c.before.before.before.inner-place.ensures; mode = c.before.before.mode-below.ensures; row = c.cells_left.ensures ∙ ap (λ (z : ℕ). cellsLeft z a.left) c.before.columns.ensures; put = c.before.before.before.before.before.before.put-before.ensures }
+returns c = let a = c.before.before.before.before.before.before.before.before.before.before.before.args in record { more = refl; place = c.before.before.before.inner-place.ensures; mode = c.before.before.mode-below.ensures; row = c.cells_left.ensures ∙ ap (λ (z : ℕ). cells_left z a.left) c.before.columns.ensures; put = c.before.before.before.before.before.before.put-before.ensures }
 
 pub put-child-spec : {M : Type 1} → statement M
 put-child-spec = tie.close (tie.spec put-before-requires inner-place-requires mode-below-requires columns-requires cells-left-requires same_length returns)

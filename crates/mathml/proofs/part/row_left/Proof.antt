@@ -1,6 +1,6 @@
 -- The cells left in a row.
 use mathlib.Core.Path.{◌∙◌}
-use Rattle.mathml.proofs.Placing.{row-begins, row-goes-on}
+use Rattle.mathml.proofs.Placing.{row-begins, row-goes_on}
 use borrow.Author.Rules.{rules}
 use Rattle.mathml.proofs.part.row_left.Statement.{statement}
 use Rattle.mathml.proofs.part.row_left.Tie as tie
@@ -12,7 +12,7 @@ returns : tie.Need-returns
 returns c = c.columns.ensures ∙ row-begins _ _ _ c.before.if1.true
 
 returns-2 : tie.Need-returns-2
-returns-2 c = row-goes-on _ _ _ c.if1.false
+returns-2 c = row-goes_on _ _ _ c.if1.false
 
 pub row-left-spec : {M : Type 1} → statement M
 row-left-spec = tie.close (tie.spec columns-requires returns returns-2)

@@ -3,7 +3,7 @@ use Prim.Native.Nat.{ℕ}
 use mathlib.Core.Path.{refl}
 use mathlib.Core.List.{List, [], ◌∷◌}
 use Rattle.mathml_rules.specs.Mathml.{has}
-use Rattle.mathml_rules.specs.Refusal.{refusedBinaries}
+use Rattle.mathml_rules.specs.Refusal.{refused_binaries}
 use Rattle.mathml_forms.specs.Keys.{key, ascii, key_of}
 use Rattle.mathml_commands.proofs.Keyed.{one-of, none_of}
 use borrow.Author.Rules.{rules}
@@ -18,12 +18,12 @@ key-of-requires : tie.Need-key-of-requires
 key-of-requires c κs = search rules
 
 returns : tie.Need-returns
-unfolding refusedBinaries has key_of key ascii
-returns c = one-of refusedBinaries keys c.before.before.before.args.s.now _ c.before.key-of.ensures refl refl c.match.keys1
+unfolding refused_binaries has key_of key ascii
+returns c = one-of refused_binaries keys c.before.before.before.args.s.now _ c.before.key-of.ensures refl refl c.match.keys1
 
 returns-2 : tie.Need-returns-2
-unfolding refusedBinaries has key_of key ascii
-returns-2 c = none_of refusedBinaries keys c.before.before.before.args.s.now _ c.before.key-of.ensures refl refl c.match.rest.1
+unfolding refused_binaries has key_of key ascii
+returns-2 c = none_of refused_binaries keys c.before.before.before.args.s.now _ c.before.key-of.ensures refl refl c.match.rest.1
 
 pub is-refused-binary-spec : {M : Type 1} → statement M
 is-refused-binary-spec = tie.close (tie.spec key-of-requires returns returns-2)

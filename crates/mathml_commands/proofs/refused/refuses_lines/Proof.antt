@@ -6,7 +6,7 @@ use mathlib.Core.Path.{sym, ◌∙◌}
 use mathlib.Core.Logic.{⊎_elim}
 use lib.ListN.{length}
 use lib.Seq.{length-take-le}
-use Rattle.mathml_commands.proofs.Boundaries.{Passed, first, higher, lower, at_zero, at-cols, at_both, all-passed}
+use Rattle.mathml_commands.proofs.Boundaries.{Passed, first, higher, lower, at_zero, at_cols, at_both, all-passed}
 use borrow.Author.Rules.{rules}
 use Rattle.mathml_commands.proofs.refused.refuses_lines.Statement.{statement}
 use Rattle.mathml_commands.proofs.refused.refuses_lines.Tie as tie
@@ -39,7 +39,7 @@ returns-2 : tie.Need-returns-2 invariant-loop decreases-loop
 returns-2 c =
     let a = c.before.before.before.before.before.before.args in
     let l = c.before.before.before.before.loop in
-    at-cols a.cols a.lines.now l.i c.before.before.before.loop-test.true c.if2.true
+    at_cols a.cols a.lines.now l.i c.before.before.before.loop-test.true c.if2.true
 
 slice-aggregate-has-line : tie.Need-slice-aggregate-has-line invariant-loop decreases-loop
 slice-aggregate-has-line c = sym (length-take-le _ _ c.before.before.before.before.before.before.loop.invariant.inside)

@@ -6,7 +6,7 @@ use Rattle.mathml_rules.specs.Utf8.{utf8, encoded}
 use Rattle.mathml_rules.specs.Pieces.{written}
 use Rattle.mathml_rules.specs.Commands.{mark}
 use Rattle.mathml_commands.specs.declared.unary.Command.{Command}
-use Rattle.mathml_commands.specs.Spelled.{leftMark}
+use Rattle.mathml_commands.specs.Spelled.{left_mark}
 use Rattle.mathml_commands.specs.declared.unary.Command.TheVariants as variant
 use Rattle.mathml_commands.specs.contracts.unary.Command as command
 use Rattle.mathml_commands.proofs.Keyed.{in_one}
@@ -25,8 +25,8 @@ abbrev tag_of : Command → ℕ
 tag_of c = declared.tag_of command.the_type c
 
 -- the commands without such a mark
-none_left : (c : Command) → has (tag_of c) (0 ∷ 1 ∷ 2 ∷ 7 ∷ 8 ∷ 9 ∷ 10 ∷ 11 ∷ 12 ∷ 13 ∷ 14 ∷ 15 ∷ 16 ∷ []) ≡ true → [] ≡ leftMark c
-unfolding has leftMark
+none_left : (c : Command) → has (tag_of c) (0 ∷ 1 ∷ 2 ∷ 7 ∷ 8 ∷ 9 ∷ 10 ∷ 11 ∷ 12 ∷ 13 ∷ 14 ∷ 15 ∷ 16 ∷ []) ≡ true → [] ≡ left_mark c
+unfolding has left_mark
 none_left variant.Unknown e = refl
 none_left variant.Sqrt e = refl
 none_left variant.Cancel e = refl
@@ -45,7 +45,7 @@ none_left variant.Underline e = refl
 none_left variant.Ubrace e = refl
 none_left variant.Obrace e = refl
 
-no-left : (c : Command) → OneOf (0 ∷ 1 ∷ 2 ∷ 7 ∷ 8 ∷ 9 ∷ 10 ∷ 11 ∷ 12 ∷ 13 ∷ 14 ∷ 15 ∷ 16 ∷ []) (tag_of c) → [] ≡ written (mark (leftMark c))
+no-left : (c : Command) → OneOf (0 ∷ 1 ∷ 2 ∷ 7 ∷ 8 ∷ 9 ∷ 10 ∷ 11 ∷ 12 ∷ 13 ∷ 14 ∷ 15 ∷ 16 ∷ []) (tag_of c) → [] ≡ written (mark (left_mark c))
 unfolding written mark has
 no-left c h = rw (sym (none_left c (in_one (0 ∷ 1 ∷ 2 ∷ 7 ∷ 8 ∷ 9 ∷ 10 ∷ 11 ∷ 12 ∷ 13 ∷ 14 ∷ 15 ∷ 16 ∷ []) (0 ∷ 1 ∷ 2 ∷ 7 ∷ 8 ∷ 9 ∷ 10 ∷ 11 ∷ 12 ∷ 13 ∷ 14 ∷ 15 ∷ 16 ∷ []) (tag_of c) refl h)))
 
@@ -89,29 +89,29 @@ same_length : tie.Need-same-length
 same_length c = search rules
 
 returns : tie.Need-returns
-unfolding mark leftMark utf8 encoded
-returns c = put_as (ap (λ (d : Command). written (mark (leftMark d))) (sym c.before.before.before.before.before.enum_told.given.1)) c.before.before.put-leaf.ensures
+unfolding mark left_mark utf8 encoded
+returns c = put_as (ap (λ (d : Command). written (mark (left_mark d))) (sym c.before.before.before.before.before.enum_told.given.1)) c.before.before.put-leaf.ensures
 
 same-length-2 : tie.Need-same-length-2
 same-length-2 c = search rules
 
 returns-2 : tie.Need-returns-2
-unfolding mark leftMark utf8 encoded
-returns-2 c = put_as (ap (λ (d : Command). written (mark (leftMark d))) (sym c.before.before.before.before.before.enum-told2.given.1)) c.before.before.put-leaf2.ensures
+unfolding mark left_mark utf8 encoded
+returns-2 c = put_as (ap (λ (d : Command). written (mark (left_mark d))) (sym c.before.before.before.before.before.enum-told2.given.1)) c.before.before.put-leaf2.ensures
 
 same-length-3 : tie.Need-same-length-3
 same-length-3 c = search rules
 
 returns-3 : tie.Need-returns-3
-unfolding mark leftMark utf8 encoded
-returns-3 c = put_as (ap (λ (d : Command). written (mark (leftMark d))) (sym c.before.before.before.before.before.enum-told3.given.1)) c.before.before.put-leaf3.ensures
+unfolding mark left_mark utf8 encoded
+returns-3 c = put_as (ap (λ (d : Command). written (mark (left_mark d))) (sym c.before.before.before.before.before.enum-told3.given.1)) c.before.before.put-leaf3.ensures
 
 same-length-4 : tie.Need-same-length-4
 same-length-4 c = search rules
 
 returns-4 : tie.Need-returns-4
-unfolding mark leftMark utf8 encoded
-returns-4 c = put_as (ap (λ (d : Command). written (mark (leftMark d))) (sym c.before.before.before.before.before.enum-told4.given.1)) c.before.before.put-leaf4.ensures
+unfolding mark left_mark utf8 encoded
+returns-4 c = put_as (ap (λ (d : Command). written (mark (left_mark d))) (sym c.before.before.before.before.before.enum-told4.given.1)) c.before.before.put-leaf4.ensures
 
 returns-5 : tie.Need-returns-5
 returns-5 c = put_as (no-left c.before.before.args.c c.match.keys5) (none _ _ (omega arith) (omega arith))

@@ -6,7 +6,7 @@ use Rattle.mathml_rules.specs.Utf8.{utf8, encoded}
 use Rattle.mathml_rules.specs.Pieces.{written}
 use Rattle.mathml_rules.specs.Commands.{mark}
 use Rattle.mathml_commands.specs.declared.unary.Command.{Command}
-use Rattle.mathml_commands.specs.Spelled.{rightMark}
+use Rattle.mathml_commands.specs.Spelled.{right_mark}
 use Rattle.mathml_commands.specs.declared.unary.Command.TheVariants as variant
 use Rattle.mathml_commands.specs.contracts.unary.Command as command
 use Rattle.mathml_commands.proofs.Keyed.{in_one}
@@ -25,8 +25,8 @@ abbrev tag_of : Command → ℕ
 tag_of c = declared.tag_of command.the_type c
 
 -- the commands without such a mark
-none_right : (c : Command) → has (tag_of c) (0 ∷ 1 ∷ 2 ∷ []) ≡ true → [] ≡ rightMark c
-unfolding has rightMark
+none_right : (c : Command) → has (tag_of c) (0 ∷ 1 ∷ 2 ∷ []) ≡ true → [] ≡ right_mark c
+unfolding has right_mark
 none_right variant.Unknown e = refl
 none_right variant.Sqrt e = refl
 none_right variant.Cancel e = refl
@@ -45,7 +45,7 @@ none_right variant.Underline e = clash false e refl
 none_right variant.Ubrace e = clash false e refl
 none_right variant.Obrace e = clash false e refl
 
-no-right : (c : Command) → OneOf (0 ∷ 1 ∷ 2 ∷ []) (tag_of c) → [] ≡ written (mark (rightMark c))
+no-right : (c : Command) → OneOf (0 ∷ 1 ∷ 2 ∷ []) (tag_of c) → [] ≡ written (mark (right_mark c))
 unfolding written mark has
 no-right c h = rw (sym (none_right c (in_one (0 ∷ 1 ∷ 2 ∷ []) (0 ∷ 1 ∷ 2 ∷ []) (tag_of c) refl h)))
 
@@ -179,99 +179,99 @@ same_length : tie.Need-same-length
 same_length c = search rules
 
 returns : tie.Need-returns
-unfolding mark rightMark utf8 encoded
-returns c = put_as (ap (λ (d : Command). written (mark (rightMark d))) (sym c.before.before.before.before.before.enum_told.given.1)) c.before.before.put-leaf.ensures
+unfolding mark right_mark utf8 encoded
+returns c = put_as (ap (λ (d : Command). written (mark (right_mark d))) (sym c.before.before.before.before.before.enum_told.given.1)) c.before.before.put-leaf.ensures
 
 same-length-2 : tie.Need-same-length-2
 same-length-2 c = search rules
 
 returns-2 : tie.Need-returns-2
-unfolding mark rightMark utf8 encoded
-returns-2 c = put_as (ap (λ (d : Command). written (mark (rightMark d))) (sym c.before.before.before.before.before.enum-told2.given.1)) c.before.before.put-leaf2.ensures
+unfolding mark right_mark utf8 encoded
+returns-2 c = put_as (ap (λ (d : Command). written (mark (right_mark d))) (sym c.before.before.before.before.before.enum-told2.given.1)) c.before.before.put-leaf2.ensures
 
 same-length-3 : tie.Need-same-length-3
 same-length-3 c = search rules
 
 returns-3 : tie.Need-returns-3
-unfolding mark rightMark utf8 encoded
-returns-3 c = put_as (ap (λ (d : Command). written (mark (rightMark d))) (sym c.before.before.before.before.before.enum-told3.given.1)) c.before.before.put-leaf3.ensures
+unfolding mark right_mark utf8 encoded
+returns-3 c = put_as (ap (λ (d : Command). written (mark (right_mark d))) (sym c.before.before.before.before.before.enum-told3.given.1)) c.before.before.put-leaf3.ensures
 
 same-length-4 : tie.Need-same-length-4
 same-length-4 c = search rules
 
 returns-4 : tie.Need-returns-4
-unfolding mark rightMark utf8 encoded
-returns-4 c = put_as (ap (λ (d : Command). written (mark (rightMark d))) (sym c.before.before.before.before.before.enum-told4.given.1)) c.before.before.put-leaf4.ensures
+unfolding mark right_mark utf8 encoded
+returns-4 c = put_as (ap (λ (d : Command). written (mark (right_mark d))) (sym c.before.before.before.before.before.enum-told4.given.1)) c.before.before.put-leaf4.ensures
 
 same-length-5 : tie.Need-same-length-5
 same-length-5 c = search rules
 
 returns-5 : tie.Need-returns-5
-unfolding mark rightMark utf8 encoded
-returns-5 c = put_as (ap (λ (d : Command). written (mark (rightMark d))) (sym c.before.before.before.before.before.enum-told5.given.1)) c.before.before.put-leaf5.ensures
+unfolding mark right_mark utf8 encoded
+returns-5 c = put_as (ap (λ (d : Command). written (mark (right_mark d))) (sym c.before.before.before.before.before.enum-told5.given.1)) c.before.before.put-leaf5.ensures
 
 same-length-6 : tie.Need-same-length-6
 same-length-6 c = search rules
 
 returns-6 : tie.Need-returns-6
-unfolding mark rightMark utf8 encoded
-returns-6 c = put_as (ap (λ (d : Command). written (mark (rightMark d))) (sym c.before.before.before.before.before.enum-told6.given.1)) c.before.before.put-leaf6.ensures
+unfolding mark right_mark utf8 encoded
+returns-6 c = put_as (ap (λ (d : Command). written (mark (right_mark d))) (sym c.before.before.before.before.before.enum-told6.given.1)) c.before.before.put-leaf6.ensures
 
 same-length-7 : tie.Need-same-length-7
 same-length-7 c = search rules
 
 returns-7 : tie.Need-returns-7
-unfolding mark rightMark utf8 encoded
-returns-7 c = put_as (ap (λ (d : Command). written (mark (rightMark d))) (sym c.before.before.before.before.before.enum-told7.given.1)) c.before.before.put-leaf7.ensures
+unfolding mark right_mark utf8 encoded
+returns-7 c = put_as (ap (λ (d : Command). written (mark (right_mark d))) (sym c.before.before.before.before.before.enum-told7.given.1)) c.before.before.put-leaf7.ensures
 
 same-length-8 : tie.Need-same-length-8
 same-length-8 c = search rules
 
 returns-8 : tie.Need-returns-8
-unfolding mark rightMark utf8 encoded
-returns-8 c = put_as (ap (λ (d : Command). written (mark (rightMark d))) (sym c.before.before.before.before.before.enum-told8.given.1)) c.before.before.put-leaf8.ensures
+unfolding mark right_mark utf8 encoded
+returns-8 c = put_as (ap (λ (d : Command). written (mark (right_mark d))) (sym c.before.before.before.before.before.enum-told8.given.1)) c.before.before.put-leaf8.ensures
 
 same-length-9 : tie.Need-same-length-9
 same-length-9 c = search rules
 
 returns-9 : tie.Need-returns-9
-unfolding mark rightMark utf8 encoded
-returns-9 c = put_as (ap (λ (d : Command). written (mark (rightMark d))) (sym c.before.before.before.before.before.enum-told9.given.1)) c.before.before.put-leaf9.ensures
+unfolding mark right_mark utf8 encoded
+returns-9 c = put_as (ap (λ (d : Command). written (mark (right_mark d))) (sym c.before.before.before.before.before.enum-told9.given.1)) c.before.before.put-leaf9.ensures
 
 same-length-10 : tie.Need-same-length-10
 same-length-10 c = search rules
 
 returns-10 : tie.Need-returns-10
-unfolding mark rightMark utf8 encoded
-returns-10 c = put_as (ap (λ (d : Command). written (mark (rightMark d))) (sym c.before.before.before.before.before.enum-told10.given.1)) c.before.before.put-leaf10.ensures
+unfolding mark right_mark utf8 encoded
+returns-10 c = put_as (ap (λ (d : Command). written (mark (right_mark d))) (sym c.before.before.before.before.before.enum-told10.given.1)) c.before.before.put-leaf10.ensures
 
 same-length-11 : tie.Need-same-length-11
 same-length-11 c = search rules
 
 returns-11 : tie.Need-returns-11
-unfolding mark rightMark utf8 encoded
-returns-11 c = put_as (ap (λ (d : Command). written (mark (rightMark d))) (sym c.before.before.before.before.before.enum-told11.given.1)) c.before.before.put-leaf11.ensures
+unfolding mark right_mark utf8 encoded
+returns-11 c = put_as (ap (λ (d : Command). written (mark (right_mark d))) (sym c.before.before.before.before.before.enum-told11.given.1)) c.before.before.put-leaf11.ensures
 
 same-length-12 : tie.Need-same-length-12
 same-length-12 c = search rules
 
 returns-12 : tie.Need-returns-12
-unfolding mark rightMark utf8 encoded
-returns-12 c = put_as (ap (λ (d : Command). written (mark (rightMark d))) (sym c.before.before.before.before.before.enum-told12.given.1)) c.before.before.put-leaf12.ensures
+unfolding mark right_mark utf8 encoded
+returns-12 c = put_as (ap (λ (d : Command). written (mark (right_mark d))) (sym c.before.before.before.before.before.enum-told12.given.1)) c.before.before.put-leaf12.ensures
 
 same-length-13 : tie.Need-same-length-13
 same-length-13 c = search rules
 
 returns-13 : tie.Need-returns-13
-unfolding mark rightMark utf8 encoded
-returns-13 c = put_as (ap (λ (d : Command). written (mark (rightMark d))) (sym c.before.before.before.before.before.enum-told13.given.1)) c.before.before.put-leaf13.ensures
+unfolding mark right_mark utf8 encoded
+returns-13 c = put_as (ap (λ (d : Command). written (mark (right_mark d))) (sym c.before.before.before.before.before.enum-told13.given.1)) c.before.before.put-leaf13.ensures
 
 same-length-14 : tie.Need-same-length-14
 same-length-14 c = search rules
 
 returns-14 : tie.Need-returns-14
-unfolding mark rightMark utf8 encoded
-returns-14 c = put_as (ap (λ (d : Command). written (mark (rightMark d))) (sym c.before.before.before.before.before.enum-told14.given.1)) c.before.before.put-leaf14.ensures
+unfolding mark right_mark utf8 encoded
+returns-14 c = put_as (ap (λ (d : Command). written (mark (right_mark d))) (sym c.before.before.before.before.before.enum-told14.given.1)) c.before.before.put-leaf14.ensures
 
 returns-15 : tie.Need-returns-15
 returns-15 c = put_as (no-right c.before.before.args.c c.match.keys15) (none _ _ (omega arith) (omega arith))

@@ -2,7 +2,7 @@
 use Prim.Native.Nat.{◌-◌}
 use native.Mathlib.Omega.{arith}
 use borrow.Author.Rules.{rules}
-use Rattle.mathml_forms.proofs.Keys.{Keyed, key_fits, keyed-first, keyed-next, keyed-all, too_long, too-high}
+use Rattle.mathml_forms.proofs.Keys.{Keyed, key_fits, keyed-first, keyed-next, keyed-all, too_long, too_high}
 use Rattle.mathml_forms.proofs.key.key_of.Statement.{statement}
 use Rattle.mathml_forms.proofs.key.key_of.Tie as tie
 
@@ -28,7 +28,7 @@ cast-b : tie.Need-overflow-cast-b invariant-loop decreases-loop
 cast-b c = omega (arith, c.shared-slice-known.given (c.before.before.loop.i - 1))
 
 returns-2 : tie.Need-returns-2 invariant-loop decreases-loop
-returns-2 c = too-high _ _ (omega (arith, c.before.before.before.loop.invariant.inside)) c.if2.true
+returns-2 c = too_high _ _ (omega (arith, c.before.before.before.loop.invariant.inside)) c.if2.true
 
 mul-key : tie.Need-overflow-mul-key invariant-loop decreases-loop
 mul-key c = omega (arith, key_fits c.before.before.before.loop.invariant c.before.before.loop-test.true)

@@ -1,7 +1,7 @@
 -- No form: the text itself; else what the word holds.
 use Rattle.writer.proofs.Puts.{put_as}
 use borrow.Author.Rules.{rules}
-use Rattle.mathml_forms.proofs.Unpacks.{by-none, by_form}
+use Rattle.mathml_forms.proofs.Unpacks.{by_none, by_form}
 use Rattle.mathml_forms.proofs.shown.put_by_word.Statement.{statement}
 use Rattle.mathml_forms.proofs.shown.put_by_word.Tie as tie
 
@@ -15,7 +15,7 @@ same_length : tie.Need-same-length
 same_length c = search rules
 
 returns : tie.Need-returns
-returns c = put_as (by-none _ _ c.before.before.before.before.if1.true) c.before.before.put-escaped.ensures
+returns c = put_as (by_none _ _ c.before.before.before.before.if1.true) c.before.before.put-escaped.ensures
 
 same-length-2 : tie.Need-same-length-2
 same-length-2 c = search rules

@@ -3,7 +3,7 @@ use native.Mathlib.Omega.{arith}
 use mathlib.Core.Path.{sym, ◌∙◌}
 use Rattle.writer.proofs.Puts.{none, put_as}
 use Rattle.mathml_heads.proofs.Parts.{between-here, between_none}
-use Rattle.mathml_heads.proofs.Runs.{then-written, pieces-as}
+use Rattle.mathml_heads.proofs.Runs.{then-written, pieces_as}
 use borrow.Author.Rules.{rules}
 use Rattle.mathml_heads.proofs.below.put_between_func.Statement.{statement}
 use Rattle.mathml_heads.proofs.below.put_between_func.Tie as tie
@@ -21,7 +21,7 @@ same_length : tie.Need-same-length
 same_length c = search rules
 
 returns : tie.Need-returns
-returns c = pieces-as (between-here _ _ _ (c.before.before.before.before.before.before.before.before.if1.true ∙ c.before.before.before.before.before.before.before.before.before.arguments-of.ensures)) (then-written _ _ c.before.before.before.before.before.before.put-finish-script.ensures c.before.before.put-apply.ensures)
+returns c = pieces_as (between-here _ _ _ (c.before.before.before.before.before.before.before.before.if1.true ∙ c.before.before.before.before.before.before.before.before.before.arguments-of.ensures)) (then-written _ _ c.before.before.before.before.before.before.put-finish-script.ensures c.before.before.put-apply.ensures)
 
 returns-2 : tie.Need-returns-2
 returns-2 c = put_as (between_none _ _ _ (λ z. c.if1.false (z ∙ sym c.before.arguments-of.ensures))) (none _ _ (omega arith) (omega arith))

@@ -3,7 +3,7 @@ use mathlib.Core.Path.{ap}
 use Rattle.writer.proofs.Puts.{put_as}
 use Rattle.mathml_rules.specs.Forms.{shown}
 use Rattle.mathml_rules.specs.Pieces.{written, L}
-use Rattle.mathml_rules.specs.Mathml.{symbolElement}
+use Rattle.mathml_rules.specs.Mathml.{symbol_element}
 use Prim.Native.Nat.{ℕ}
 use mathlib.Core.List.{List}
 use mathlib.Core.Path.{◌≡◌}
@@ -37,35 +37,35 @@ same_length : tie.Need-same-length
 same_length c = search rules
 
 returns : tie.Need-returns
-unfolding symbolElement
+unfolding symbol_element
 returns c = put_as (drawn-as _ (rw c.before.before.before.before.match.keys1)) c.before.before.put-drawn.ensures
 
 same-length-2 : tie.Need-same-length-2
 same-length-2 c = search rules
 
 returns-2 : tie.Need-returns-2
-unfolding symbolElement
+unfolding symbol_element
 returns-2 c = put_as (drawn-as _ (rw c.before.before.before.before.match.keys2)) c.before.before.put-drawn2.ensures
 
 same-length-3 : tie.Need-same-length-3
 same-length-3 c = search rules
 
 returns-3 : tie.Need-returns-3
-unfolding symbolElement
+unfolding symbol_element
 returns-3 c = put_as (drawn-as _ (rw c.before.before.before.before.match.keys3)) c.before.before.put-drawn3.ensures
 
 same-length-4 : tie.Need-same-length-4
 same-length-4 c = search rules
 
 returns-4 : tie.Need-returns-4
-unfolding symbolElement
+unfolding symbol_element
 returns-4 c = put_as (drawn-as _ (rw c.before.before.before.before.match.keys4)) c.before.before.put-drawn4.ensures
 
 same-length-5 : tie.Need-same-length-5
 same-length-5 c = search rules
 
 returns-5 : tie.Need-returns-5
-unfolding symbolElement
+unfolding symbol_element
 returns-5 c = put_as (drawn-as _ (rw c.before.before.before.before.match.keys5)) c.before.before.put-drawn5.ensures
 
 same-length-6 : tie.Need-same-length-6

@@ -3,7 +3,7 @@ use mathlib.Core.Path.{refl}
 use mathlib.Core.Logic.{inl, inr}
 use Rattle.writer.proofs.Puts.{put_as}
 use Rattle.mathml_rules.specs.Utf8.{utf8, encoded}
-use Rattle.mathml_rules.specs.Pieces.{escapes, escapedBy, escaped}
+use Rattle.mathml_rules.specs.Pieces.{escapes, escaped_by, escaped}
 use Rattle.mathml_tags.proofs.Alike.{one, three}
 use Rattle.mathml_tags.proofs.Escaping.{itself}
 use borrow.Author.Rules.{rules}
@@ -50,35 +50,35 @@ same_length : tie.Need-same-length
 same_length c = search rules
 
 returns : tie.Need-returns
-unfolding escapedBy escapes utf8 encoded
+unfolding escaped_by escapes utf8 encoded
 returns c = put_as (one escaped 60 c.before.before.before.before.before.match.keys1) c.before.before.put-bytes.ensures
 
 same-length-2 : tie.Need-same-length-2
 same-length-2 c = search rules
 
 returns-2 : tie.Need-returns-2
-unfolding escapedBy escapes utf8 encoded
+unfolding escaped_by escapes utf8 encoded
 returns-2 c = put_as (one escaped 62 c.before.before.before.before.before.match.keys2) c.before.before.put-bytes2.ensures
 
 same-length-3 : tie.Need-same-length-3
 same-length-3 c = search rules
 
 returns-3 : tie.Need-returns-3
-unfolding escapedBy escapes utf8 encoded
+unfolding escaped_by escapes utf8 encoded
 returns-3 c = put_as (one escaped 38 c.before.before.before.before.before.match.keys3) c.before.before.put-bytes3.ensures
 
 same-length-4 : tie.Need-same-length-4
 same-length-4 c = search rules
 
 returns-4 : tie.Need-returns-4
-unfolding escapedBy escapes utf8 encoded
+unfolding escaped_by escapes utf8 encoded
 returns-4 c = put_as (three escaped 9 13 32 refl refl c.before.before.before.before.before.match.keys4) c.before.before.put-bytes4.ensures
 
 same-length-5 : tie.Need-same-length-5
 same-length-5 c = search rules
 
 returns-5 : tie.Need-returns-5
-unfolding escapedBy escapes utf8 encoded
+unfolding escaped_by escapes utf8 encoded
 returns-5 c = put_as (one escaped 10 c.before.before.before.before.before.match.keys5) c.before.before.put-bytes5.ensures
 
 same-length-6 : tie.Need-same-length-6

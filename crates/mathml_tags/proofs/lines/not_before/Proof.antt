@@ -4,14 +4,14 @@ use native.Mathlib.Omega.{arith}
 use native.Mathlib.Numerals.{add-one}
 use mathlib.Core.Path.{◌≡◌, refl, sym, ◌∙◌}
 use lib.ListN.{length, drop}
-use Rattle.mathml_rules.specs.Parts.{notBefore}
+use Rattle.mathml_rules.specs.Parts.{not_before}
 use Rattle.mathml_tags.proofs.Columns.{before-none, before_here, before-next}
 use borrow.Author.Rules.{rules}
 use Rattle.mathml_tags.proofs.lines.not_before.Statement.{statement}
 use Rattle.mathml_tags.proofs.lines.not_before.Tie as tie
 
 abbrev invariant-loop : tie.invariant-loop
-invariant-loop lines i j k₀ k = notBefore j (drop i lines) ≡ notBefore j (drop k lines)
+invariant-loop lines i j k₀ k = not_before j (drop i lines) ≡ not_before j (drop k lines)
 
 abbrev decreases-loop : tie.decreases-loop
 decreases-loop lines i j k₀ k = length lines - k

@@ -6,7 +6,7 @@ use mathlib.Core.List.{List, [], ◌++◌}
 use lib.ListN.{drop}
 use Rattle.writer.specs.Put.{Put}
 use Rattle.writer.proofs.Puts.{none, then, put_as}
-use Rattle.mathml_rules.specs.Parts.{entriesFrom}
+use Rattle.mathml_rules.specs.Parts.{entries_from}
 use Rattle.mathml_tags.proofs.Columns.{entries_next, entries-all}
 use borrow.Author.Rules.{rules}
 use Rattle.mathml_tags.proofs.lines.put_entries.Statement.{statement}
@@ -14,7 +14,7 @@ use Rattle.mathml_tags.proofs.lines.put_entries.Tie as tie
 
 abbrev invariant-loop : tie.invariant-loop
 invariant-loop out₀ at cols lines from end₀ i₀ j₀ t10 out end i j =
-    (done : List ℕ) × (Put out₀ at out end done × (done ++ entriesFrom j (cols - j) (drop i lines) ≡ entriesFrom 2 (cols - 2) (drop from lines)))
+    (done : List ℕ) × (Put out₀ at out end done × (done ++ entries_from j (cols - j) (drop i lines) ≡ entries_from 2 (cols - 2) (drop from lines)))
 
 abbrev decreases-loop : tie.decreases-loop
 decreases-loop out₀ at cols lines from end₀ i₀ j₀ t10 out end i j = cols - j

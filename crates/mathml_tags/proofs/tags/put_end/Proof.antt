@@ -3,7 +3,7 @@ use Prim.Native.Nat.{ℕ}
 use mathlib.Core.Path.{refl}
 use mathlib.Core.Logic.{inl, inr}
 use Rattle.writer.proofs.Puts.{put_as}
-use Rattle.mathml_rules.specs.Elements.{elements, elementOf}
+use Rattle.mathml_rules.specs.Elements.{elements, element_of}
 use Rattle.mathml_rules.specs.Pieces.{Piece, bytes_of}
 use Rattle.mathml_tags.proofs.Alike.{one, two, three}
 use Rattle.mathml_tags.proofs.Mrows.{end-else}
@@ -135,133 +135,133 @@ same_length : tie.Need-same-length
 same_length c = search rules
 
 returns : tie.Need-returns
-unfolding bytes_of elementOf elements
+unfolding bytes_of element_of elements
 returns c = put_as (one (λ (k : ℕ). bytes_of (Piece.end k)) 1 c.before.before.before.before.before.match.keys1) c.before.before.put-bytes.ensures
 
 same-length-2 : tie.Need-same-length-2
 same-length-2 c = search rules
 
 returns-2 : tie.Need-returns-2
-unfolding bytes_of elementOf elements
+unfolding bytes_of element_of elements
 returns-2 c = put_as (one (λ (k : ℕ). bytes_of (Piece.end k)) 2 c.before.before.before.before.before.match.keys2) c.before.before.put-bytes2.ensures
 
 same-length-3 : tie.Need-same-length-3
 same-length-3 c = search rules
 
 returns-3 : tie.Need-returns-3
-unfolding bytes_of elementOf elements
+unfolding bytes_of element_of elements
 returns-3 c = put_as (one (λ (k : ℕ). bytes_of (Piece.end k)) 3 c.before.before.before.before.before.match.keys3) c.before.before.put-bytes3.ensures
 
 same-length-4 : tie.Need-same-length-4
 same-length-4 c = search rules
 
 returns-4 : tie.Need-returns-4
-unfolding bytes_of elementOf elements
+unfolding bytes_of element_of elements
 returns-4 c = put_as (three (λ (k : ℕ). bytes_of (Piece.end k)) 4 7 22 refl refl c.before.before.before.before.before.match.keys4) c.before.before.put-bytes4.ensures
 
 same-length-5 : tie.Need-same-length-5
 same-length-5 c = search rules
 
 returns-5 : tie.Need-returns-5
-unfolding bytes_of elementOf elements
+unfolding bytes_of element_of elements
 returns-5 c = put_as (two (λ (k : ℕ). bytes_of (Piece.end k)) 5 23 refl c.before.before.before.before.before.match.keys5) c.before.before.put-bytes5.ensures
 
 same-length-6 : tie.Need-same-length-6
 same-length-6 c = search rules
 
 returns-6 : tie.Need-returns-6
-unfolding bytes_of elementOf elements
+unfolding bytes_of element_of elements
 returns-6 c = put_as (one (λ (k : ℕ). bytes_of (Piece.end k)) 6 c.before.before.before.before.before.match.keys6) c.before.before.put-bytes6.ensures
 
 same-length-7 : tie.Need-same-length-7
 same-length-7 c = search rules
 
 returns-7 : tie.Need-returns-7
-unfolding bytes_of elementOf elements
+unfolding bytes_of element_of elements
 returns-7 c = put_as (two (λ (k : ℕ). bytes_of (Piece.end k)) 12 18 refl c.before.before.before.before.before.match.keys7) c.before.before.put-bytes7.ensures
 
 same-length-8 : tie.Need-same-length-8
 same-length-8 c = search rules
 
 returns-8 : tie.Need-returns-8
-unfolding bytes_of elementOf elements
+unfolding bytes_of element_of elements
 returns-8 c = put_as (one (λ (k : ℕ). bytes_of (Piece.end k)) 13 c.before.before.before.before.before.match.keys8) c.before.before.put-bytes8.ensures
 
 same-length-9 : tie.Need-same-length-9
 same-length-9 c = search rules
 
 returns-9 : tie.Need-returns-9
-unfolding bytes_of elementOf elements
+unfolding bytes_of element_of elements
 returns-9 c = put_as (one (λ (k : ℕ). bytes_of (Piece.end k)) 17 c.before.before.before.before.before.match.keys9) c.before.before.put-bytes9.ensures
 
 same-length-10 : tie.Need-same-length-10
 same-length-10 c = search rules
 
 returns-10 : tie.Need-returns-10
-unfolding bytes_of elementOf elements
+unfolding bytes_of element_of elements
 returns-10 c = put_as (one (λ (k : ℕ). bytes_of (Piece.end k)) 19 c.before.before.before.before.before.match.keys10) c.before.before.put-bytes10.ensures
 
 same-length-11 : tie.Need-same-length-11
 same-length-11 c = search rules
 
 returns-11 : tie.Need-returns-11
-unfolding bytes_of elementOf elements
+unfolding bytes_of element_of elements
 returns-11 c = put_as (one (λ (k : ℕ). bytes_of (Piece.end k)) 20 c.before.before.before.before.before.match.keys11) c.before.before.put-bytes11.ensures
 
 same-length-12 : tie.Need-same-length-12
 same-length-12 c = search rules
 
 returns-12 : tie.Need-returns-12
-unfolding bytes_of elementOf elements
+unfolding bytes_of element_of elements
 returns-12 c = put_as (one (λ (k : ℕ). bytes_of (Piece.end k)) 21 c.before.before.before.before.before.match.keys12) c.before.before.put-bytes12.ensures
 
 same-length-13 : tie.Need-same-length-13
 same-length-13 c = search rules
 
 returns-13 : tie.Need-returns-13
-unfolding bytes_of elementOf elements
+unfolding bytes_of element_of elements
 returns-13 c = put_as (one (λ (k : ℕ). bytes_of (Piece.end k)) 24 c.before.before.before.before.before.match.keys13) c.before.before.put-bytes13.ensures
 
 same-length-14 : tie.Need-same-length-14
 same-length-14 c = search rules
 
 returns-14 : tie.Need-returns-14
-unfolding bytes_of elementOf elements
+unfolding bytes_of element_of elements
 returns-14 c = put_as (one (λ (k : ℕ). bytes_of (Piece.end k)) 25 c.before.before.before.before.before.match.keys14) c.before.before.put-bytes14.ensures
 
 same-length-15 : tie.Need-same-length-15
 same-length-15 c = search rules
 
 returns-15 : tie.Need-returns-15
-unfolding bytes_of elementOf elements
+unfolding bytes_of element_of elements
 returns-15 c = put_as (two (λ (k : ℕ). bytes_of (Piece.end k)) 26 28 refl c.before.before.before.before.before.match.keys15) c.before.before.put-bytes15.ensures
 
 same-length-16 : tie.Need-same-length-16
 same-length-16 c = search rules
 
 returns-16 : tie.Need-returns-16
-unfolding bytes_of elementOf elements
+unfolding bytes_of element_of elements
 returns-16 c = put_as (two (λ (k : ℕ). bytes_of (Piece.end k)) 27 29 refl c.before.before.before.before.before.match.keys16) c.before.before.put-bytes16.ensures
 
 same-length-17 : tie.Need-same-length-17
 same-length-17 c = search rules
 
 returns-17 : tie.Need-returns-17
-unfolding bytes_of elementOf elements
+unfolding bytes_of element_of elements
 returns-17 c = put_as (one (λ (k : ℕ). bytes_of (Piece.end k)) 30 c.before.before.before.before.before.match.keys17) c.before.before.put-bytes17.ensures
 
 same-length-18 : tie.Need-same-length-18
 same-length-18 c = search rules
 
 returns-18 : tie.Need-returns-18
-unfolding bytes_of elementOf elements
+unfolding bytes_of element_of elements
 returns-18 c = put_as (one (λ (k : ℕ). bytes_of (Piece.end k)) 31 c.before.before.before.before.before.match.keys18) c.before.before.put-bytes18.ensures
 
 same-length-19 : tie.Need-same-length-19
 same-length-19 c = search rules
 
 returns-19 : tie.Need-returns-19
-unfolding bytes_of elementOf elements
+unfolding bytes_of element_of elements
 returns-19 c = put_as (one (λ (k : ℕ). bytes_of (Piece.end k)) 32 c.before.before.before.before.before.match.keys19) c.before.before.put-bytes19.ensures
 
 same-length-20 : tie.Need-same-length-20
@@ -271,31 +271,31 @@ returns-20 : tie.Need-returns-20
 returns-20 c =
     let r = c.before.before.before.before.before.match.rest in
     put_as (end-else _ (record {
-      no-1 = r.0.0.0.0.0.0.0.0.0.0.0.0.0.0.0.0.0.0.1;
-      no-2 = r.0.0.0.0.0.0.0.0.0.0.0.0.0.0.0.0.0.1;
-      no-3 = r.0.0.0.0.0.0.0.0.0.0.0.0.0.0.0.0.1;
-      no-4 = λ h. r.0.0.0.0.0.0.0.0.0.0.0.0.0.0.0.1 (inl h);
-      no-5 = λ h. r.0.0.0.0.0.0.0.0.0.0.0.0.0.0.1 (inl h);
-      no-6 = r.0.0.0.0.0.0.0.0.0.0.0.0.0.1;
-      no-7 = λ h. r.0.0.0.0.0.0.0.0.0.0.0.0.0.0.0.1 (inr (inl h));
-      no-12 = λ h. r.0.0.0.0.0.0.0.0.0.0.0.0.1 (inl h);
-      no-13 = r.0.0.0.0.0.0.0.0.0.0.0.1;
-      no-17 = r.0.0.0.0.0.0.0.0.0.0.1;
-      no-18 = λ h. r.0.0.0.0.0.0.0.0.0.0.0.0.1 (inr h);
-      no-19 = r.0.0.0.0.0.0.0.0.0.1;
-      no-20 = r.0.0.0.0.0.0.0.0.1;
-      no-21 = r.0.0.0.0.0.0.0.1;
-      no-22 = λ h. r.0.0.0.0.0.0.0.0.0.0.0.0.0.0.0.1 (inr (inr h));
-      no-23 = λ h. r.0.0.0.0.0.0.0.0.0.0.0.0.0.0.1 (inr h);
-      no-24 = r.0.0.0.0.0.0.1;
-      no-25 = r.0.0.0.0.0.1;
-      no-26 = λ h. r.0.0.0.0.1 (inl h);
-      no-27 = λ h. r.0.0.0.1 (inl h);
-      no-28 = λ h. r.0.0.0.0.1 (inr h);
-      no-29 = λ h. r.0.0.0.1 (inr h);
-      no-30 = r.0.0.1;
-      no-31 = r.0.1;
-      no-32 = r.1;
+      no_1 = r.0.0.0.0.0.0.0.0.0.0.0.0.0.0.0.0.0.0.1;
+      no_2 = r.0.0.0.0.0.0.0.0.0.0.0.0.0.0.0.0.0.1;
+      no_3 = r.0.0.0.0.0.0.0.0.0.0.0.0.0.0.0.0.1;
+      no_4 = λ h. r.0.0.0.0.0.0.0.0.0.0.0.0.0.0.0.1 (inl h);
+      no_5 = λ h. r.0.0.0.0.0.0.0.0.0.0.0.0.0.0.1 (inl h);
+      no_6 = r.0.0.0.0.0.0.0.0.0.0.0.0.0.1;
+      no_7 = λ h. r.0.0.0.0.0.0.0.0.0.0.0.0.0.0.0.1 (inr (inl h));
+      no_12 = λ h. r.0.0.0.0.0.0.0.0.0.0.0.0.1 (inl h);
+      no_13 = r.0.0.0.0.0.0.0.0.0.0.0.1;
+      no_17 = r.0.0.0.0.0.0.0.0.0.0.1;
+      no_18 = λ h. r.0.0.0.0.0.0.0.0.0.0.0.0.1 (inr h);
+      no_19 = r.0.0.0.0.0.0.0.0.0.1;
+      no_20 = r.0.0.0.0.0.0.0.0.1;
+      no_21 = r.0.0.0.0.0.0.0.1;
+      no_22 = λ h. r.0.0.0.0.0.0.0.0.0.0.0.0.0.0.0.1 (inr (inr h));
+      no_23 = λ h. r.0.0.0.0.0.0.0.0.0.0.0.0.0.0.1 (inr h);
+      no_24 = r.0.0.0.0.0.0.1;
+      no_25 = r.0.0.0.0.0.1;
+      no_26 = λ h. r.0.0.0.0.1 (inl h);
+      no_27 = λ h. r.0.0.0.1 (inl h);
+      no_28 = λ h. r.0.0.0.0.1 (inr h);
+      no_29 = λ h. r.0.0.0.1 (inr h);
+      no_30 = r.0.0.1;
+      no_31 = r.0.1;
+      no_32 = r.1;
     })) c.before.before.put-bytes20.ensures
 
 pub put-end-spec : {M : Type 1} → statement M

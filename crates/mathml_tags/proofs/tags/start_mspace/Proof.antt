@@ -1,5 +1,5 @@
 -- The bytes of the table, by computation.
-use Rattle.mathml_rules.specs.Elements.{elements, elementOf}
+use Rattle.mathml_rules.specs.Elements.{elements, element_of}
 use Rattle.mathml_rules.specs.Pieces.{bytes_of}
 use borrow.Author.Rules.{rules}
 use Rattle.mathml_tags.proofs.tags.start_mspace.Statement.{statement}
@@ -15,7 +15,7 @@ same_length : tie.Need-same-length
 same_length c = search rules
 
 returns : tie.Need-returns
-unfolding bytes_of elementOf elements
+unfolding bytes_of element_of elements
 returns c = c.before.before.put-bytes.ensures
 
 pub start-mspace-spec : {M : Type 1} → statement M

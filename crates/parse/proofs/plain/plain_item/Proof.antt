@@ -26,7 +26,7 @@ look-requires-3 : tie.Need-look-requires-3
 look-requires-3 c κs = search rules
 
 add-t16 : tie.Need-overflow-add-t16
-add-t16 c = omega (arith, c.before.before.before.before.before.before.before.before.before.before.before.before.before.requires.1, c.before.before.before.before.before.before.before.before.before.before.before.before.before.well-formed.1.1.1.0.0)
+add-t16 c = omega (arith, c.before.before.before.before.before.before.before.before.before.before.before.before.before.requires.1, c.before.before.before.before.before.before.before.before.before.before.before.before.before.well_formed.1.1.1.0.0)
 
 leaf-ends-requires : tie.Need-leaf-ends-requires
 leaf-ends-requires c κs = search rules

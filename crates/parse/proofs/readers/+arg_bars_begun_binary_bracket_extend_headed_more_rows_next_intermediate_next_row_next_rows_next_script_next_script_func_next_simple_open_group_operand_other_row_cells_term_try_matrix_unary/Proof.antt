@@ -35,7 +35,7 @@ use Rattle.parse.proofs.readers.next_rows.Reads as next-rows
 use Rattle.parse.proofs.readers.next_script.Reads as next-script
 use Rattle.parse.proofs.readers.next_script_func.Reads as next-script-func
 use Rattle.parse.proofs.readers.next_simple.Reads as next-simple
-use Rattle.parse.proofs.readers.open_group.Reads as open-group
+use Rattle.parse.proofs.readers.open_group.Reads as open_group
 use Rattle.parse.proofs.readers.operand.Reads as operand
 use Rattle.parse.proofs.readers.other.Reads as other
 use Rattle.parse.proofs.readers.row_cells.Reads as row-cells
@@ -416,7 +416,7 @@ pub +arg-bars-begun-binary-bracket-extend-headed-more-rows-next-intermediate-nex
     (λ t. open-group-lts.spec
     (open-group-need.uses t)
     (open-group-at t)
-    open-group.Post
+    open_group.Post
     (open-group-need.add-extend t)
     (open-group-need.extend-requires t)
     (open-group-need.cast-at t)

@@ -17,7 +17,7 @@ mul-end : tie.Need-overflow-mul-end
 mul-end c = search rules
 
 add-end : tie.Need-overflow-add-end
-add-end c = omega (arith, c.before.before.before.before.before.before.before.before.before.before.before.before.read-items.ensures.fits, c.before.before.before.before.before.before.before.before.before.before.before.before.read-items.auto.1.1.1.1.0, c.before.before.before.before.before.before.before.before.before.before.before.before.before.before.before.before.before.before.before.well-formed.1.1.1.1.0.0)
+add-end c = omega (arith, c.before.before.before.before.before.before.before.before.before.before.before.before.read-items.ensures.fits, c.before.before.before.before.before.before.before.before.before.before.before.before.read-items.auto.1.1.1.1.0, c.before.before.before.before.before.before.before.before.before.before.before.before.before.before.before.before.before.before.before.well_formed.1.1.1.1.0.0)
 
 clear-from-requires : tie.Need-clear-from-requires
 clear-from-requires c κs = search rules

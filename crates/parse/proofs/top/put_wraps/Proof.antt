@@ -21,10 +21,10 @@ after-close-requires : tie.Need-after-close-requires invariant-loop decreases-lo
 after-close-requires c κs = search rules
 
 add_at : tie.Need-overflow-add-at invariant-loop decreases-loop
-add_at c = omega (arith, c.before.before.before.before.before.before.before.before.before.before.requires.1, c.before.before.before.before.before.before.loop.invariant.place, c.before.before.before.before.before.loop-test.true, c.before.before.before.before.before.before.before.before.before.before.well-formed.1.1.1.0.0)
+add_at c = omega (arith, c.before.before.before.before.before.before.before.before.before.before.requires.1, c.before.before.before.before.before.before.loop.invariant.place, c.before.before.before.before.before.loop-test.true, c.before.before.before.before.before.before.before.before.before.before.well_formed.1.1.1.0.0)
 
 add-k : tie.Need-overflow-add-k invariant-loop decreases-loop
-add-k c = omega (arith, c.before.before.before.before.before.before.before.before.before.before.requires.1, c.before.before.before.before.before.loop-test.true, c.before.before.before.before.before.before.before.before.before.before.well-formed.1.1.1.0.0)
+add-k c = omega (arith, c.before.before.before.before.before.before.before.before.before.before.requires.1, c.before.before.before.before.before.loop-test.true, c.before.before.before.before.before.before.before.before.before.before.well_formed.1.1.1.0.0)
 
 loop-less : tie.Need-loop-smaller invariant-loop decreases-loop
 loop-less c = omega (arith, c.before.before.before.before.before.loop-test.true)

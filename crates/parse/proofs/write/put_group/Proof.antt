@@ -1,5 +1,5 @@
 -- `write::put_group`: there is room.
-use Rattle.nodes.specs.Nodes.{groupWords}
+use Rattle.nodes.specs.Nodes.{group_words}
 use Rattle.buffer.proofs.Stores.{stored-in}
 use mathlib.Core.Path.{◌∙◌}
 use borrow.Author.Rules.{rules}
@@ -13,7 +13,7 @@ same_length : tie.Need-same-length
 same_length c = search rules
 
 returns : tie.Need-returns
-unfolding groupWords
+unfolding group_words
 returns c = c.before.before.put-group.ensures ∙ stored-in c.before.before.before.before.before.before.before.args.tree.now c.before.before.before.before.before.before.before.args.e _ c.before.before.before.before.before.before.before.requires
 
 pub put-group-spec : {M : Type 1} → statement M

@@ -2,7 +2,7 @@
 use mathlib.Core.Path.{ap, sym}
 use borrow.Author.Rules.{rules}
 use Rattle.records.specs.declared.bits.Bits.{Bits}
-use Rattle.records.specs.Record.{bitsOf}
+use Rattle.records.specs.Record.{bits_of}
 use Rattle.records.proofs.bits.bits_of.Statement.{statement}
 use Rattle.records.proofs.bits.bits_of.Tie as tie
 
@@ -19,16 +19,16 @@ enum-told-4 : tie.Need-enum-told-4
 enum-told-4 c = search rules
 
 returns : tie.Need-returns
-returns c = ap (λ (h : Bits). bitsOf h c.before.before.args.word) (sym c.enum_told.given.1)
+returns c = ap (λ (h : Bits). bits_of h c.before.before.args.word) (sym c.enum_told.given.1)
 
 returns-2 : tie.Need-returns-2
-returns-2 c = ap (λ (h : Bits). bitsOf h c.before.before.args.word) (sym c.enum-told2.given.1)
+returns-2 c = ap (λ (h : Bits). bits_of h c.before.before.args.word) (sym c.enum-told2.given.1)
 
 returns-3 : tie.Need-returns-3
-returns-3 c = ap (λ (h : Bits). bitsOf h c.before.before.args.word) (sym c.enum-told3.given.1)
+returns-3 c = ap (λ (h : Bits). bits_of h c.before.before.args.word) (sym c.enum-told3.given.1)
 
 returns-4 : tie.Need-returns-4
-returns-4 c = ap (λ (h : Bits). bitsOf h c.before.before.args.word) (sym c.enum-told4.given.1)
+returns-4 c = ap (λ (h : Bits). bits_of h c.before.before.args.word) (sym c.enum-told4.given.1)
 
 pub bits-of-spec : {M : Type 1} → statement M
 bits-of-spec =

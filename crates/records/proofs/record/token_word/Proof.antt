@@ -1,5 +1,5 @@
 -- `record::token_word`: a word of the token at the entry's place.
-use Rattle.records.proofs.Places.{is-placed, is-short, is-outside}
+use Rattle.records.proofs.Places.{is_placed_lem, is_short, is_outside}
 use native.Mathlib.Omega.{arith}
 use borrow.Author.Rules.{rules}
 use Rattle.records.proofs.record.token_word.Statement.{statement}
@@ -27,13 +27,13 @@ shared-slice-read-result : tie.Need-shared-slice-read-result
 shared-slice-read-result c = search rules
 
 returns : tie.Need-returns
-returns c = rw (is-placed c.before.before.before.before.before.before.args.tok.now c.before.before.before.before.before.before.args.work.now c.before.before.before.before.before.before.args.i (omega arith) (omega (arith, c.before.before.place_at.ensures.0)), ← c.before.before.place_at.ensures.0)
+returns c = rw (is_placed_lem c.before.before.before.before.before.before.args.tok.now c.before.before.before.before.before.before.args.work.now c.before.before.before.before.before.before.args.i (omega arith) (omega (arith, c.before.before.place_at.ensures.0)), ← c.before.before.place_at.ensures.0)
 
 returns-2 : tie.Need-returns-2
-returns-2 c = rw (is-outside c.before.before.before.before.before.args.tok.now c.before.before.before.before.before.args.work.now c.before.before.before.before.before.args.i (omega (arith, c.before.place_at.ensures.0)))
+returns-2 c = rw (is_outside c.before.before.before.before.before.args.tok.now c.before.before.before.before.before.args.work.now c.before.before.before.before.before.args.i (omega (arith, c.before.place_at.ensures.0)))
 
 returns-3 : tie.Need-returns-3
-returns-3 c = rw (is-short c.before.before.before.args.tok.now c.before.before.before.args.work.now c.before.before.before.args.i (omega arith))
+returns-3 c = rw (is_short c.before.before.before.args.tok.now c.before.before.before.args.work.now c.before.before.before.args.i (omega arith))
 
 pub token-word-spec : {M : Type 1} → statement M
 token-word-spec =

@@ -1,5 +1,5 @@
 -- `space::space_before`: a word of the Space before the entry's place.
-use Rattle.records.proofs.Places.{is-placed, is-short, is-outside}
+use Rattle.records.proofs.Places.{is_placed_lem, is_short, is_outside}
 use native.Mathlib.Omega.{arith}
 use borrow.Author.Rules.{rules}
 use Rattle.records.proofs.space.space_before.Statement.{statement}
@@ -19,15 +19,15 @@ space-word-requires c κs = search rules
 
 returns : tie.Need-returns
 returns c = let a = c.before.before.before.before.before.before.args in
-    rw (is-placed a.tok.now a.work.now a.i (omega arith) (omega (arith, c.before.before.place_at.ensures.0)), ← c.before.before.place_at.ensures.0) c.space-word.ensures
+    rw (is_placed_lem a.tok.now a.work.now a.i (omega arith) (omega (arith, c.before.before.place_at.ensures.0)), ← c.before.before.place_at.ensures.0) c.space-word.ensures
 
 returns-2 : tie.Need-returns-2
 returns-2 c = let a = c.before.before.before.before.before.args in
-    rw (is-outside a.tok.now a.work.now a.i (omega (arith, c.before.place_at.ensures.0)))
+    rw (is_outside a.tok.now a.work.now a.i (omega (arith, c.before.place_at.ensures.0)))
 
 returns-3 : tie.Need-returns-3
 returns-3 c = let a = c.before.before.before.args in
-    rw (is-short a.tok.now a.work.now a.i (omega arith))
+    rw (is_short a.tok.now a.work.now a.i (omega arith))
 
 pub space-before-spec : {M : Type 1} → statement M
 space-before-spec =

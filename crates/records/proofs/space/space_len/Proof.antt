@@ -1,5 +1,5 @@
 -- `space::space_len`: a word of the Space before the entry.
-use Rattle.records.specs.Record.{spaceLen}
+use Rattle.records.specs.Record.{space_len}
 use borrow.Author.Rules.{rules}
 use Rattle.records.proofs.space.space_len.Statement.{statement}
 use Rattle.records.proofs.space.space_len.Tie as tie
@@ -8,7 +8,7 @@ space-before-requires : tie.Need-space-before-requires
 space-before-requires c κs = search rules
 
 returns : tie.Need-returns
-unfolding spaceLen
+unfolding space_len
 returns c = c.space-before.ensures
 
 pub space-len-spec : {M : Type 1} → statement M

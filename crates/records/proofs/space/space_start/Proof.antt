@@ -1,5 +1,5 @@
 -- `space::space_start`: a word of the Space before the entry.
-use Rattle.records.specs.Record.{spaceStart}
+use Rattle.records.specs.Record.{space_start}
 use borrow.Author.Rules.{rules}
 use Rattle.records.proofs.space.space_start.Statement.{statement}
 use Rattle.records.proofs.space.space_start.Tie as tie
@@ -8,7 +8,7 @@ space-before-requires : tie.Need-space-before-requires
 space-before-requires c κs = search rules
 
 returns : tie.Need-returns
-unfolding spaceStart
+unfolding space_start
 returns c = c.space-before.ensures
 
 pub space-start-spec : {M : Type 1} → statement M

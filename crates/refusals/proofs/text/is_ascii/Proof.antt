@@ -5,12 +5,12 @@ use mathlib.Core.Logic.{⊎_elim}
 use native.Mathlib.Omega.{arith}
 use lib.ListN.{length}
 use Rattle.tokens.specs.Refusals.{ascii}
-use Rattle.refusals.proofs.Ascii.{asciiFrom, ascii-next, not_ascii, ascii-end}
+use Rattle.refusals.proofs.Ascii.{ascii_from, ascii-next, not_ascii, ascii-end}
 use Rattle.refusals.proofs.text.is_ascii.Statement.{statement}
 use Rattle.refusals.proofs.text.is_ascii.Tie as tie
 
 abbrev invariant-loop : tie.invariant-loop
-invariant-loop text ok₀ i₀ ok i = (i ≤ length text) × (ascii text ≡ asciiFrom ok i text)
+invariant-loop text ok₀ i₀ ok i = (i ≤ length text) × (ascii text ≡ ascii_from ok i text)
 
 abbrev decreases-loop : tie.decreases-loop
 decreases-loop text ok₀ i₀ ok i = length text - i

@@ -4,12 +4,12 @@ use Prim.Native.Nat.{◌≤◌}
 use mathlib.Core.Path.{◌≡◌, refl, ◌∙◌}
 use native.Mathlib.Omega.{arith}
 use borrow.Author.Rules.{rules}
-use Rattle.tree.specs.Walk.{cellsEnd}
+use Rattle.tree.specs.Walk.{cells_end}
 use Rattle.tree.proofs.walk.cells_end.Statement.{statement}
 use Rattle.tree.proofs.walk.cells_end.Tie as tie
 
 abbrev invariant-loop : tie.invariant-loop
-invariant-loop words from count at₀ left₀ at left = (left ≤ count) × (cellsEnd words left at ≡ cellsEnd words count from)
+invariant-loop words from count at₀ left₀ at left = (left ≤ count) × (cells_end words left at ≡ cells_end words count from)
 
 abbrev decreases-loop : tie.decreases-loop
 decreases-loop words from count at₀ left₀ at left = left

@@ -10,7 +10,7 @@ use Rattle.closers_pass.proofs.readers.+bars_begun_bracket_extend_headed_more_ro
 use borrow.Author.Rules.{rules}
 use mathlib.Core.Path.{sym, ◌∙◌}
 use native.Mathlib.Omega.{arith}
-use Rattle.lookahead.specs.Tests.{beginsKind}
+use Rattle.lookahead.specs.Tests.{begins_kind}
 use Rattle.lookahead.proofs.Testing.{test_below}
 use Rattle.closers_pass.proofs.Begins.{begun-bracket}
 
@@ -33,7 +33,7 @@ pub same_length : (t : ℕ) → begun-lts.Need-same-length (uses t) (begun-at t)
 same_length t c = search rules
 
 pub returns : (t : ℕ) → begun-lts.Need-returns (uses t) (begun-at t) begun.Post
-returns t c = begun-bracket c.before.before.before.before.before.before.before.before.before.before.before.args.i c.before.before.before.before.before.before.before.before.before.before.before.args.stop c.before.before.before.before.before.before.before.before.before.before.before.args.sign (test_below _ _ _ (beginsKind c.before.before.before.before.before.before.before.before.before.before.before.args.stop) _ c.before.before.before.before.before.before.before.before.before.before.before.requires.1.1.0) c.before.before.before.before.before.before.kind_at.ensures (sym c.before.before.before.before.before.opens.ensures ∙ c.before.before.before.before.if1.true) c.before.before.bracket.ensures
+returns t c = begun-bracket c.before.before.before.before.before.before.before.before.before.before.before.args.i c.before.before.before.before.before.before.before.before.before.before.before.args.stop c.before.before.before.before.before.before.before.before.before.before.before.args.sign (test_below _ _ _ (begins_kind c.before.before.before.before.before.before.before.before.before.before.before.args.stop) _ c.before.before.before.before.before.before.before.before.before.before.before.requires.1.1.0) c.before.before.before.before.before.before.kind_at.ensures (sym c.before.before.before.before.before.opens.ensures ∙ c.before.before.before.before.if1.true) c.before.before.bracket.ensures
 
 pub same-length-2 : (t : ℕ) → begun-lts.Need-same-length-2 (uses t) (begun-at t) begun.Post
 same-length-2 t c = search rules

@@ -11,7 +11,7 @@ use mathlib.Core.Path.{◌≡◌, sym, ◌∙◌}
 use Prim.Native.Nat.{ℕ, ◌+◌, ◌-◌}
 use native.Mathlib.Omega.{arith}
 use borrow.Author.Tests.{not-true, not-false}
-use Rattle.lookahead.specs.Tests.{isKind}
+use Rattle.lookahead.specs.Tests.{is_kind}
 use Rattle.lookahead.proofs.Testing.{test_below}
 use Rattle.closers_pass.proofs.Rows.{Inv, rows_none, rows-done, rows-broken, rows-count, rows-differ, rows_more}
 
@@ -34,13 +34,13 @@ pub is-at-requires : (t : ℕ) → more-rows-lts.Need-is-at-requires (uses t) (m
 is-at-requires t c κs = search rules
 
 pub next-requires : (t : ℕ) → more-rows-lts.Need-next-requires (uses t) (more-rows-at t) more_rows.Post Inv-rows μ-rows
-next-requires t c κs = let b = test_below _ _ c.before.before.before.before.before.before.before.before.before.args.n (isKind 3) _ (sym c.before.before.is_at.ensures ∙ not-false _ c.before.if1.false) in omega (arith, c.before.before.before.before.before.before.before.before.before.requires.1.few)
+next-requires t c κs = let b = test_below _ _ c.before.before.before.before.before.before.before.before.before.args.n (is_kind 3) _ (sym c.before.before.is_at.ensures ∙ not-false _ c.before.if1.false) in omega (arith, c.before.before.before.before.before.before.before.before.before.requires.1.few)
 
 pub next-row-requires : (t : ℕ) → more-rows-lts.Need-next-row-requires (uses t) (more-rows-at t) more_rows.Post Inv-rows μ-rows
-next-row-requires t c κs = let v = c.before.before.before.before.before.before.rows.invariant in let b = test_below _ _ c.before.before.before.before.before.before.before.before.before.before.args.n (isKind 3) _ (sym c.before.before.before.is_at.ensures ∙ not-false _ c.before.before.if1.false) in let np : c.next.result.pos ≡ c.before.before.before.before.before.before.rows.cur.pos + 1 = rw c.next.ensures in let nd : c.next.result.depth ≡ c.before.before.before.before.before.before.rows.cur.depth = rw c.next.ensures in (omega (arith, c.before.before.before.before.before.before.before.before.before.before.requires.0, v.moves.depth), record { few = c.before.before.before.before.before.before.before.before.before.before.requires.1.few; fit = omega (arith, c.before.before.before.before.before.before.before.before.before.before.requires.1.fit, v.moves.kept.long); here = omega arith })
+next-row-requires t c κs = let v = c.before.before.before.before.before.before.rows.invariant in let b = test_below _ _ c.before.before.before.before.before.before.before.before.before.before.args.n (is_kind 3) _ (sym c.before.before.before.is_at.ensures ∙ not-false _ c.before.before.if1.false) in let np : c.next.result.pos ≡ c.before.before.before.before.before.before.rows.cur.pos + 1 = rw c.next.ensures in let nd : c.next.result.depth ≡ c.before.before.before.before.before.before.rows.cur.depth = rw c.next.ensures in (omega (arith, c.before.before.before.before.before.before.before.before.before.before.requires.0, v.moves.depth), record { few = c.before.before.before.before.before.before.before.before.before.before.requires.1.few; fit = omega (arith, c.before.before.before.before.before.before.before.before.before.before.requires.1.fit, v.moves.kept.long); here = omega arith })
 
 pub add-is-pair : (t : ℕ) → more-rows-lts.Need-overflow-add-is-pair (uses t) (more-rows-at t) more_rows.Post Inv-rows μ-rows
-add-is-pair t c = let b = test_below _ _ c.before.before.before.before.before.before.before.before.before.before.before.before.before.before.before.before.before.before.before.args.n (isKind 3) _ (sym c.before.before.before.before.before.before.before.before.before.before.before.before.is_at.ensures ∙ not-false _ c.before.before.before.before.before.before.before.before.before.before.before.if1.false) in omega (arith, c.before.before.before.before.before.before.before.before.before.before.before.before.before.before.before.before.before.before.before.requires.1.few)
+add-is-pair t c = let b = test_below _ _ c.before.before.before.before.before.before.before.before.before.before.before.before.before.before.before.before.before.before.before.args.n (is_kind 3) _ (sym c.before.before.before.before.before.before.before.before.before.before.before.before.is_at.ensures ∙ not-false _ c.before.before.before.before.before.before.before.before.before.before.before.if1.false) in omega (arith, c.before.before.before.before.before.before.before.before.before.before.before.before.before.before.before.before.before.before.before.requires.1.few)
 
 pub is-pair-requires : (t : ℕ) → more-rows-lts.Need-is-pair-requires (uses t) (more-rows-at t) more_rows.Post Inv-rows μ-rows
 is-pair-requires t c κs = search rules

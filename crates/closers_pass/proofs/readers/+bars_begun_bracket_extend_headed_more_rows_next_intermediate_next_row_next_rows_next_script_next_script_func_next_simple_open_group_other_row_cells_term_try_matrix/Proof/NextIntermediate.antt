@@ -11,7 +11,7 @@ use mathlib.Core.Path.{◌≡◌, sym, ◌∙◌}
 use Prim.Native.Nat.{ℕ, ◌+◌}
 use native.Mathlib.Omega.{arith}
 use borrow.Author.Tests.{not-true, not-false}
-use Rattle.lookahead.specs.Tests.{isKind}
+use Rattle.lookahead.specs.Tests.{is_kind}
 use Rattle.lookahead.proofs.Testing.{test_below, look-plain, look-over}
 use Rattle.closers_pass.proofs.Simple.{item-nothing, item-plain, item-over}
 use Rattle.closers_pass.proofs.Alone.{plain-found, over_nothing}
@@ -63,10 +63,10 @@ pub is-at-requires : (t : ℕ) → next-intermediate-lts.Need-is-at-requires (us
 is-at-requires t c κs = search rules
 
 pub next-requires : (t : ℕ) → next-intermediate-lts.Need-next-requires (uses t) (next-intermediate-at t) next-intermediate.Post
-next-requires t c κs = let b = test_below _ _ c.before.before.before.before.before.before.before.before.before.before.before.before.before.before.before.before.before.before.before.before.before.args.n (isKind 0) _ (sym c.before.before.is_at.ensures ∙ c.before.if2.true) in omega (arith, c.before.before.before.before.before.before.before.before.before.before.before.before.before.before.before.before.before.before.before.before.before.requires.1.few)
+next-requires t c κs = let b = test_below _ _ c.before.before.before.before.before.before.before.before.before.before.before.before.before.before.before.before.before.before.before.before.before.args.n (is_kind 0) _ (sym c.before.before.is_at.ensures ∙ c.before.if2.true) in omega (arith, c.before.before.before.before.before.before.before.before.before.before.before.before.before.before.before.before.before.before.before.before.before.requires.1.few)
 
 pub next-script-func-requires-2 : (t : ℕ) → next-intermediate-lts.Need-next-script-func-requires-2 (uses t) (next-intermediate-at t) next-intermediate.Post
-next-script-func-requires-2 t c κs = let b = test_below _ _ c.before.before.before.before.before.before.before.before.before.before.before.before.before.before.before.before.before.before.before.before.before.before.args.n (isKind 0) _ (sym c.before.before.before.is_at.ensures ∙ c.before.before.if2.true) in let m = c.before.before.before.before.before.before.before.before.before.before.before.next-script-func.ensures.moves in let np : c.next.result.pos ≡ c.before.before.before.before.before.before.before.before.before.before.before.next-script-func.result.cur.pos + 1 = rw c.next.ensures in let nd : c.next.result.depth ≡ c.before.before.before.before.before.before.before.before.before.before.before.next-script-func.result.cur.depth = rw c.next.ensures in (omega (arith, c.before.before.before.before.before.before.before.before.before.before.before.before.before.before.before.before.before.before.before.before.before.before.requires.0, m.depth), record { few = c.before.before.before.before.before.before.before.before.before.before.before.before.before.before.before.before.before.before.before.before.before.before.requires.1.few; fit = omega (arith, c.before.before.before.before.before.before.before.before.before.before.before.before.before.before.before.before.before.before.before.before.before.before.requires.1.fit, m.kept.long); here = omega arith })
+next-script-func-requires-2 t c κs = let b = test_below _ _ c.before.before.before.before.before.before.before.before.before.before.before.before.before.before.before.before.before.before.before.before.before.before.args.n (is_kind 0) _ (sym c.before.before.before.is_at.ensures ∙ c.before.before.if2.true) in let m = c.before.before.before.before.before.before.before.before.before.before.before.next-script-func.ensures.moves in let np : c.next.result.pos ≡ c.before.before.before.before.before.before.before.before.before.before.before.next-script-func.result.cur.pos + 1 = rw c.next.ensures in let nd : c.next.result.depth ≡ c.before.before.before.before.before.before.before.before.before.before.before.next-script-func.result.cur.depth = rw c.next.ensures in (omega (arith, c.before.before.before.before.before.before.before.before.before.before.before.before.before.before.before.before.before.before.before.before.before.before.requires.0, m.depth), record { few = c.before.before.before.before.before.before.before.before.before.before.before.before.before.before.before.before.before.before.before.before.before.before.requires.1.few; fit = omega (arith, c.before.before.before.before.before.before.before.before.before.before.before.before.before.before.before.before.before.before.before.before.before.before.requires.1.fit, m.kept.long); here = omega arith })
 
 pub same-length-2 : (t : ℕ) → next-intermediate-lts.Need-same-length-2 (uses t) (next-intermediate-at t) next-intermediate.Post
 same-length-2 t c = search rules

@@ -11,7 +11,7 @@ use borrow.Author.Rules.{rules}
 use mathlib.Core.Path.{◌≡◌, sym, ◌∙◌}
 use Prim.Native.Nat.{ℕ, ◌+◌, ◌-◌}
 use native.Mathlib.Omega.{arith}
-use Rattle.lookahead.specs.Tests.{isKind}
+use Rattle.lookahead.specs.Tests.{is_kind}
 use Rattle.lookahead.proofs.Testing.{test_below}
 use Rattle.closers_pass.proofs.Cells.{row-met, row-unmet, row-none}
 
@@ -25,10 +25,10 @@ pub is-at-requires : (t : ℕ) → next-row-lts.Need-is-at-requires (uses t) (ne
 is-at-requires t c κs = search rules
 
 pub next-requires : (t : ℕ) → next-row-lts.Need-next-requires (uses t) (next-row-at t) next_row.Post
-next-requires t c κs = let b = test_below _ _ c.before.before.before.before.before.before.before.before.args.n (isKind 20) _ (sym c.before.before.is_at.ensures ∙ c.before.if1.true) in omega (arith, c.before.before.before.before.before.before.before.before.requires.1.few)
+next-requires t c κs = let b = test_below _ _ c.before.before.before.before.before.before.before.before.args.n (is_kind 20) _ (sym c.before.before.is_at.ensures ∙ c.before.if1.true) in omega (arith, c.before.before.before.before.before.before.before.before.requires.1.few)
 
 pub row-cells-requires : (t : ℕ) → next-row-lts.Need-row-cells-requires (uses t) (next-row-at t) next_row.Post
-row-cells-requires t c κs = let b = test_below _ _ c.before.before.before.before.before.before.before.before.before.args.n (isKind 20) _ (sym c.before.before.before.is_at.ensures ∙ c.before.before.if1.true) in let np : c.next.result.pos ≡ c.before.before.before.before.before.before.before.before.before.args.c.pos + 1 = rw c.next.ensures in let nd : c.next.result.depth ≡ c.before.before.before.before.before.before.before.before.before.args.c.depth = rw c.next.ensures in (omega (arith, c.before.before.before.before.before.before.before.before.before.requires.0), record { few = c.before.before.before.before.before.before.before.before.before.requires.1.few; fit = c.before.before.before.before.before.before.before.before.before.requires.1.fit; here = omega arith })
+row-cells-requires t c κs = let b = test_below _ _ c.before.before.before.before.before.before.before.before.before.args.n (is_kind 20) _ (sym c.before.before.before.is_at.ensures ∙ c.before.before.if1.true) in let np : c.next.result.pos ≡ c.before.before.before.before.before.before.before.before.before.args.c.pos + 1 = rw c.next.ensures in let nd : c.next.result.depth ≡ c.before.before.before.before.before.before.before.before.before.args.c.depth = rw c.next.ensures in (omega (arith, c.before.before.before.before.before.before.before.before.before.requires.0), record { few = c.before.before.before.before.before.before.before.before.before.requires.1.few; fit = c.before.before.before.before.before.before.before.before.before.requires.1.fit; here = omega arith })
 
 pub note-closer-requires : (t : ℕ) → next-row-lts.Need-note-closer-requires (uses t) (next-row-at t) next_row.Post
 note-closer-requires t c κs = search rules

@@ -12,7 +12,7 @@ use mathlib.Core.Path.{◌≡◌, sym, ◌∙◌}
 use Prim.Native.Nat.{ℕ, ◌+◌}
 use native.Mathlib.Omega.{arith}
 use borrow.Author.Tests.{not-true, not-false}
-use Rattle.lookahead.specs.Tests.{isKind, marksKind}
+use Rattle.lookahead.specs.Tests.{is_kind, marks_kind}
 use Rattle.lookahead.proofs.Testing.{test_below}
 use Rattle.closers_pass.proofs.Simple.{scripts-none, scripts-super, scripts-sub, scripts-both}
 
@@ -38,10 +38,10 @@ pub is-at-requires : (t : ℕ) → next-script-lts.Need-is-at-requires (uses t) 
 is-at-requires t c κs = search rules
 
 pub next-requires : (t : ℕ) → next-script-lts.Need-next-requires (uses t) (next-script-at t) next-script.Post
-next-requires t c κs = let b = test_below c.before.before.before.before.before.before.before.before.before.before.args.tok.now c.before.before.before.before.before.before.before.before.before.before.args.work.now c.before.before.before.before.before.before.before.before.before.before.args.n marksKind c.before.before.before.before.before.before.before.before.before.before.args.c.pos (sym c.before.before.before.before.marks-at.ensures ∙ not-false _ c.before.before.before.if1.false) in omega (arith, c.before.before.before.before.before.before.before.before.before.before.requires.1.few)
+next-requires t c κs = let b = test_below c.before.before.before.before.before.before.before.before.before.before.args.tok.now c.before.before.before.before.before.before.before.before.before.before.args.work.now c.before.before.before.before.before.before.before.before.before.before.args.n marks_kind c.before.before.before.before.before.before.before.before.before.before.args.c.pos (sym c.before.before.before.before.marks-at.ensures ∙ not-false _ c.before.before.before.if1.false) in omega (arith, c.before.before.before.before.before.before.before.before.before.before.requires.1.few)
 
 pub next-simple-requires : (t : ℕ) → next-script-lts.Need-next-simple-requires (uses t) (next-script-at t) next-script.Post
-next-simple-requires t c κs = let b = test_below c.before.before.before.before.before.before.before.before.before.before.before.args.tok.now c.before.before.before.before.before.before.before.before.before.before.before.args.work.now c.before.before.before.before.before.before.before.before.before.before.before.args.n marksKind c.before.before.before.before.before.before.before.before.before.before.before.args.c.pos (sym c.before.before.before.before.before.marks-at.ensures ∙ not-false _ c.before.before.before.before.if1.false) in let np : c.next.result.pos ≡ c.before.before.before.before.before.before.before.before.before.before.before.args.c.pos + 1 = rw c.next.ensures in let nd : c.next.result.depth ≡ c.before.before.before.before.before.before.before.before.before.before.before.args.c.depth = rw c.next.ensures in (omega (arith, c.before.before.before.before.before.before.before.before.before.before.before.requires.0), record { few = c.before.before.before.before.before.before.before.before.before.before.before.requires.1.few; fit = c.before.before.before.before.before.before.before.before.before.before.before.requires.1.fit; here = omega arith })
+next-simple-requires t c κs = let b = test_below c.before.before.before.before.before.before.before.before.before.before.before.args.tok.now c.before.before.before.before.before.before.before.before.before.before.before.args.work.now c.before.before.before.before.before.before.before.before.before.before.before.args.n marks_kind c.before.before.before.before.before.before.before.before.before.before.before.args.c.pos (sym c.before.before.before.before.before.marks-at.ensures ∙ not-false _ c.before.before.before.before.if1.false) in let np : c.next.result.pos ≡ c.before.before.before.before.before.before.before.before.before.before.before.args.c.pos + 1 = rw c.next.ensures in let nd : c.next.result.depth ≡ c.before.before.before.before.before.before.before.before.before.before.before.args.c.depth = rw c.next.ensures in (omega (arith, c.before.before.before.before.before.before.before.before.before.before.before.requires.0), record { few = c.before.before.before.before.before.before.before.before.before.before.before.requires.1.few; fit = c.before.before.before.before.before.before.before.before.before.before.before.requires.1.fit; here = omega arith })
 
 pub same-length-2 : (t : ℕ) → next-script-lts.Need-same-length-2 (uses t) (next-script-at t) next-script.Post
 same-length-2 t c = search rules
@@ -56,10 +56,10 @@ pub is-at-requires-2 : (t : ℕ) → next-script-lts.Need-is-at-requires-2 (uses
 is-at-requires-2 t c κs = search rules
 
 pub next-requires-2 : (t : ℕ) → next-script-lts.Need-next-requires-2 (uses t) (next-script-at t) next-script.Post
-next-requires-2 t c κs = let b = test_below _ _ c.before.before.before.before.before.before.before.before.before.before.before.before.before.before.before.before.before.before.before.before.before.args.n (isKind 1) _ (sym c.before.before.is-at2.ensures ∙ c.before.if3.true) in omega (arith, c.before.before.before.before.before.before.before.before.before.before.before.before.before.before.before.before.before.before.before.before.before.requires.1.few)
+next-requires-2 t c κs = let b = test_below _ _ c.before.before.before.before.before.before.before.before.before.before.before.before.before.before.before.before.before.before.before.before.before.args.n (is_kind 1) _ (sym c.before.before.is-at2.ensures ∙ c.before.if3.true) in omega (arith, c.before.before.before.before.before.before.before.before.before.before.before.before.before.before.before.before.before.before.before.before.before.requires.1.few)
 
 pub next-simple-requires-2 : (t : ℕ) → next-script-lts.Need-next-simple-requires-2 (uses t) (next-script-at t) next-script.Post
-next-simple-requires-2 t c κs = let b = test_below _ _ c.before.before.before.before.before.before.before.before.before.before.before.before.before.before.before.before.before.before.before.before.before.before.args.n (isKind 1) _ (sym c.before.before.before.is-at2.ensures ∙ c.before.before.if3.true) in let m = c.before.before.before.before.before.before.before.before.before.before.next-simple.ensures.moves in let md : c.before.before.before.before.before.before.before.before.before.before.next-simple.result.cur.depth ≡ c.before.before.before.before.before.before.before.before.before.before.before.before.before.before.before.before.before.before.before.before.before.before.args.c.depth = rw c.before.before.before.before.before.before.before.before.before.before.before.next.ensures at m.depth in let np : c.next2.result.pos ≡ c.before.before.before.before.before.before.before.before.before.before.next-simple.result.cur.pos + 1 = rw c.next2.ensures in let nd : c.next2.result.depth ≡ c.before.before.before.before.before.before.before.before.before.before.next-simple.result.cur.depth = rw c.next2.ensures in (omega (arith, c.before.before.before.before.before.before.before.before.before.before.before.before.before.before.before.before.before.before.before.before.before.before.requires.0), record { few = c.before.before.before.before.before.before.before.before.before.before.before.before.before.before.before.before.before.before.before.before.before.before.requires.1.few; fit = omega (arith, c.before.before.before.before.before.before.before.before.before.before.before.before.before.before.before.before.before.before.before.before.before.before.requires.1.fit, m.kept.long); here = omega arith })
+next-simple-requires-2 t c κs = let b = test_below _ _ c.before.before.before.before.before.before.before.before.before.before.before.before.before.before.before.before.before.before.before.before.before.before.args.n (is_kind 1) _ (sym c.before.before.before.is-at2.ensures ∙ c.before.before.if3.true) in let m = c.before.before.before.before.before.before.before.before.before.before.next-simple.ensures.moves in let md : c.before.before.before.before.before.before.before.before.before.before.next-simple.result.cur.depth ≡ c.before.before.before.before.before.before.before.before.before.before.before.before.before.before.before.before.before.before.before.before.before.before.args.c.depth = rw c.before.before.before.before.before.before.before.before.before.before.before.next.ensures at m.depth in let np : c.next2.result.pos ≡ c.before.before.before.before.before.before.before.before.before.before.next-simple.result.cur.pos + 1 = rw c.next2.ensures in let nd : c.next2.result.depth ≡ c.before.before.before.before.before.before.before.before.before.before.next-simple.result.cur.depth = rw c.next2.ensures in (omega (arith, c.before.before.before.before.before.before.before.before.before.before.before.before.before.before.before.before.before.before.before.before.before.before.requires.0), record { few = c.before.before.before.before.before.before.before.before.before.before.before.before.before.before.before.before.before.before.before.before.before.before.requires.1.few; fit = omega (arith, c.before.before.before.before.before.before.before.before.before.before.before.before.before.before.before.before.before.before.before.before.before.before.requires.1.fit, m.kept.long); here = omega arith })
 
 pub same-length-3 : (t : ℕ) → next-script-lts.Need-same-length-3 (uses t) (next-script-at t) next-script.Post
 same-length-3 t c = search rules

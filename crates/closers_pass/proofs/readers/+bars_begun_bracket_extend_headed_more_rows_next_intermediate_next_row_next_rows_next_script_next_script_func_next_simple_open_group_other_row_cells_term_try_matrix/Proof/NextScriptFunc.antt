@@ -18,7 +18,7 @@ use mathlib.Core.Path.{◌≡◌, sym, ◌∙◌}
 use Prim.Native.Nat.{ℕ, ◌+◌}
 use native.Mathlib.Omega.{arith}
 use borrow.Author.Tests.{leb-true, leb-false}
-use Rattle.lookahead.specs.Tests.{headsKind}
+use Rattle.lookahead.specs.Tests.{heads_kind}
 use Rattle.lookahead.proofs.Testing.{test_below}
 use Rattle.closers_pass.proofs.Simple.{script-deep, script-term, script-headed}
 
@@ -41,13 +41,13 @@ pub heads-at-requires : (t : ℕ) → next-script-func-lts.Need-heads-at-require
 heads-at-requires t c κs = search rules
 
 pub next-requires : (t : ℕ) → next-script-func-lts.Need-next-requires (uses t) (next-script-func-at t) next-script-func.Post
-next-requires t c κs = let b = test_below c.before.before.before.before.before.before.before.before.before.before.args.tok.now c.before.before.before.before.before.before.before.before.before.before.args.work.now c.before.before.before.before.before.before.before.before.before.before.args.n (headsKind c.before.before.before.before.before.before.before.before.before.before.args.sign) c.before.before.before.before.before.before.before.before.before.before.args.c.pos (sym c.before.before.heads-at.ensures ∙ c.before.if2.true) in omega (arith, c.before.before.before.before.before.before.before.before.before.before.requires.1.few)
+next-requires t c κs = let b = test_below c.before.before.before.before.before.before.before.before.before.before.args.tok.now c.before.before.before.before.before.before.before.before.before.before.args.work.now c.before.before.before.before.before.before.before.before.before.before.args.n (heads_kind c.before.before.before.before.before.before.before.before.before.before.args.sign) c.before.before.before.before.before.before.before.before.before.before.args.c.pos (sym c.before.before.heads-at.ensures ∙ c.before.if2.true) in omega (arith, c.before.before.before.before.before.before.before.before.before.before.requires.1.few)
 
 pub deeper-requires : (t : ℕ) → next-script-func-lts.Need-deeper-requires (uses t) (next-script-func-at t) next-script-func.Post
 deeper-requires t c κs = let z : c.next.result.depth ≡ c.before.before.before.before.before.before.before.before.before.before.before.args.c.depth = rw c.next.ensures in omega (arith, leb-false 256 c.before.before.before.before.before.before.before.before.before.before.before.args.c.depth (sym c.before.before.before.before.before.before.before.too-deep.ensures ∙ c.before.before.before.before.before.before.if1.false))
 
 pub headed-requires : (t : ℕ) → next-script-func-lts.Need-headed-requires (uses t) (next-script-func-at t) next-script-func.Post
-headed-requires t c κs = let b = test_below c.before.before.before.before.before.before.before.before.before.before.before.before.args.tok.now c.before.before.before.before.before.before.before.before.before.before.before.before.args.work.now c.before.before.before.before.before.before.before.before.before.before.before.before.args.n (headsKind c.before.before.before.before.before.before.before.before.before.before.before.before.args.sign) c.before.before.before.before.before.before.before.before.before.before.before.before.args.c.pos (sym c.before.before.before.before.heads-at.ensures ∙ c.before.before.before.if2.true) in let nd : c.deeper.result.depth ≡ c.before.before.before.before.before.before.before.before.before.before.before.before.args.c.depth + 1 = rw (c.deeper.ensures, c.before.next.ensures) in let np : c.deeper.result.pos ≡ c.before.before.before.before.before.before.before.before.before.before.before.before.args.c.pos + 1 = rw (c.deeper.ensures, c.before.next.ensures) in (omega (arith, c.before.before.before.before.before.before.before.before.before.before.before.before.requires.0, leb-false 256 c.before.before.before.before.before.before.before.before.before.before.before.before.args.c.depth (sym c.before.before.before.before.before.before.before.before.too-deep.ensures ∙ c.before.before.before.before.before.before.before.if1.false)), (record { few = c.before.before.before.before.before.before.before.before.before.before.before.before.requires.1.few; fit = c.before.before.before.before.before.before.before.before.before.before.before.before.requires.1.fit; here = omega arith }, b))
+headed-requires t c κs = let b = test_below c.before.before.before.before.before.before.before.before.before.before.before.before.args.tok.now c.before.before.before.before.before.before.before.before.before.before.before.before.args.work.now c.before.before.before.before.before.before.before.before.before.before.before.before.args.n (heads_kind c.before.before.before.before.before.before.before.before.before.before.before.before.args.sign) c.before.before.before.before.before.before.before.before.before.before.before.before.args.c.pos (sym c.before.before.before.before.heads-at.ensures ∙ c.before.before.before.if2.true) in let nd : c.deeper.result.depth ≡ c.before.before.before.before.before.before.before.before.before.before.before.before.args.c.depth + 1 = rw (c.deeper.ensures, c.before.next.ensures) in let np : c.deeper.result.pos ≡ c.before.before.before.before.before.before.before.before.before.before.before.before.args.c.pos + 1 = rw (c.deeper.ensures, c.before.next.ensures) in (omega (arith, c.before.before.before.before.before.before.before.before.before.before.before.before.requires.0, leb-false 256 c.before.before.before.before.before.before.before.before.before.before.before.before.args.c.depth (sym c.before.before.before.before.before.before.before.before.too-deep.ensures ∙ c.before.before.before.before.before.before.before.if1.false)), (record { few = c.before.before.before.before.before.before.before.before.before.before.before.before.requires.1.few; fit = c.before.before.before.before.before.before.before.before.before.before.before.before.requires.1.fit; here = omega arith }, b))
 
 pub at-depth-requires : (t : ℕ) → next-script-func-lts.Need-at-depth-requires (uses t) (next-script-func-at t) next-script-func.Post
 at-depth-requires t c κs = search rules

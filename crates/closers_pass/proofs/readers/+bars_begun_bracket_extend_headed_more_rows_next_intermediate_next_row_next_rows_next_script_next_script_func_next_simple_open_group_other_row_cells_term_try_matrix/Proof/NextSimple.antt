@@ -15,7 +15,7 @@ use mathlib.Core.Path.{◌≡◌, sym, ◌∙◌}
 use Prim.Native.Nat.{ℕ, ◌+◌}
 use native.Mathlib.Omega.{arith}
 use borrow.Author.Tests.{leb-true, leb-false}
-use Rattle.lookahead.specs.Tests.{beginsKind}
+use Rattle.lookahead.specs.Tests.{begins_kind}
 use Rattle.lookahead.proofs.Testing.{test_below}
 use Rattle.closers_pass.proofs.Simple.{simple-deep, simple-nothing, simple-begun}
 
@@ -38,13 +38,13 @@ pub begins-at-requires : (t : ℕ) → next-simple-lts.Need-begins-at-requires (
 begins-at-requires t c κs = search rules
 
 pub next-requires : (t : ℕ) → next-simple-lts.Need-next-requires (uses t) (next-simple-at t) next-simple.Post
-next-requires t c κs = let b = test_below c.before.before.before.before.before.before.before.before.before.before.args.tok.now c.before.before.before.before.before.before.before.before.before.before.args.work.now c.before.before.before.before.before.before.before.before.before.before.args.n (beginsKind c.before.before.before.before.before.before.before.before.before.before.args.stop) c.before.before.before.before.before.before.before.before.before.before.args.c.pos (sym c.before.before.begins-at.ensures ∙ c.before.if2.true) in omega (arith, c.before.before.before.before.before.before.before.before.before.before.requires.1.few)
+next-requires t c κs = let b = test_below c.before.before.before.before.before.before.before.before.before.before.args.tok.now c.before.before.before.before.before.before.before.before.before.before.args.work.now c.before.before.before.before.before.before.before.before.before.before.args.n (begins_kind c.before.before.before.before.before.before.before.before.before.before.args.stop) c.before.before.before.before.before.before.before.before.before.before.args.c.pos (sym c.before.before.begins-at.ensures ∙ c.before.if2.true) in omega (arith, c.before.before.before.before.before.before.before.before.before.before.requires.1.few)
 
 pub deeper-requires : (t : ℕ) → next-simple-lts.Need-deeper-requires (uses t) (next-simple-at t) next-simple.Post
 deeper-requires t c κs = let z : c.next.result.depth ≡ c.before.before.before.before.before.before.before.before.before.before.before.args.c.depth = rw c.next.ensures in omega (arith, leb-false 256 c.before.before.before.before.before.before.before.before.before.before.before.args.c.depth (sym c.before.before.before.before.before.before.before.too-deep.ensures ∙ c.before.before.before.before.before.before.if1.false))
 
 pub begun-requires : (t : ℕ) → next-simple-lts.Need-begun-requires (uses t) (next-simple-at t) next-simple.Post
-begun-requires t c κs = let b = test_below c.before.before.before.before.before.before.before.before.before.before.before.before.args.tok.now c.before.before.before.before.before.before.before.before.before.before.before.before.args.work.now c.before.before.before.before.before.before.before.before.before.before.before.before.args.n (beginsKind c.before.before.before.before.before.before.before.before.before.before.before.before.args.stop) c.before.before.before.before.before.before.before.before.before.before.before.before.args.c.pos (sym c.before.before.before.before.begins-at.ensures ∙ c.before.before.before.if2.true) in let nd : c.deeper.result.depth ≡ c.before.before.before.before.before.before.before.before.before.before.before.before.args.c.depth + 1 = rw (c.deeper.ensures, c.before.next.ensures) in let np : c.deeper.result.pos ≡ c.before.before.before.before.before.before.before.before.before.before.before.before.args.c.pos + 1 = rw (c.deeper.ensures, c.before.next.ensures) in (omega (arith, c.before.before.before.before.before.before.before.before.before.before.before.before.requires.0, leb-false 256 c.before.before.before.before.before.before.before.before.before.before.before.before.args.c.depth (sym c.before.before.before.before.before.before.before.before.too-deep.ensures ∙ c.before.before.before.before.before.before.before.if1.false)), (record { few = c.before.before.before.before.before.before.before.before.before.before.before.before.requires.1.few; fit = c.before.before.before.before.before.before.before.before.before.before.before.before.requires.1.fit; here = omega arith }, (sym c.before.before.before.before.begins-at.ensures ∙ c.before.before.before.if2.true, omega arith)))
+begun-requires t c κs = let b = test_below c.before.before.before.before.before.before.before.before.before.before.before.before.args.tok.now c.before.before.before.before.before.before.before.before.before.before.before.before.args.work.now c.before.before.before.before.before.before.before.before.before.before.before.before.args.n (begins_kind c.before.before.before.before.before.before.before.before.before.before.before.before.args.stop) c.before.before.before.before.before.before.before.before.before.before.before.before.args.c.pos (sym c.before.before.before.before.begins-at.ensures ∙ c.before.before.before.if2.true) in let nd : c.deeper.result.depth ≡ c.before.before.before.before.before.before.before.before.before.before.before.before.args.c.depth + 1 = rw (c.deeper.ensures, c.before.next.ensures) in let np : c.deeper.result.pos ≡ c.before.before.before.before.before.before.before.before.before.before.before.before.args.c.pos + 1 = rw (c.deeper.ensures, c.before.next.ensures) in (omega (arith, c.before.before.before.before.before.before.before.before.before.before.before.before.requires.0, leb-false 256 c.before.before.before.before.before.before.before.before.before.before.before.before.args.c.depth (sym c.before.before.before.before.before.before.before.before.too-deep.ensures ∙ c.before.before.before.before.before.before.before.if1.false)), (record { few = c.before.before.before.before.before.before.before.before.before.before.before.before.requires.1.few; fit = c.before.before.before.before.before.before.before.before.before.before.before.before.requires.1.fit; here = omega arith }, (sym c.before.before.before.before.begins-at.ensures ∙ c.before.before.before.if2.true, omega arith)))
 
 pub back-requires : (t : ℕ) → next-simple-lts.Need-back-requires (uses t) (next-simple-at t) next-simple.Post
 back-requires t c κs = search rules

@@ -10,7 +10,7 @@ use Rattle.closers_pass.proofs.readers.+bars_begun_bracket_extend_headed_more_ro
 use Rattle.closers_pass.proofs.readers.+bars_begun_bracket_extend_headed_more_rows_next_intermediate_next_row_next_rows_next_script_next_script_func_next_simple_open_group_other_row_cells_term_try_matrix.Proof.Setting.{next-simple-below, other_at}
 use borrow.Author.Rules.{rules}
 use mathlib.Core.Path.{sym, ◌∙◌}
-use Rattle.lookahead.specs.Tests.{beginsKind}
+use Rattle.lookahead.specs.Tests.{begins_kind}
 use Rattle.lookahead.proofs.Testing.{test_below}
 use Rattle.closers_pass.proofs.Begins.{begun-binary, begun-prefix, begun-leaf}
 
@@ -30,7 +30,7 @@ pub same_length : (t : ℕ) → other-lts.Need-same-length (uses t) (other_at t)
 same_length t c = search rules
 
 pub returns : (t : ℕ) → other-lts.Need-returns (uses t) (other_at t) other.Post
-returns t c = rw c.operation.ensures (begun-binary c.before.before.before.before.before.before.before.before.before.before.before.before.before.before.before.args.i c.before.before.before.before.before.before.before.before.before.before.before.before.before.before.before.args.stop c.before.before.before.before.before.before.before.before.before.before.before.before.before.before.before.args.sign (test_below _ _ _ (beginsKind c.before.before.before.before.before.before.before.before.before.before.before.before.before.before.before.args.stop) _ c.before.before.before.before.before.before.before.before.before.before.before.before.before.before.before.requires.1.1.0) (sym c.before.before.before.before.before.before.before.before.before.before.before.before.before.before.before.requires.1.1.1.1.0 ∙ c.before.before.before.before.before.before.before.before.before.before.before.if1.true) c.before.before.before.before.before.before.before.before.before.next-simple.ensures c.before.before.before.before.next-simple2.ensures)
+returns t c = rw c.operation.ensures (begun-binary c.before.before.before.before.before.before.before.before.before.before.before.before.before.before.before.args.i c.before.before.before.before.before.before.before.before.before.before.before.before.before.before.before.args.stop c.before.before.before.before.before.before.before.before.before.before.before.before.before.before.before.args.sign (test_below _ _ _ (begins_kind c.before.before.before.before.before.before.before.before.before.before.before.before.before.before.before.args.stop) _ c.before.before.before.before.before.before.before.before.before.before.before.before.before.before.before.requires.1.1.0) (sym c.before.before.before.before.before.before.before.before.before.before.before.before.before.before.before.requires.1.1.1.1.0 ∙ c.before.before.before.before.before.before.before.before.before.before.before.if1.true) c.before.before.before.before.before.before.before.before.before.next-simple.ensures c.before.before.before.before.next-simple2.ensures)
 
 pub takes-one-requires : (t : ℕ) → other-lts.Need-takes-one-requires (uses t) (other_at t) other.Post
 takes-one-requires t c κs = search rules
@@ -48,7 +48,7 @@ pub same-length-2 : (t : ℕ) → other-lts.Need-same-length-2 (uses t) (other_a
 same-length-2 t c = search rules
 
 pub returns-2 : (t : ℕ) → other-lts.Need-returns-2 (uses t) (other_at t) other.Post
-returns-2 t c = rw c.operation2.ensures (begun-prefix c.before.before.before.before.before.before.before.before.before.before.before.before.before.args.i c.before.before.before.before.before.before.before.before.before.before.before.before.before.args.stop (test_below _ _ _ (beginsKind c.before.before.before.before.before.before.before.before.before.before.before.before.before.args.stop) _ c.before.before.before.before.before.before.before.before.before.before.before.before.before.requires.1.1.0) c.before.before.before.before.before.before.before.before.before.before.before.before.before.args.sign c.before.before.before.before.before.before.before.before.before.before.before.before.before.requires.1.1.1.1.0 (sym c.before.before.before.before.before.before.before.before.takes_one.ensures ∙ c.before.before.before.before.before.before.before.if2.true) c.before.before.before.before.before.prefix-stop.ensures c.before.before.before.before.next-simple3.ensures)
+returns-2 t c = rw c.operation2.ensures (begun-prefix c.before.before.before.before.before.before.before.before.before.before.before.before.before.args.i c.before.before.before.before.before.before.before.before.before.before.before.before.before.args.stop (test_below _ _ _ (begins_kind c.before.before.before.before.before.before.before.before.before.before.before.before.before.args.stop) _ c.before.before.before.before.before.before.before.before.before.before.before.before.before.requires.1.1.0) c.before.before.before.before.before.before.before.before.before.before.before.before.before.args.sign c.before.before.before.before.before.before.before.before.before.before.before.before.before.requires.1.1.1.1.0 (sym c.before.before.before.before.before.before.before.before.takes_one.ensures ∙ c.before.before.before.before.before.before.before.if2.true) c.before.before.before.before.before.prefix-stop.ensures c.before.before.before.before.next-simple3.ensures)
 
 pub leaf-requires : (t : ℕ) → other-lts.Need-leaf-requires (uses t) (other_at t) other.Post
 leaf-requires t c κs = search rules
@@ -57,4 +57,4 @@ pub same-length-3 : (t : ℕ) → other-lts.Need-same-length-3 (uses t) (other_a
 same-length-3 t c = search rules
 
 pub returns-3 : (t : ℕ) → other-lts.Need-returns-3 (uses t) (other_at t) other.Post
-returns-3 t c = rw c.leaf.ensures (begun-leaf c.before.before.before.before.before.before.before.before.args.i c.before.before.before.before.before.before.before.before.args.stop c.before.before.before.before.before.before.before.before.args.sign (test_below _ _ _ (beginsKind c.before.before.before.before.before.before.before.before.args.stop) _ c.before.before.before.before.before.before.before.before.requires.1.1.0) c.before.before.before.before.before.before.before.before.requires.1.1.1.1.0 c.before.before.before.before.before.before.before.before.requires.1.1.1.1.1 c.before.before.before.before.if1.false (sym c.before.before.before.takes_one.ensures ∙ c.before.before.if2.false) c.before.before.before.before.before.before.before.before.requires.1.1.0 c.before.before.before.before.before.before.before.before.requires.1.0.here)
+returns-3 t c = rw c.leaf.ensures (begun-leaf c.before.before.before.before.before.before.before.before.args.i c.before.before.before.before.before.before.before.before.args.stop c.before.before.before.before.before.before.before.before.args.sign (test_below _ _ _ (begins_kind c.before.before.before.before.before.before.before.before.args.stop) _ c.before.before.before.before.before.before.before.before.requires.1.1.0) c.before.before.before.before.before.before.before.before.requires.1.1.1.1.0 c.before.before.before.before.before.before.before.before.requires.1.1.1.1.1 c.before.before.before.before.if1.false (sym c.before.before.before.takes_one.ensures ∙ c.before.before.if2.false) c.before.before.before.before.before.before.before.before.requires.1.1.0 c.before.before.before.before.before.before.before.before.requires.1.0.here)

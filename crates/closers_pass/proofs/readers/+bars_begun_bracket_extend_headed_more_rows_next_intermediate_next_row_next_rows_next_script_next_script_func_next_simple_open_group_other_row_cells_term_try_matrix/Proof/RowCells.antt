@@ -11,7 +11,7 @@ use mathlib.Core.Path.{◌≡◌, sym, ◌∙◌}
 use Prim.Native.Nat.{ℕ, ◌+◌, ◌-◌}
 use native.Mathlib.Omega.{arith}
 use borrow.Author.Tests.{not-true, not-false}
-use Rattle.lookahead.specs.Tests.{isKind}
+use Rattle.lookahead.specs.Tests.{is_kind}
 use Rattle.lookahead.proofs.Testing.{test_below}
 use Rattle.closers_pass.proofs.Cells.{Inv, cells-none, cells-more, cells-ended, passing-in}
 
@@ -49,7 +49,7 @@ pub is-at-requires-2 : (t : ℕ) → row-cells-lts.Need-is-at-requires-2 (uses t
 is-at-requires-2 t c κs = search rules
 
 pub cells-less : (t : ℕ) → row-cells-lts.Need-cells-smaller (uses t) (row-cells-at t) row-cells.Post Inv-cells μ-cells
-cells-less t c = let b = test_below _ _ c.before.before.before.before.before.before.before.before.before.before.before.before.before.before.before.args.n (isKind 3) _ (sym c.before.is_at.ensures ∙ not-false _ c.if1.false) in let z : c.before.before.before.over.result.pos ≡ c.before.before.before.before.before.before.before.before.before.extend.result.cur.pos + 1 = rw (c.before.before.before.over.ensures, passing-in c.before.before.before.before.before.before.before.before.before.before.before.before.before.before.before.args.n c.before.before.before.before.before.before.before.before.before.extend.result.cur b) in omega (arith, c.before.before.before.before.before.before.before.before.before.extend.ensures.moves.on)
+cells-less t c = let b = test_below _ _ c.before.before.before.before.before.before.before.before.before.before.before.before.before.before.before.args.n (is_kind 3) _ (sym c.before.is_at.ensures ∙ not-false _ c.if1.false) in let z : c.before.before.before.over.result.pos ≡ c.before.before.before.before.before.before.before.before.before.extend.result.cur.pos + 1 = rw (c.before.before.before.over.ensures, passing-in c.before.before.before.before.before.before.before.before.before.before.before.before.before.before.before.args.n c.before.before.before.before.before.before.before.before.before.extend.result.cur b) in omega (arith, c.before.before.before.before.before.before.before.before.before.extend.ensures.moves.on)
 
 pub cells-again : (t : ℕ) → row-cells-lts.Need-cells-preserved (uses t) (row-cells-at t) row-cells.Post Inv-cells μ-cells
 cells-again t c = rw (c.before.before.before.over.ensures, c.before.before.before.before.one_more.ensures) (cells-more c.before.before.before.before.before.before.before.before.before.before.before.before.before.before.before.args.c c.before.before.before.before.before.before.before.before.before.before.before.cells.invariant c.before.before.before.before.before.before.before.before.before.extend.ensures (sym c.before.is_at.ensures ∙ not-false _ c.if1.false))

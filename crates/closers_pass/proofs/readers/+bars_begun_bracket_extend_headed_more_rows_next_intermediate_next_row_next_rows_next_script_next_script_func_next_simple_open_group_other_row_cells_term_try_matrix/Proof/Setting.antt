@@ -26,7 +26,7 @@ use Rattle.closers_pass.proofs.readers.next_script_func.Reads as next-script-fun
 use Rattle.closers_pass.proofs.readers.next_script_func.Kinds as next-script-func-kinds
 use Rattle.closers_pass.proofs.readers.next_simple.Reads as next-simple
 use Rattle.closers_pass.proofs.readers.next_simple.Kinds as next-simple-kinds
-use Rattle.closers_pass.proofs.readers.open_group.Reads as open-group
+use Rattle.closers_pass.proofs.readers.open_group.Reads as open_group
 use Rattle.closers_pass.proofs.readers.open_group.Kinds as open-group-kinds
 use Rattle.closers_pass.proofs.readers.other.Reads as other
 use Rattle.closers_pass.proofs.readers.other.Kinds as other-kinds
@@ -149,10 +149,10 @@ abbrev pub μ-open-group : Measures 3 open-group-kinds.ps ℕ
 μ-open-group κs a = 11 * (256 - a.1.1.1.1.0.depth) + 3
 
 abbrev pub open-group-at : ℕ → In 3 open-group-kinds.ps
-open-group-at t = and 3 open-group-kinds.ps (is 3 open-group-kinds.ps μ-open-group t) open-group.Pre
+open-group-at t = and 3 open-group-kinds.ps (is 3 open-group-kinds.ps μ-open-group t) open_group.Pre
 
 abbrev pub open-group-below : ℕ → In 3 open-group-kinds.ps
-open-group-below t = and 3 open-group-kinds.ps (falls 3 open-group-kinds.ps ◌<◌ μ-open-group t) open-group.Pre
+open-group-below t = and 3 open-group-kinds.ps (falls 3 open-group-kinds.ps ◌<◌ μ-open-group t) open_group.Pre
 
 abbrev pub μ-other : Measures 3 other-kinds.ps ℕ
 μ-other κs a = 11 * (256 - a.1.1.1.1.0.depth) + 1

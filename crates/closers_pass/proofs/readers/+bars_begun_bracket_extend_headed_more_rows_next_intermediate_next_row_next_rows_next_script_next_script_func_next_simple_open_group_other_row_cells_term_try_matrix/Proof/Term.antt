@@ -9,7 +9,7 @@ use Rattle.closers_pass.proofs.readers.+bars_begun_bracket_extend_headed_more_ro
 use borrow.Author.Rules.{rules}
 use mathlib.Core.Path.{sym, ◌∙◌}
 use borrow.Author.Tests.{not-true, not-false}
-use Rattle.closers_pass.proofs.Simple.{term-nothing, term-scripted, scripts-none}
+use Rattle.closers_pass.proofs.Simple.{term_nothing, term_scripted, scripts-none}
 use Rattle.lookahead.proofs.tests.marks_at.Reads as marks-at-reads
 use Rattle.closers_pass.proofs.cursor.Cursor.look.Reads as look-reads
 
@@ -23,7 +23,7 @@ pub same_length : (t : ℕ) → term-lts.Need-same-length (uses t) (term-at t) t
 same_length t c = search rules
 
 pub returns : (t : ℕ) → term-lts.Need-returns (uses t) (term-at t) term.Post
-returns t c = term-nothing c.before.before.before.before.before.before.before.before.before.args.stop c.before.before.before.before.before.before.before.before.before.args.sign c.before.before.before.before.next-simple.ensures (not-true _ c.if1.true)
+returns t c = term_nothing c.before.before.before.before.before.before.before.before.before.args.stop c.before.before.before.before.before.before.before.before.before.args.sign c.before.before.before.before.next-simple.ensures (not-true _ c.if1.true)
 
 pub cast-at : (t : ℕ) → term-lts.Need-overflow-cast-at (uses t) (term-at t) term.Post
 cast-at t c = search rules
@@ -38,7 +38,7 @@ pub same-length-2 : (t : ℕ) → term-lts.Need-same-length-2 (uses t) (term-at 
 same-length-2 t c = search rules
 
 pub returns-2 : (t : ℕ) → term-lts.Need-returns-2 (uses t) (term-at t) term.Post
-returns-2 t c = rw c.look.ensures (term-scripted c.before.before.before.before.before.before.before.before.before.before.before.before.before.before.before.args.stop c.before.before.before.before.before.before.before.before.before.before.before.before.before.before.before.args.sign c.before.before.before.before.before.before.before.before.before.before.next-simple.ensures (not-false _ c.before.before.before.before.before.before.if1.false) (scripts-none (sym c.before.before.marks-at.ensures ∙ not-true _ c.before.if2.true) c.before.before.before.before.before.before.before.before.before.before.next-simple.ensures.moves.within))
+returns-2 t c = rw c.look.ensures (term_scripted c.before.before.before.before.before.before.before.before.before.before.before.before.before.before.before.args.stop c.before.before.before.before.before.before.before.before.before.before.before.before.before.before.before.args.sign c.before.before.before.before.before.before.before.before.before.before.next-simple.ensures (not-false _ c.before.before.before.before.before.before.if1.false) (scripts-none (sym c.before.before.marks-at.ensures ∙ not-true _ c.before.if2.true) c.before.before.before.before.before.before.before.before.before.before.next-simple.ensures.moves.within))
 
 pub next-script-requires : (t : ℕ) → term-lts.Need-next-script-requires (uses t) (term-at t) term.Post
 next-script-requires t c κs = search rules
@@ -50,4 +50,4 @@ pub same-length-3 : (t : ℕ) → term-lts.Need-same-length-3 (uses t) (term-at 
 same-length-3 t c = search rules
 
 pub returns-3 : (t : ℕ) → term-lts.Need-returns-3 (uses t) (term-at t) term.Post
-returns-3 t c = rw c.unless.ensures (term-scripted c.before.before.before.before.before.before.before.before.before.before.before.before.before.before.before.before.before.before.before.before.args.stop c.before.before.before.before.before.before.before.before.before.before.before.before.before.before.before.before.before.before.before.before.args.sign c.before.before.before.before.before.before.before.before.before.before.before.before.before.before.before.next-simple.ensures (not-false _ c.before.before.before.before.before.before.before.before.before.before.before.if1.false) c.before.before.before.before.next-script.ensures)
+returns-3 t c = rw c.unless.ensures (term_scripted c.before.before.before.before.before.before.before.before.before.before.before.before.before.before.before.before.before.before.before.before.args.stop c.before.before.before.before.before.before.before.before.before.before.before.before.before.before.before.before.before.before.before.before.args.sign c.before.before.before.before.before.before.before.before.before.before.before.before.before.before.before.next-simple.ensures (not-false _ c.before.before.before.before.before.before.before.before.before.before.before.if1.false) c.before.before.before.before.next-script.ensures)

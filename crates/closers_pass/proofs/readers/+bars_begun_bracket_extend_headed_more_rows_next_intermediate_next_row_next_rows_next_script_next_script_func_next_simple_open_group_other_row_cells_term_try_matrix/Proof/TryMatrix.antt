@@ -16,8 +16,8 @@ use mathlib.Core.Path.{sym, ◌∙◌}
 use Prim.Native.Nat.{ℕ, ◌-◌}
 use native.Mathlib.Omega.{arith}
 use borrow.Author.Tests.{not-true, not-false}
-use Rattle.closers_pass.proofs.Barred.{try-shut, try-known, try-lost, try-found}
-use Rattle.reading_words.proofs.Matrices.{makes-below}
+use Rattle.closers_pass.proofs.Barred.{try_shut, try_known, try_lost, try_found}
+use Rattle.reading_words.proofs.Matrices.{makes_below}
 
 abbrev pub uses : ℕ → try-matrix-lts.Claims
 uses t = (could-be-matrix-reads.Asked, could-be-matrix-reads.Learnt, failed-at-reads.Asked, failed-at-reads.Learnt, next-rows-below t, next-rows.Post, cells-left-reads.Asked, cells-left-reads.Learnt, makes-matrix-reads.Asked, makes-matrix-reads.Learnt, note-closer-reads.Asked, note-closer-reads.Learnt, next-reads.Asked, next-reads.Learnt, give-up-reads.Asked, give-up-reads.Learnt, rewind-reads.Asked, rewind-reads.Learnt)
@@ -29,7 +29,7 @@ pub same_length : (t : ℕ) → try-matrix-lts.Need-same-length (uses t) (try-ma
 same_length t c = search rules
 
 pub returns : (t : ℕ) → try-matrix-lts.Need-returns (uses t) (try-matrix-at t) try-matrix.Post
-returns t c = try-shut c.before.before.before.before.before.before.args.i c.before.before.before.before.before.before.args.c (omega (arith, c.before.before.before.before.before.before.requires.1.1, c.before.before.before.before.before.before.requires.1.0.here)) c.before.before.before.before.before.before.requires.1.1 c.before.before.before.before.before.before.requires.1.0.here c.before.before.before.before.before.before.requires.1.0.few c.before.before.before.before.before.before.requires.1.0.fit (sym c.before.could-be-matrix.ensures ∙ not-true _ c.if1.true)
+returns t c = try_shut c.before.before.before.before.before.before.args.i c.before.before.before.before.before.before.args.c (omega (arith, c.before.before.before.before.before.before.requires.1.1, c.before.before.before.before.before.before.requires.1.0.here)) c.before.before.before.before.before.before.requires.1.1 c.before.before.before.before.before.before.requires.1.0.here c.before.before.before.before.before.before.requires.1.0.few c.before.before.before.before.before.before.requires.1.0.fit (sym c.before.could-be-matrix.ensures ∙ not-true _ c.if1.true)
 
 pub failed-at-requires : (t : ℕ) → try-matrix-lts.Need-failed-at-requires (uses t) (try-matrix-at t) try-matrix.Post
 failed-at-requires t c κs = search rules
@@ -38,7 +38,7 @@ pub same-length-2 : (t : ℕ) → try-matrix-lts.Need-same-length-2 (uses t) (tr
 same-length-2 t c = search rules
 
 pub returns-2 : (t : ℕ) → try-matrix-lts.Need-returns-2 (uses t) (try-matrix-at t) try-matrix.Post
-returns-2 t c = try-known c.before.before.before.before.before.before.before.before.before.args.i c.before.before.before.before.before.before.before.before.before.args.c (omega (arith, c.before.before.before.before.before.before.before.before.before.requires.1.1, c.before.before.before.before.before.before.before.before.before.requires.1.0.here)) c.before.before.before.before.before.before.before.before.before.requires.1.1 c.before.before.before.before.before.before.before.before.before.requires.1.0.here c.before.before.before.before.before.before.before.before.before.requires.1.0.few c.before.before.before.before.before.before.before.before.before.requires.1.0.fit (sym c.before.before.before.before.could-be-matrix.ensures ∙ not-false _ c.before.before.before.if1.false) (sym c.before.failed-at.ensures ∙ c.if2.true)
+returns-2 t c = try_known c.before.before.before.before.before.before.before.before.before.args.i c.before.before.before.before.before.before.before.before.before.args.c (omega (arith, c.before.before.before.before.before.before.before.before.before.requires.1.1, c.before.before.before.before.before.before.before.before.before.requires.1.0.here)) c.before.before.before.before.before.before.before.before.before.requires.1.1 c.before.before.before.before.before.before.before.before.before.requires.1.0.here c.before.before.before.before.before.before.before.before.before.requires.1.0.few c.before.before.before.before.before.before.before.before.before.requires.1.0.fit (sym c.before.before.before.before.could-be-matrix.ensures ∙ not-false _ c.before.before.before.if1.false) (sym c.before.failed-at.ensures ∙ c.if2.true)
 
 pub next-rows-requires : (t : ℕ) → try-matrix-lts.Need-next-rows-requires (uses t) (try-matrix-at t) try-matrix.Post
 next-rows-requires t c κs = search rules
@@ -59,13 +59,13 @@ pub note-closer-requires : (t : ℕ) → try-matrix-lts.Need-note-closer-require
 note-closer-requires t c κs = search rules
 
 pub next-requires : (t : ℕ) → try-matrix-lts.Need-next-requires (uses t) (try-matrix-at t) try-matrix.Post
-next-requires t c κs = let b = makes-below _ _ _ c.before.before.before.before.before.before.before.before.before.before.before.before.before.before.before.before.before.before.before.before.before.before.before.args.n _ _ _ _ (sym c.before.before.before.before.before.makes-matrix.ensures ∙ c.before.before.before.before.if3.true) in omega (arith, c.before.before.before.before.before.before.before.before.before.before.before.before.before.before.before.before.before.before.before.before.before.before.before.requires.1.0.few)
+next-requires t c κs = let b = makes_below _ _ _ c.before.before.before.before.before.before.before.before.before.before.before.before.before.before.before.before.before.before.before.before.before.before.before.args.n _ _ _ _ (sym c.before.before.before.before.before.makes-matrix.ensures ∙ c.before.before.before.before.if3.true) in omega (arith, c.before.before.before.before.before.before.before.before.before.before.before.before.before.before.before.before.before.before.before.before.before.before.before.requires.1.0.few)
 
 pub same-length-3 : (t : ℕ) → try-matrix-lts.Need-same-length-3 (uses t) (try-matrix-at t) try-matrix.Post
 same-length-3 t c = search rules
 
 pub returns-3 : (t : ℕ) → try-matrix-lts.Need-returns-3 (uses t) (try-matrix-at t) try-matrix.Post
-returns-3 t c = rw c.next.ensures (try-found c.before.before.before.before.before.before.before.before.before.before.before.before.before.before.before.before.before.before.before.before.before.before.before.before.args.i c.before.before.before.before.before.before.before.before.before.before.before.before.before.before.before.before.before.before.before.before.before.before.before.before.args.c (omega (arith, c.before.before.before.before.before.before.before.before.before.before.before.before.before.before.before.before.before.before.before.before.before.before.before.before.requires.1.1, c.before.before.before.before.before.before.before.before.before.before.before.before.before.before.before.before.before.before.before.before.before.before.before.before.requires.1.0.here)) c.before.before.before.before.before.before.before.before.before.before.before.before.before.before.before.before.before.before.before.before.before.before.before.before.requires.1.1 c.before.before.before.before.before.before.before.before.before.before.before.before.before.before.before.before.before.before.before.before.before.before.before.before.requires.1.0.here c.before.before.before.before.before.before.before.before.before.before.before.before.before.before.before.before.before.before.before.before.before.before.before.before.requires.1.0.few c.before.before.before.before.before.before.before.before.before.before.before.before.before.before.before.before.before.before.before.before.before.before.before.before.requires.1.0.fit (sym c.before.before.before.before.before.before.before.before.before.before.before.before.before.before.before.before.before.before.before.could-be-matrix.ensures ∙ not-false _ c.before.before.before.before.before.before.before.before.before.before.before.before.before.before.before.before.before.before.if1.false) (sym c.before.before.before.before.before.before.before.before.before.before.before.before.before.before.before.before.failed-at.ensures ∙ c.before.before.before.before.before.before.before.before.before.before.before.before.before.before.before.if2.false) _ c.before.before.before.before.before.before.before.before.before.before.before.before.before.next-rows.result c.before.before.before.before.before.before.before.before.before.before.before.before.before.next-rows.ensures (rw c.before.before.before.before.before.before.before.before.cells_left.ensures at (sym c.before.before.before.before.before.before.makes-matrix.ensures ∙ c.before.before.before.before.before.if3.true)) c.before.before.before.note-closer.ensures)
+returns-3 t c = rw c.next.ensures (try_found c.before.before.before.before.before.before.before.before.before.before.before.before.before.before.before.before.before.before.before.before.before.before.before.before.args.i c.before.before.before.before.before.before.before.before.before.before.before.before.before.before.before.before.before.before.before.before.before.before.before.before.args.c (omega (arith, c.before.before.before.before.before.before.before.before.before.before.before.before.before.before.before.before.before.before.before.before.before.before.before.before.requires.1.1, c.before.before.before.before.before.before.before.before.before.before.before.before.before.before.before.before.before.before.before.before.before.before.before.before.requires.1.0.here)) c.before.before.before.before.before.before.before.before.before.before.before.before.before.before.before.before.before.before.before.before.before.before.before.before.requires.1.1 c.before.before.before.before.before.before.before.before.before.before.before.before.before.before.before.before.before.before.before.before.before.before.before.before.requires.1.0.here c.before.before.before.before.before.before.before.before.before.before.before.before.before.before.before.before.before.before.before.before.before.before.before.before.requires.1.0.few c.before.before.before.before.before.before.before.before.before.before.before.before.before.before.before.before.before.before.before.before.before.before.before.before.requires.1.0.fit (sym c.before.before.before.before.before.before.before.before.before.before.before.before.before.before.before.before.before.before.before.could-be-matrix.ensures ∙ not-false _ c.before.before.before.before.before.before.before.before.before.before.before.before.before.before.before.before.before.before.if1.false) (sym c.before.before.before.before.before.before.before.before.before.before.before.before.before.before.before.before.failed-at.ensures ∙ c.before.before.before.before.before.before.before.before.before.before.before.before.before.before.before.if2.false) _ c.before.before.before.before.before.before.before.before.before.before.before.before.before.next-rows.result c.before.before.before.before.before.before.before.before.before.before.before.before.before.next-rows.ensures (rw c.before.before.before.before.before.before.before.before.cells_left.ensures at (sym c.before.before.before.before.before.before.makes-matrix.ensures ∙ c.before.before.before.before.before.if3.true)) c.before.before.before.note-closer.ensures)
 
 pub cast-give-up : (t : ℕ) → try-matrix-lts.Need-overflow-cast-give-up (uses t) (try-matrix-at t) try-matrix.Post
 cast-give-up t c = search rules
@@ -80,4 +80,4 @@ pub same-length-4 : (t : ℕ) → try-matrix-lts.Need-same-length-4 (uses t) (tr
 same-length-4 t c = search rules
 
 pub returns-4 : (t : ℕ) → try-matrix-lts.Need-returns-4 (uses t) (try-matrix-at t) try-matrix.Post
-returns-4 t c = rw c.rewind.ensures (try-lost c.before.before.before.before.before.before.before.before.before.before.before.before.before.before.before.before.before.before.before.before.before.before.before.before.args.i c.before.before.before.before.before.before.before.before.before.before.before.before.before.before.before.before.before.before.before.before.before.before.before.before.args.c (omega (arith, c.before.before.before.before.before.before.before.before.before.before.before.before.before.before.before.before.before.before.before.before.before.before.before.before.requires.1.1, c.before.before.before.before.before.before.before.before.before.before.before.before.before.before.before.before.before.before.before.before.before.before.before.before.requires.1.0.here)) c.before.before.before.before.before.before.before.before.before.before.before.before.before.before.before.before.before.before.before.before.before.before.before.before.requires.1.1 c.before.before.before.before.before.before.before.before.before.before.before.before.before.before.before.before.before.before.before.before.before.before.before.before.requires.1.0.here c.before.before.before.before.before.before.before.before.before.before.before.before.before.before.before.before.before.before.before.before.before.before.before.before.requires.1.0.few c.before.before.before.before.before.before.before.before.before.before.before.before.before.before.before.before.before.before.before.before.before.before.before.before.requires.1.0.fit (sym c.before.before.before.before.before.before.before.before.before.before.before.before.before.before.before.before.before.before.before.could-be-matrix.ensures ∙ not-false _ c.before.before.before.before.before.before.before.before.before.before.before.before.before.before.before.before.before.before.if1.false) (sym c.before.before.before.before.before.before.before.before.before.before.before.before.before.before.before.before.failed-at.ensures ∙ c.before.before.before.before.before.before.before.before.before.before.before.before.before.before.before.if2.false) _ c.before.before.before.before.before.before.before.before.before.before.before.before.before.next-rows.result c.before.before.before.before.before.before.before.before.before.before.before.before.before.next-rows.ensures (rw c.before.before.before.before.before.before.before.before.cells_left.ensures at (sym c.before.before.before.before.before.before.makes-matrix.ensures ∙ c.before.before.before.before.before.if3.false)) c.before.before.before.give-up.ensures)
+returns-4 t c = rw c.rewind.ensures (try_lost c.before.before.before.before.before.before.before.before.before.before.before.before.before.before.before.before.before.before.before.before.before.before.before.before.args.i c.before.before.before.before.before.before.before.before.before.before.before.before.before.before.before.before.before.before.before.before.before.before.before.before.args.c (omega (arith, c.before.before.before.before.before.before.before.before.before.before.before.before.before.before.before.before.before.before.before.before.before.before.before.before.requires.1.1, c.before.before.before.before.before.before.before.before.before.before.before.before.before.before.before.before.before.before.before.before.before.before.before.before.requires.1.0.here)) c.before.before.before.before.before.before.before.before.before.before.before.before.before.before.before.before.before.before.before.before.before.before.before.before.requires.1.1 c.before.before.before.before.before.before.before.before.before.before.before.before.before.before.before.before.before.before.before.before.before.before.before.before.requires.1.0.here c.before.before.before.before.before.before.before.before.before.before.before.before.before.before.before.before.before.before.before.before.before.before.before.before.requires.1.0.few c.before.before.before.before.before.before.before.before.before.before.before.before.before.before.before.before.before.before.before.before.before.before.before.before.requires.1.0.fit (sym c.before.before.before.before.before.before.before.before.before.before.before.before.before.before.before.before.before.before.before.could-be-matrix.ensures ∙ not-false _ c.before.before.before.before.before.before.before.before.before.before.before.before.before.before.before.before.before.before.if1.false) (sym c.before.before.before.before.before.before.before.before.before.before.before.before.before.before.before.before.failed-at.ensures ∙ c.before.before.before.before.before.before.before.before.before.before.before.before.before.before.before.if2.false) _ c.before.before.before.before.before.before.before.before.before.before.before.before.before.next-rows.result c.before.before.before.before.before.before.before.before.before.before.before.before.before.next-rows.ensures (rw c.before.before.before.before.before.before.before.before.cells_left.ensures at (sym c.before.before.before.before.before.before.makes-matrix.ensures ∙ c.before.before.before.before.before.if3.false)) c.before.before.before.give-up.ensures)

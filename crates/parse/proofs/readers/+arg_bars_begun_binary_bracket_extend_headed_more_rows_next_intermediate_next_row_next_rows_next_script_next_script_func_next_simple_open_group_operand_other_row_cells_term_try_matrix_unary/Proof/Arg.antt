@@ -28,7 +28,7 @@ put6-requires t c κs = let S = c.before.before.before.before.before.before.befo
 
 pub add-t22 : (t : ℕ) → arg-lts.Need-overflow-add-t22 (uses t) (arg-at t) arg.Post
 add-t22 t c = let S = c.before.before.before.before.before.before.before.before.before.before.before.before.before.before.before.before.before.before in
-    omega (arith, S.requires.1.room, S.well-formed.1.1.1.1.0.0)
+    omega (arith, S.requires.1.room, S.well_formed.1.1.1.1.0.0)
 
 pub same_length : (t : ℕ) → arg-lts.Need-same-length (uses t) (arg-at t) arg.Post
 same_length t c = search rules

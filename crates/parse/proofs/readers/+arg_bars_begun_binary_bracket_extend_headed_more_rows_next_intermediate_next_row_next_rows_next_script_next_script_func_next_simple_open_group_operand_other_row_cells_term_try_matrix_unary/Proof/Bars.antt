@@ -44,7 +44,7 @@ returns t c = let S = c.before.before.before.before.before.before.before.before.
 
 pub add-extend : (t : ℕ) → bars-lts.Need-overflow-add-extend (uses t) (bars-at t) bars.Post
 add-extend t c = let S = c.before.before.before.before.before.before.before.before.before.before in
-    omega (arith, S.requires.1.0.room, S.well-formed.1.1.1.1.0.0)
+    omega (arith, S.requires.1.0.room, S.well_formed.1.1.1.1.0.0)
 
 pub extend-requires : (t : ℕ) → bars-lts.Need-extend-requires (uses t) (bars-at t) bars.Post
 extend-requires t c κs = let S = c.before.before.before.before.before.before.before.before.before.before in

@@ -14,7 +14,7 @@ uses t = (arg-below t, arg.Post, node-before-reads.Asked, node-before-reads.Lear
 
 pub add-arg : (t : ℕ) → binary-lts.Need-overflow-add-arg (uses t) (binary-at t) binary.Post
 add-arg t c = let S = c.before.before.before.before.before.before in
-    omega (arith, S.requires.1.0.room, S.well-formed.1.1.1.1.0.0)
+    omega (arith, S.requires.1.0.room, S.well_formed.1.1.1.1.0.0)
 
 pub arg-requires : (t : ℕ) → binary-lts.Need-arg-requires (uses t) (binary-at t) binary.Post
 arg-requires t c κs = let S = c.before.before.before.before.before.before in

@@ -2,7 +2,7 @@
 use Prim.Native.Nat.{ℕ, ◌-◌}
 use Rattle.parse.proofs.readers.bracket.Reads as bracket
 use Rattle.parse.proofs.readers.bars.Reads as bars
-use Rattle.parse.proofs.readers.open_group.Reads as open-group
+use Rattle.parse.proofs.readers.open_group.Reads as open_group
 use Rattle.parse.proofs.readers.try_matrix.Reads as try-matrix
 use Rattle.parse.proofs.readers.+arg_bars_begun_binary_bracket_extend_headed_more_rows_next_intermediate_next_row_next_rows_next_script_next_script_func_next_simple_open_group_operand_other_row_cells_term_try_matrix_unary.Lts-bracket as bracket-lts
 use Rattle.parse.proofs.readers.+arg_bars_begun_binary_bracket_extend_headed_more_rows_next_intermediate_next_row_next_rows_next_script_next_script_func_next_simple_open_group_operand_other_row_cells_term_try_matrix_unary.Proof.Setting.{bars-below, open-group-below, try-matrix-below, bracket-at}
@@ -12,7 +12,7 @@ use Rattle.parse.proofs.Barred.{bracket-matrix, bracket-group, bracket-bars}
 use Rattle.reading_words.proofs.Kit.{safe-kept}
 
 abbrev pub uses : ℕ → bracket-lts.Claims
-uses t = (try-matrix-below t, try-matrix.Post, open-group-below t, open-group.Post, bars-below t, bars.Post)
+uses t = (try-matrix-below t, try-matrix.Post, open-group-below t, open_group.Post, bars-below t, bars.Post)
 
 pub try-matrix-requires : (t : ℕ) → bracket-lts.Need-try-matrix-requires (uses t) (bracket-at t) bracket.Post
 try-matrix-requires t c κs = let S = c.before.before.before.before.before.before in
@@ -50,7 +50,7 @@ same-length-4 t c = search rules
 
 pub returns-2 : (t : ℕ) → bracket-lts.Need-returns-2 (uses t) (bracket-at t) bracket.Post
 returns-2 t c = let S = c.before.before.before.before.before.before.before.before.before.before.before.before.before.before.before.before.before.before.before.before.before.before in
-    bracket-group S.args.i S.args.stop (rw c.before.before.before.before.before.before.before.before.before.d2.given.1 at c.before.before.before.before.before.before.before.before.before.before.before.before.before.before.before.try-matrix.ensures) S.args.k c.before.before.before.before.before.before.before.if1.true c.before.before.before.before.open-group.ensures
+    bracket-group S.args.i S.args.stop (rw c.before.before.before.before.before.before.before.before.before.d2.given.1 at c.before.before.before.before.before.before.before.before.before.before.before.before.before.before.before.try-matrix.ensures) S.args.k c.before.before.before.before.before.before.before.if1.true c.before.before.before.before.open_group.ensures
 
 pub same-length-5 : (t : ℕ) → bracket-lts.Need-same-length-5 (uses t) (bracket-at t) bracket.Post
 same-length-5 t c = search rules

@@ -25,11 +25,11 @@ is-at-requires t c κs = search rules
 
 pub add-t16 : (t : ℕ) → headed-lts.Need-overflow-add-t16 (uses t) (headed-at t) headed.Post
 add-t16 t c = let S = c.before.before.before.before.before.before in
-    omega (arith, S.requires.1.0.room, S.well-formed.1.1.1.1.0.0)
+    omega (arith, S.requires.1.0.room, S.well_formed.1.1.1.1.0.0)
 
 pub add-next-script : (t : ℕ) → headed-lts.Need-overflow-add-next-script (uses t) (headed-at t) headed.Post
 add-next-script t c = let S = c.before.before.before.before.before.before.before.before.before in
-    omega (arith, S.requires.1.0.room, S.well-formed.1.1.1.1.0.0)
+    omega (arith, S.requires.1.0.room, S.well_formed.1.1.1.1.0.0)
 
 pub next-script-requires : (t : ℕ) → headed-lts.Need-next-script-requires (uses t) (headed-at t) headed.Post
 next-script-requires t c κs = let S = c.before.before.before.before.before.before.before.before.before in

@@ -24,7 +24,7 @@ uses t = (next-script-func-below t, next-script-func.Post, is-at-reads.Asked, is
 
 pub add-next-script-func : (t : ℕ) → next-intermediate-lts.Need-overflow-add-next-script-func (uses t) (next-intermediate-at t) next-intermediate.Post
 add-next-script-func t c = let S = c.before.before.before.before.before.before in
-    omega (arith, S.requires.1.room, S.well-formed.1.1.1.1.0.0)
+    omega (arith, S.requires.1.room, S.well_formed.1.1.1.1.0.0)
 
 pub next-script-func-requires : (t : ℕ) → next-intermediate-lts.Need-next-script-func-requires (uses t) (next-intermediate-at t) next-intermediate.Post
 next-script-func-requires t c κs = let S = c.before.before.before.before.before.before in

@@ -11,7 +11,7 @@ use Rattle.parse.proofs.readers.+arg_bars_begun_binary_bracket_extend_headed_mor
 use mathlib.Core.Path.{◌≡◌, sym, ◌∙◌}
 use native.Mathlib.Omega.{arith}
 use borrow.Author.Rules.{rules}
-use Rattle.lookahead.specs.Tests.{isKind, marksKind}
+use Rattle.lookahead.specs.Tests.{is_kind, marks_kind}
 use Rattle.lookahead.proofs.Testing.{test_below}
 use Rattle.parse.proofs.Arms.{scripts-none, scripts-super, scripts-sub, scripts-both}
 use Rattle.parse.proofs.tests.scripted.Reads as scripted-reads
@@ -42,11 +42,11 @@ is-at-requires t c κs = search rules
 
 pub next-requires : (t : ℕ) → next-script-lts.Need-next-requires (uses t) (next-script-at t) next-script.Post
 next-requires t c κs = let S = c.before.before.before.before.before.before.before.before.before.before.before.before in
-    let b = test_below S.args.tok.now S.args.work.now S.args.n marksKind S.args.c.pos (sym c.before.before.before.before.before.marks-at.ensures ∙ not-false _ c.before.before.before.before.if1.false) in omega (arith, S.requires.1.safe.few)
+    let b = test_below S.args.tok.now S.args.work.now S.args.n marks_kind S.args.c.pos (sym c.before.before.before.before.before.marks-at.ensures ∙ not-false _ c.before.before.before.before.if1.false) in omega (arith, S.requires.1.safe.few)
 
 pub arg-requires : (t : ℕ) → next-script-lts.Need-arg-requires (uses t) (next-script-at t) next-script.Post
 arg-requires t c κs = let S = c.before.before.before.before.before.before.before.before.before.before.before.before.before in
-    let b = test_below S.args.tok.now S.args.work.now S.args.n marksKind S.args.c.pos (sym c.before.before.before.before.before.before.marks-at.ensures ∙ not-false _ c.before.before.before.before.before.if1.false) in let np : c.next.result.pos ≡ S.args.c.pos + 1 = rw c.next.ensures in let nd : c.next.result.depth ≡ S.args.c.depth = rw c.next.ensures in (omega (arith, S.requires.0), record { safe = S.requires.1.safe; known = S.requires.1.known; here = omega arith; room = omega (arith, S.requires.1.room) })
+    let b = test_below S.args.tok.now S.args.work.now S.args.n marks_kind S.args.c.pos (sym c.before.before.before.before.before.before.marks-at.ensures ∙ not-false _ c.before.before.before.before.before.if1.false) in let np : c.next.result.pos ≡ S.args.c.pos + 1 = rw c.next.ensures in let nd : c.next.result.depth ≡ S.args.c.depth = rw c.next.ensures in (omega (arith, S.requires.0), record { safe = S.requires.1.safe; known = S.requires.1.known; here = omega arith; room = omega (arith, S.requires.1.room) })
 
 pub scripted-requires : (t : ℕ) → next-script-lts.Need-scripted-requires (uses t) (next-script-at t) next-script.Post
 scripted-requires t c κs = search rules
@@ -68,11 +68,11 @@ is-at-requires-2 t c κs = search rules
 
 pub next-requires-2 : (t : ℕ) → next-script-lts.Need-next-requires-2 (uses t) (next-script-at t) next-script.Post
 next-requires-2 t c κs = let S = c.before.before.before.before.before.before.before.before.before.before.before.before.before.before.before.before.before.before.before.before.before.before.before.before.before.before in
-    let b2 = test_below S.args.tok.now c.before.before.before.before.before.before.before.before.before.before.before.before.arg.new.1.1.1.0 S.args.n (isKind 1) c.before.before.before.before.before.before.before.before.before.before.before.before.arg.result.cur.pos (sym c.before.before.before.is-at2.ensures ∙ c.before.before.if3.true) in omega (arith, S.requires.1.safe.few)
+    let b2 = test_below S.args.tok.now c.before.before.before.before.before.before.before.before.before.before.before.before.arg.new.1.1.1.0 S.args.n (is_kind 1) c.before.before.before.before.before.before.before.before.before.before.before.before.arg.result.cur.pos (sym c.before.before.before.is-at2.ensures ∙ c.before.before.if3.true) in omega (arith, S.requires.1.safe.few)
 
 pub arg-requires-2 : (t : ℕ) → next-script-lts.Need-arg-requires-2 (uses t) (next-script-at t) next-script.Post
 arg-requires-2 t c κs = let S = c.before.before.before.before.before.before.before.before.before.before.before.before.before.before.before.before.before.before.before.before.before.before.before.before.before.before.before in
-    let b = test_below S.args.tok.now S.args.work.now S.args.n marksKind S.args.c.pos (sym c.before.before.before.before.before.before.before.before.before.before.before.before.before.before.before.before.before.before.before.before.marks-at.ensures ∙ not-false _ c.before.before.before.before.before.before.before.before.before.before.before.before.before.before.before.before.before.before.before.if1.false) in let np : c.before.before.before.before.before.before.before.before.before.before.before.before.before.before.next.result.pos ≡ S.args.c.pos + 1 = rw c.before.before.before.before.before.before.before.before.before.before.before.before.before.before.next.ensures in let nd : c.before.before.before.before.before.before.before.before.before.before.before.before.before.before.next.result.depth ≡ S.args.c.depth = rw c.before.before.before.before.before.before.before.before.before.before.before.before.before.before.next.ensures in let m = c.before.before.before.before.before.before.before.before.before.before.before.before.before.arg.ensures.moves in let b2 = test_below S.args.tok.now c.before.before.before.before.before.before.before.before.before.before.before.before.before.arg.new.1.1.1.0 S.args.n (isKind 1) c.before.before.before.before.before.before.before.before.before.before.before.before.before.arg.result.cur.pos (sym c.before.before.before.before.is-at2.ensures ∙ c.before.before.before.if3.true) in let np2 : c.next2.result.pos ≡ c.before.before.before.before.before.before.before.before.before.before.before.before.before.arg.result.cur.pos + 1 = rw c.next2.ensures in let nd2 : c.next2.result.depth ≡ c.before.before.before.before.before.before.before.before.before.before.before.before.before.arg.result.cur.depth = rw c.next2.ensures in (omega (arith, S.requires.0, m.depth), record { safe = safe-kept m.kept S.requires.1.safe; known = m.known; here = omega arith; room = omega (arith, S.requires.1.room, m.room, m.long, m.on) })
+    let b = test_below S.args.tok.now S.args.work.now S.args.n marks_kind S.args.c.pos (sym c.before.before.before.before.before.before.before.before.before.before.before.before.before.before.before.before.before.before.before.before.marks-at.ensures ∙ not-false _ c.before.before.before.before.before.before.before.before.before.before.before.before.before.before.before.before.before.before.before.if1.false) in let np : c.before.before.before.before.before.before.before.before.before.before.before.before.before.before.next.result.pos ≡ S.args.c.pos + 1 = rw c.before.before.before.before.before.before.before.before.before.before.before.before.before.before.next.ensures in let nd : c.before.before.before.before.before.before.before.before.before.before.before.before.before.before.next.result.depth ≡ S.args.c.depth = rw c.before.before.before.before.before.before.before.before.before.before.before.before.before.before.next.ensures in let m = c.before.before.before.before.before.before.before.before.before.before.before.before.before.arg.ensures.moves in let b2 = test_below S.args.tok.now c.before.before.before.before.before.before.before.before.before.before.before.before.before.arg.new.1.1.1.0 S.args.n (is_kind 1) c.before.before.before.before.before.before.before.before.before.before.before.before.before.arg.result.cur.pos (sym c.before.before.before.before.is-at2.ensures ∙ c.before.before.before.if3.true) in let np2 : c.next2.result.pos ≡ c.before.before.before.before.before.before.before.before.before.before.before.before.before.arg.result.cur.pos + 1 = rw c.next2.ensures in let nd2 : c.next2.result.depth ≡ c.before.before.before.before.before.before.before.before.before.before.before.before.before.arg.result.cur.depth = rw c.next2.ensures in (omega (arith, S.requires.0, m.depth), record { safe = safe-kept m.kept S.requires.1.safe; known = m.known; here = omega arith; room = omega (arith, S.requires.1.room, m.room, m.long, m.on) })
 
 pub scripted-requires-2 : (t : ℕ) → next-script-lts.Need-scripted-requires-2 (uses t) (next-script-at t) next-script.Post
 scripted-requires-2 t c κs = search rules

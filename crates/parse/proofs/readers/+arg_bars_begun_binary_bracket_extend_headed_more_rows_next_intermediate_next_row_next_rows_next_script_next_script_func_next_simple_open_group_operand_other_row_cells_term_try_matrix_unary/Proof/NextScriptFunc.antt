@@ -16,7 +16,7 @@ use mathlib.Core.Path.{◌≡◌, sym, ap, ◌∙◌}
 use native.Mathlib.Omega.{arith}
 use borrow.Author.Rules.{rules}
 use borrow.Author.Tests.{leb-true, leb-false}
-use Rattle.lookahead.specs.Tests.{headsKind}
+use Rattle.lookahead.specs.Tests.{heads_kind}
 use Rattle.lookahead.proofs.Testing.{test_below}
 use Rattle.parse.specs.Meet.{inner}
 use Rattle.parse.proofs.Scripting.{script-deep, script-back, script-headed}
@@ -36,7 +36,7 @@ heads-at-requires t c κs = search rules
 
 pub next-requires : (t : ℕ) → next-script-func-lts.Need-next-requires (uses t) (next-script-func-at t) next-script-func.Post
 next-requires t c κs = let S = c.before.before.before.before.before.before.before.before.before.before.before.before in
-    let b = test_below S.args.tok.now S.args.work.now S.args.n (headsKind S.args.sign) S.args.c.pos (sym c.before.before.before.heads-at.ensures ∙ c.before.before.if2.true) in omega (arith, S.requires.1.safe.few)
+    let b = test_below S.args.tok.now S.args.work.now S.args.n (heads_kind S.args.sign) S.args.c.pos (sym c.before.before.before.heads-at.ensures ∙ c.before.before.if2.true) in omega (arith, S.requires.1.safe.few)
 
 pub deeper-requires : (t : ℕ) → next-script-func-lts.Need-deeper-requires (uses t) (next-script-func-at t) next-script-func.Post
 deeper-requires t c κs = let S = c.before.before.before.before.before.before.before.before.before.before.before.before.before in
@@ -44,7 +44,7 @@ deeper-requires t c κs = let S = c.before.before.before.before.before.before.be
 
 pub headed-requires : (t : ℕ) → next-script-func-lts.Need-headed-requires (uses t) (next-script-func-at t) next-script-func.Post
 headed-requires t c κs = let S = c.before.before.before.before.before.before.before.before.before.before.before.before.before.before in
-    let b = test_below S.args.tok.now S.args.work.now S.args.n (headsKind S.args.sign) S.args.c.pos (sym c.before.before.before.before.before.heads-at.ensures ∙ c.before.before.before.before.if2.true) in let nd : c.deeper.result.depth ≡ S.args.c.depth + 1 = rw (c.deeper.ensures, c.before.next.ensures) in let np : c.deeper.result.pos ≡ S.args.c.pos + 1 = rw (c.deeper.ensures, c.before.next.ensures) in (omega (arith, S.requires.0, leb-false 256 S.args.c.depth (sym c.before.before.before.before.before.before.before.before.before.too-deep.ensures ∙ c.before.before.before.before.before.before.before.before.if1.false)), (record { safe = S.requires.1.safe; known = S.requires.1.known; here = omega arith; room = omega (arith, S.requires.1.room) }, b))
+    let b = test_below S.args.tok.now S.args.work.now S.args.n (heads_kind S.args.sign) S.args.c.pos (sym c.before.before.before.before.before.heads-at.ensures ∙ c.before.before.before.before.if2.true) in let nd : c.deeper.result.depth ≡ S.args.c.depth + 1 = rw (c.deeper.ensures, c.before.next.ensures) in let np : c.deeper.result.pos ≡ S.args.c.pos + 1 = rw (c.deeper.ensures, c.before.next.ensures) in (omega (arith, S.requires.0, leb-false 256 S.args.c.depth (sym c.before.before.before.before.before.before.before.before.before.too-deep.ensures ∙ c.before.before.before.before.before.before.before.before.if1.false)), (record { safe = S.requires.1.safe; known = S.requires.1.known; here = omega arith; room = omega (arith, S.requires.1.room) }, b))
 
 pub at-depth-requires : (t : ℕ) → next-script-func-lts.Need-at-depth-requires (uses t) (next-script-func-at t) next-script-func.Post
 at-depth-requires t c κs = search rules

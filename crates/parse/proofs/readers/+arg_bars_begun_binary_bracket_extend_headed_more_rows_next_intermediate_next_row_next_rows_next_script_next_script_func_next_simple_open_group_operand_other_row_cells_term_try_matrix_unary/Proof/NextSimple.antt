@@ -14,7 +14,7 @@ use mathlib.Core.Path.{◌≡◌, sym, ◌∙◌}
 use native.Mathlib.Omega.{arith}
 use borrow.Author.Rules.{rules}
 use borrow.Author.Tests.{leb-true, leb-false}
-use Rattle.lookahead.specs.Tests.{beginsKind}
+use Rattle.lookahead.specs.Tests.{begins_kind}
 use Rattle.lookahead.proofs.Testing.{test_below}
 use Rattle.parse.proofs.Begins.{simple-nothing, simple-begun}
 use Rattle.parse.proofs.Scripting.{simple-deep}
@@ -34,7 +34,7 @@ begins-at-requires t c κs = search rules
 
 pub next-requires : (t : ℕ) → next-simple-lts.Need-next-requires (uses t) (next-simple-at t) next-simple.Post
 next-requires t c κs = let S = c.before.before.before.before.before.before.before.before.before.before.before.before in
-    let b = test_below S.args.tok.now S.args.work.now S.args.n (beginsKind S.args.stop) S.args.c.pos (sym c.before.before.before.begins-at.ensures ∙ c.before.before.if2.true) in omega (arith, S.requires.1.safe.few)
+    let b = test_below S.args.tok.now S.args.work.now S.args.n (begins_kind S.args.stop) S.args.c.pos (sym c.before.before.before.begins-at.ensures ∙ c.before.before.if2.true) in omega (arith, S.requires.1.safe.few)
 
 pub deeper-requires : (t : ℕ) → next-simple-lts.Need-deeper-requires (uses t) (next-simple-at t) next-simple.Post
 deeper-requires t c κs = let S = c.before.before.before.before.before.before.before.before.before.before.before.before.before in
@@ -42,7 +42,7 @@ deeper-requires t c κs = let S = c.before.before.before.before.before.before.be
 
 pub begun-requires : (t : ℕ) → next-simple-lts.Need-begun-requires (uses t) (next-simple-at t) next-simple.Post
 begun-requires t c κs = let S = c.before.before.before.before.before.before.before.before.before.before.before.before.before.before in
-    let b = test_below S.args.tok.now S.args.work.now S.args.n (beginsKind S.args.stop) S.args.c.pos (sym c.before.before.before.before.before.begins-at.ensures ∙ c.before.before.before.before.if2.true) in let nd : c.deeper.result.depth ≡ S.args.c.depth + 1 = rw (c.deeper.ensures, c.before.next.ensures) in let np : c.deeper.result.pos ≡ S.args.c.pos + 1 = rw (c.deeper.ensures, c.before.next.ensures) in (omega (arith, S.requires.0, leb-false 256 S.args.c.depth (sym c.before.before.before.before.before.before.before.before.before.too-deep.ensures ∙ c.before.before.before.before.before.before.before.before.if1.false)), (record { safe = S.requires.1.safe; known = S.requires.1.known; here = omega arith; room = omega (arith, S.requires.1.room) }, (sym c.before.before.before.before.before.begins-at.ensures ∙ c.before.before.before.before.if2.true, b)))
+    let b = test_below S.args.tok.now S.args.work.now S.args.n (begins_kind S.args.stop) S.args.c.pos (sym c.before.before.before.before.before.begins-at.ensures ∙ c.before.before.before.before.if2.true) in let nd : c.deeper.result.depth ≡ S.args.c.depth + 1 = rw (c.deeper.ensures, c.before.next.ensures) in let np : c.deeper.result.pos ≡ S.args.c.pos + 1 = rw (c.deeper.ensures, c.before.next.ensures) in (omega (arith, S.requires.0, leb-false 256 S.args.c.depth (sym c.before.before.before.before.before.before.before.before.before.too-deep.ensures ∙ c.before.before.before.before.before.before.before.before.if1.false)), (record { safe = S.requires.1.safe; known = S.requires.1.known; here = omega arith; room = omega (arith, S.requires.1.room) }, (sym c.before.before.before.before.before.begins-at.ensures ∙ c.before.before.before.before.if2.true, b)))
 
 pub found-requires : (t : ℕ) → next-simple-lts.Need-found-requires (uses t) (next-simple-at t) next-simple.Post
 found-requires t c κs = search rules

@@ -8,7 +8,7 @@ use Rattle.parse.proofs.readers.+arg_bars_begun_binary_bracket_extend_headed_mor
 use mathlib.Core.Path.{ap}
 use native.Mathlib.Omega.{arith}
 use borrow.Author.Rules.{rules}
-use Rattle.parse.proofs.Arms.{operand-found, operand-missing}
+use Rattle.parse.proofs.Arms.{operand_found, operand_missing}
 use mathlib.Core.List.{[], ◌∷◌}
 use lib.ListN.{length}
 use lib.Seq.{length-sets}
@@ -32,7 +32,7 @@ put6-requires t c κs = let S = c.before.before.before.before.before.before.befo
 
 pub add-put6 : (t : ℕ) → operand-lts.Need-overflow-add-put6 (uses t) (operand_at t) operand.Post
 add-put6 t c = let S = c.before.before.before.before.before.before.before.before.before.before.before.before.before.before.before.before.before.before.before in
-    omega (arith, S.requires.1.room, S.well-formed.1.1.1.1.0.0)
+    omega (arith, S.requires.1.room, S.well_formed.1.1.1.1.0.0)
 
 pub put6-requires-2 : (t : ℕ) → operand-lts.Need-put6-requires-2 (uses t) (operand_at t) operand.Post
 put6-requires-2 t c κs = let S = c.before.before.before.before.before.before.before.before.before.before.before.before.before.before.before.before.before.before.before in
@@ -40,7 +40,7 @@ put6-requires-2 t c κs = let S = c.before.before.before.before.before.before.be
 
 pub add-t24 : (t : ℕ) → operand-lts.Need-overflow-add-t24 (uses t) (operand_at t) operand.Post
 add-t24 t c = let S = c.before.before.before.before.before.before.before.before.before.before.before.before.before.before.before.before.before.before.before.before.before.before in
-    omega (arith, S.requires.1.room, S.well-formed.1.1.1.1.0.0)
+    omega (arith, S.requires.1.room, S.well_formed.1.1.1.1.0.0)
 
 pub same_length : (t : ℕ) → operand-lts.Need-same-length (uses t) (operand_at t) operand.Post
 same_length t c = search rules
@@ -50,7 +50,7 @@ same-length-2 t c = search rules
 
 pub returns : (t : ℕ) → operand-lts.Need-returns (uses t) (operand_at t) operand.Post
 returns t c = let S = c.before.before.before.before.before.before.before.before.before.before.before.before.before.before in
-    operand-found S.args.stop (rw c.before.d.given.1 at c.before.before.before.before.before.before.before.next-script-func.ensures)
+    operand_found S.args.stop (rw c.before.d.given.1 at c.before.before.before.before.before.before.before.next-script-func.ensures)
 
 pub same-length-3 : (t : ℕ) → operand-lts.Need-same-length-3 (uses t) (operand_at t) operand.Post
 same-length-3 t c = search rules
@@ -60,4 +60,4 @@ same-length-4 t c = search rules
 
 pub returns-2 : (t : ℕ) → operand-lts.Need-returns-2 (uses t) (operand_at t) operand.Post
 returns-2 t c = let S = c.before.before.before.before.before.before.before.before.before.before.before.before.before.before.before.before.before.before.before.before.before.before in
-    operand-missing S.args.stop (rw c.before.before.before.before.before.before.before.before.before.d2.given.1 at c.before.before.before.before.before.before.before.before.before.before.before.before.before.before.before.next-script-func.ensures) c.before.before.before.before.before.before.put6.ensures c.before.before.put62.ensures (omega (arith, S.requires.1.room))
+    operand_missing S.args.stop (rw c.before.before.before.before.before.before.before.before.before.d2.given.1 at c.before.before.before.before.before.before.before.before.before.before.before.before.before.before.before.next-script-func.ensures) c.before.before.before.before.before.before.put6.ensures c.before.before.put62.ensures (omega (arith, S.requires.1.room))

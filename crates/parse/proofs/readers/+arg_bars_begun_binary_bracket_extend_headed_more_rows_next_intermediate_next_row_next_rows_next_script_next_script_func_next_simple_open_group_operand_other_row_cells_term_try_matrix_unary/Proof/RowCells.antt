@@ -33,7 +33,7 @@ cells-holds t c = let S = c.before.before.before.before in
 
 pub add-extend : (t : ℕ) → row-cells-lts.Need-overflow-add-extend (uses t) (row-cells-at t) row-cells.Post Inv-cells μ-cells
 add-extend t c = let S = c.before.before.before.before.before.before.before in
-    let v = c.before.before.cells.invariant.moves in omega (arith, S.requires.1.room, v.room, S.well-formed.1.1.1.1.0.0)
+    let v = c.before.before.cells.invariant.moves in omega (arith, S.requires.1.room, v.room, S.well_formed.1.1.1.1.0.0)
 
 pub extend-requires : (t : ℕ) → row-cells-lts.Need-extend-requires (uses t) (row-cells-at t) row-cells.Post Inv-cells μ-cells
 extend-requires t c κs = let S = c.before.before.before.before.before.before.before in

@@ -14,7 +14,7 @@ use Rattle.parse.proofs.readers.next_row.Reads as next_row
 use Rattle.parse.proofs.readers.next_rows.Reads as next-rows
 use Rattle.parse.proofs.readers.other.Reads as other
 use Rattle.parse.proofs.readers.term.Reads as term
-use Rattle.parse.proofs.readers.open_group.Reads as open-group
+use Rattle.parse.proofs.readers.open_group.Reads as open_group
 use Rattle.parse.proofs.readers.next_script.Reads as next-script
 use Rattle.parse.proofs.readers.arg.Reads as arg
 use Rattle.parse.proofs.readers.next_script_func.Reads as next-script-func
@@ -157,10 +157,10 @@ abbrev pub μ-open-group : Measures 4 open-group-kinds.ps ℕ
 μ-open-group κs a = 11 * (256 - a.1.1.1.1.1.0.depth) + 4
 
 abbrev pub open-group-at : ℕ → In 4 open-group-kinds.ps
-open-group-at t = and 4 open-group-kinds.ps (is 4 open-group-kinds.ps μ-open-group t) open-group.Pre
+open-group-at t = and 4 open-group-kinds.ps (is 4 open-group-kinds.ps μ-open-group t) open_group.Pre
 
 abbrev pub open-group-below : ℕ → In 4 open-group-kinds.ps
-open-group-below t = and 4 open-group-kinds.ps (falls 4 open-group-kinds.ps ◌<◌ μ-open-group t) open-group.Pre
+open-group-below t = and 4 open-group-kinds.ps (falls 4 open-group-kinds.ps ◌<◌ μ-open-group t) open_group.Pre
 
 abbrev pub μ-next-script : Measures 4 next-script-kinds.ps ℕ
 μ-next-script κs a = 11 * (256 - a.1.1.1.1.1.0.depth) + 2

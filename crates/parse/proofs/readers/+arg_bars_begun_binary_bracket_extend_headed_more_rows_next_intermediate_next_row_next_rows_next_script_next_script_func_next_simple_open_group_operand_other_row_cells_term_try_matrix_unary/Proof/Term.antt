@@ -13,7 +13,7 @@ use native.Mathlib.Omega.{arith}
 use borrow.Author.Rules.{rules}
 use borrow.Author.Tests.{not-true}
 use Rattle.parse.proofs.Arms.{scripts-none}
-use Rattle.parse.proofs.Scripting.{term-nothing, term-scripted}
+use Rattle.parse.proofs.Scripting.{term_nothing, term_scripted}
 use Rattle.reading_words.proofs.Kit.{safe-kept}
 
 abbrev pub uses : ℕ → term-lts.Claims
@@ -21,7 +21,7 @@ uses t = (next-simple-below t, next-simple.Post, marks-at-reads.Asked, marks-at-
 
 pub add-next-simple : (t : ℕ) → term-lts.Need-overflow-add-next-simple (uses t) (term-at t) term.Post
 add-next-simple t c = let S = c.before.before.before.before.before.before in
-    omega (arith, S.requires.1.room, S.well-formed.1.1.1.1.0.0)
+    omega (arith, S.requires.1.room, S.well_formed.1.1.1.1.0.0)
 
 pub next-simple-requires : (t : ℕ) → term-lts.Need-next-simple-requires (uses t) (term-at t) term.Post
 next-simple-requires t c κs = let S = c.before.before.before.before.before.before in
@@ -54,7 +54,7 @@ same-length-2 t c = search rules
 
 pub returns : (t : ℕ) → term-lts.Need-returns (uses t) (term-at t) term.Post
 returns t c = let S = c.before.before.before.before.before.before.before.before.before.before.before.before.before.before.before.before.before.before.before.before.before.before.before in
-    let p = (rw c.before.before.before.before.before.before.before.before.before.before.d2.given.1 at c.before.before.before.before.before.before.before.before.before.before.before.before.before.before.before.before.next-simple.ensures) in rw c.look.ensures (term-scripted S.args.stop S.args.sign S.requires.1.room p (scripts-none (sym c.before.before.before.before.before.before.marks-at.ensures ∙ not-true _ c.before.before.before.before.before.if1.true) p.0.within p.0.known) c.before.before.before.put6.ensures)
+    let p = (rw c.before.before.before.before.before.before.before.before.before.before.d2.given.1 at c.before.before.before.before.before.before.before.before.before.before.before.before.before.before.before.before.next-simple.ensures) in rw c.look.ensures (term_scripted S.args.stop S.args.sign S.requires.1.room p (scripts-none (sym c.before.before.before.before.before.before.marks-at.ensures ∙ not-true _ c.before.before.before.before.before.if1.true) p.0.within p.0.known) c.before.before.before.put6.ensures)
 
 pub next-script-requires : (t : ℕ) → term-lts.Need-next-script-requires (uses t) (term-at t) term.Post
 next-script-requires t c κs = let S = c.before.before.before.before.before.before.before.before.before.before.before.before.before.before.before.before.before.before.before.before in
@@ -72,7 +72,7 @@ same-length-4 t c = search rules
 
 pub returns-2 : (t : ℕ) → term-lts.Need-returns-2 (uses t) (term-at t) term.Post
 returns-2 t c = let S = c.before.before.before.before.before.before.before.before.before.before.before.before.before.before in
-    term-nothing S.args.stop S.args.sign S.requires.1.room (rw c.before.d.given.1 at c.before.before.before.before.before.before.before.next-simple.ensures)
+    term_nothing S.args.stop S.args.sign S.requires.1.room (rw c.before.d.given.1 at c.before.before.before.before.before.before.before.next-simple.ensures)
 
 pub same-length-5 : (t : ℕ) → term-lts.Need-same-length-5 (uses t) (term-at t) term.Post
 same-length-5 t c = omega (arith, c.before.before.before.before.before.before.before.before.before.before.before.before.before.before.before.before.before.before.before.before.before.before.before.next-simple.auto.1.1.1.0, c.before.before.before.before.before.before.before.before.before.next-script.auto.1.1.1.0)
@@ -82,4 +82,4 @@ same-length-6 t c = omega (arith, c.before.before.before.before.before.before.be
 
 pub returns-3 : (t : ℕ) → term-lts.Need-returns-3 (uses t) (term-at t) term.Post
 returns-3 t c = let S = c.before.before.before.before.before.before.before.before.before.before.before.before.before.before.before.before.before.before.before.before.before.before.before.before.before.before.before.before.before.before in
-    term-scripted S.args.stop S.args.sign S.requires.1.room (rw c.before.before.before.before.before.before.before.before.before.before.before.before.before.before.before.before.before.d2.given.1 at c.before.before.before.before.before.before.before.before.before.before.before.before.before.before.before.before.before.before.before.before.before.before.before.next-simple.ensures) c.before.before.before.before.before.before.before.before.before.next-script.ensures c.before.before.put62.ensures
+    term_scripted S.args.stop S.args.sign S.requires.1.room (rw c.before.before.before.before.before.before.before.before.before.before.before.before.before.before.before.before.before.d2.given.1 at c.before.before.before.before.before.before.before.before.before.before.before.before.before.before.before.before.before.before.before.before.before.before.before.next-simple.ensures) c.before.before.before.before.before.before.before.before.before.next-script.ensures c.before.before.put62.ensures

@@ -1,7 +1,7 @@
 -- Each class by its case.
 use mathlib.Core.Path.{ap, sym}
 use borrow.Author.Rules.{rules}
-use Rattle.tokens.specs.Kinds.{classNumber}
+use Rattle.tokens.specs.Kinds.{class_number}
 use Rattle.tokens.proofs.token.SymbolClass.number.Statement.{statement}
 use Rattle.tokens.proofs.token.SymbolClass.number.Tie as tie
 
@@ -30,28 +30,28 @@ enum-told-8 : tie.Need-enum-told-8
 enum-told-8 c = search rules
 
 returns : tie.Need-returns
-returns c = ap classNumber (sym c.enum_told.given.1)
+returns c = ap class_number (sym c.enum_told.given.1)
 
 returns-2 : tie.Need-returns-2
-returns-2 c = ap classNumber (sym c.enum-told2.given.1)
+returns-2 c = ap class_number (sym c.enum-told2.given.1)
 
 returns-3 : tie.Need-returns-3
-returns-3 c = ap classNumber (sym c.enum-told3.given.1)
+returns-3 c = ap class_number (sym c.enum-told3.given.1)
 
 returns-4 : tie.Need-returns-4
-returns-4 c = ap classNumber (sym c.enum-told4.given.1)
+returns-4 c = ap class_number (sym c.enum-told4.given.1)
 
 returns-5 : tie.Need-returns-5
-returns-5 c = ap classNumber (sym c.enum-told5.given.1)
+returns-5 c = ap class_number (sym c.enum-told5.given.1)
 
 returns-6 : tie.Need-returns-6
-returns-6 c = ap classNumber (sym c.enum-told6.given.1)
+returns-6 c = ap class_number (sym c.enum-told6.given.1)
 
 returns-7 : tie.Need-returns-7
-returns-7 c = ap classNumber (sym c.enum-told7.given.1)
+returns-7 c = ap class_number (sym c.enum-told7.given.1)
 
 returns-8 : tie.Need-returns-8
-returns-8 c = ap classNumber (sym c.enum-told8.given.1)
+returns-8 c = ap class_number (sym c.enum-told8.given.1)
 
 pub number-spec : {M : Type 1} → statement M
 number-spec =

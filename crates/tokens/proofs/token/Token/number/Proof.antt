@@ -5,14 +5,14 @@ use native.Mathlib.Omega.{arith}
 use borrow.Author.Rules.{rules}
 use Rattle.tokens.specs.declared.token.SymbolClass.{SymbolClass}
 use Rattle.tokens.specs.declared.token.SymbolClass.TheVariants as class
-use Rattle.tokens.specs.Kinds.{number_of, classNumber}
+use Rattle.tokens.specs.Kinds.{number_of, class_number}
 use Rattle.tokens.proofs.token.Token.number.Statement.{statement}
 use Rattle.tokens.proofs.token.Token.number.Tie as tie
 use Rattle.tokens.proofs.token.Token.number.Reads as reads
 use Rattle.tokens.proofs.token.Token.number.Lts as lts
 use Rattle.tokens.proofs.token.SymbolClass.number.Reads as number-reads
 
-class-small : (c : SymbolClass) → classNumber c ≤ 7
+class-small : (c : SymbolClass) → class_number c ≤ 7
 class-small class.Glyph = omega arith
 class-small class.Name = omega arith
 class-small class.Joining = omega arith

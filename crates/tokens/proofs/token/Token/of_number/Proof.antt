@@ -5,7 +5,7 @@ use native.Mathlib.Omega.{arith}
 use lib.ListN.{get_or-eq_default}
 use borrow.Author.Rules.{rules}
 use Rattle.tokens.specs.declared.token.Token.TheVariants.{Space}
-use Rattle.tokens.specs.Kinds.{kinds, tokenOf}
+use Rattle.tokens.specs.Kinds.{kinds, token_of}
 use Rattle.tokens.proofs.token.Token.of_number.Statement.{statement}
 use Rattle.tokens.proofs.token.Token.of_number.Tie as tie
 use Rattle.tokens.proofs.token.Token.of_number.Reads as reads
@@ -40,28 +40,28 @@ returns-8 : tie.Need-returns-8
 returns-8 c = search rules
 
 returns-9 : tie.Need-returns-9
-returns-9 c = ap tokenOf (sym c.match.keys9)
+returns-9 c = ap token_of (sym c.match.keys9)
 
 returns-10 : tie.Need-returns-10
-returns-10 c = ap tokenOf (sym c.match.keys10)
+returns-10 c = ap token_of (sym c.match.keys10)
 
 returns-11 : tie.Need-returns-11
-returns-11 c = ap tokenOf (sym c.match.keys11)
+returns-11 c = ap token_of (sym c.match.keys11)
 
 returns-12 : tie.Need-returns-12
-returns-12 c = ap tokenOf (sym c.match.keys12)
+returns-12 c = ap token_of (sym c.match.keys12)
 
 returns-13 : tie.Need-returns-13
-returns-13 c = ap tokenOf (sym c.match.keys13)
+returns-13 c = ap token_of (sym c.match.keys13)
 
 returns-14 : tie.Need-returns-14
-returns-14 c = ap tokenOf (sym c.match.keys14)
+returns-14 c = ap token_of (sym c.match.keys14)
 
 returns-15 : tie.Need-returns-15
-returns-15 c = ap tokenOf (sym c.match.keys15)
+returns-15 c = ap token_of (sym c.match.keys15)
 
 returns-16 : tie.Need-returns-16
-returns-16 c = ap tokenOf (sym c.match.keys16)
+returns-16 c = ap token_of (sym c.match.keys16)
 
 returns-17 : tie.Need-returns-17
 returns-17 c = search rules
