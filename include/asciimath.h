@@ -1,8 +1,8 @@
 /* The proved AsciiMath reader, for C.
  *
- * `rt staticlib asciimath` writes target/staticlib/libasciimath.a; it needs nothing but memset and memcpy.
+ * `rt lib` in crates/asciimath writes out/libasciimath.a there; it needs nothing but memset and memcpy.
  *
- *     cc -I include program.c target/staticlib/libasciimath.a
+ *     cc -I include program.c crates/asciimath/out/libasciimath.a
  *
  * ## A call
  *
@@ -25,7 +25,8 @@
  * work and tree that it is lent. One letter takes 0.1 microseconds in buffers for its one byte and 5 in
  * buffers for 4,096 tokens, several times as much where those words are not in the cache. The table,
  * closers and output cost nothing more if they are longer. A table for as many tokens as the text has
- * bytes is quickest: a shorter one has the tokens counted first.
+ * bytes is quickest: a shorter one has the tokens counted first. (These times, and the stack below, are
+ * of an archive that an older kit built, not measured again with today's.)
  *
  * ## Threads and stack
  *

@@ -129,22 +129,23 @@ def main():
     os.makedirs(repo, exist_ok=True)
     below = crates_below("reading")
     for crate in below:
-        shutil.copytree(os.path.join(ROOT, "crates", crate), os.path.join(repo, "crates", crate), dirs_exist_ok=True)
+        there = os.path.join(repo, "crates", crate)
+        shutil.copytree(os.path.join(ROOT, "crates", crate), there, ignore=shutil.ignore_patterns("out"), dirs_exist_ok=True)
     with open(os.path.join(repo, "crates.txt"), "w") as f:
         f.writelines(f"{crate}: {' '.join(deps)}\n" for crate, deps in below.items())
         f.write(f"compare: {' '.join(below)}\n")
     base = os.path.join(repo, "crates", "compare")
     os.makedirs(os.path.join(base, "src"), exist_ok=True)
-    os.makedirs(os.path.join(base, "specs"), exist_ok=True)
+    os.makedirs(os.path.join(base, "proofs"), exist_ok=True)
     with open(os.path.join(base, "src", "lib.rt"), "w") as f:
-        f.write("// Cases of the Rust original.\n")
+        f.write("// Cases of the Rust original.\n#![tactic(auto)]\n")
     # the definitions that a computed reading opens: those of the theorem on the starred strings
     with open(os.path.join(ROOT, "crates", "reading", "proofs", "Starred.antt"), encoding="utf-8") as f:
         starred = f.read()
     words = starred.split("starred-strings :")[1].split("unfolding")[1].split("starred-strings =")[0].split()
     opened = " ".join(w for w in words if w not in ("read", "said", "starred"))
-    uses = "\n".join(l for l in starred.split("\n") if l.startswith("use ") and "the-variants.{" not in l)
-    uses = uses.replace("Rattle·reading·specs.specs.", "Rattle·reading.specs.").replace("readText,", "readText, readTokens, closersOf,")
+    uses = "\n".join(l for l in starred.split("\n") if l.startswith("use ") and "TheVariants.{" not in l)
+    uses = uses.replace("read_text,", "read_text, read_tokens, closers_of,")
     mods = []
     for n in range(0, len(cases), PER_TABLE):
         name = f"Cases{n // PER_TABLE}"
@@ -155,20 +156,20 @@ def main():
             first = dict(f.split("=") for f in lines[0].split())
             data = "".join(f"{b} ∷ " for b in text.encode()) + "[]"
             lex = "".join(f"lexeme {s} {l} {token(k)} ∷ " for s, l, k in real) + "[]"
-            left.append(f"readTokens ({data}) ({lex})" if toks is not None else f"readText ({data})")
+            left.append(f"read_tokens ({data}) ({lex})" if toks is not None else f"read_text ({data})")
             right.append(f"record {{ tree = {tree_term(lines[1:])}; takes = {first['takes']} }}")
-            pairs.append(f"closersOf ({data}) ({lex})")
+            pairs.append(f"closers_of ({data}) ({lex})")
             places.append("(" + "".join(f"{place} ∷ " for place in closers.split()) + "[])")
-        with open(os.path.join(base, "specs", name + ".antt"), "w", encoding="utf-8") as f:
-            f.write(uses + "\nuse Rattle·tokens.specs.declared.token.Token.the-variants as token\n")
+        with open(os.path.join(base, "proofs", name + ".antt"), "w", encoding="utf-8") as f:
+            f.write(uses + "\nuse Rattle.tokens.specs.declared.token.Token.TheVariants as token\n")
             f.write("\nabbrev at : ℕ → ℕ → Span\nat s n = record { start = s; len = n }\n\n")
-            f.write("cases : _≡_ {A = List Reading}\n    (" + " ∷\n    ".join(left) + " ∷ [])\n    (")
+            f.write("cases : ◌≡◌ {A = List Reading}\n    (" + " ∷\n    ".join(left) + " ∷ [])\n    (")
             f.write(" ∷\n    ".join(right) + " ∷ [])\nunfolding " + opened + "\ncases = refl\n\n")
-            f.write("closers : _≡_ {A = List (List ℕ)}\n    (" + " ∷\n    ".join(pairs) + " ∷ [])\n    (")
-            f.write(" ∷\n    ".join(places) + " ∷ [])\nunfolding closersOf " + opened + "\nclosers = refl\n")
-    with open(os.path.join(base, "specs", "Lib.antt"), "w") as f:
+            f.write("closers : ◌≡◌ {A = List (List ℕ)}\n    (" + " ∷\n    ".join(pairs) + " ∷ [])\n    (")
+            f.write(" ∷\n    ".join(places) + " ∷ [])\nunfolding closers_of " + opened + "\nclosers = refl\n")
+    with open(os.path.join(base, "proofs", "Lib.antt"), "w") as f:
         f.write("".join(mods))
-    ran = subprocess.run(["rt", "check", "compare"], cwd=repo, capture_output=True, text=True)
+    ran = subprocess.run(["rt", "check"], cwd=base, stdout=subprocess.PIPE, stderr=subprocess.STDOUT, text=True)
     errors = [l for l in ran.stdout.split("\n") if "error" in l]
     print("\n".join(l[:400] for l in errors[:10]))
     print(f"{len(lists)} token lists and {len(texts)} texts, seed {opts.seed}: {'all alike' if ran.returncode == 0 else 'DIFFERENT'}")

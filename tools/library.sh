@@ -9,7 +9,7 @@ archive() {
     fi
     local root said
     root=$(cd "$(dirname "${BASH_SOURCE[0]}")/.." && pwd)
-    echo "rt staticlib asciimath" >&2
-    said=$(cd "$root" && rt staticlib asciimath 2>&1) || { printf '%s\n' "$said" >&2; return 1; }
-    echo "$root/target/staticlib/libasciimath.a"
+    echo "rt lib, in crates/asciimath" >&2
+    said=$(cd "$root/crates/asciimath" && rt lib 2>&1) || { printf '%s\n' "$said" >&2; return 1; }
+    echo "$root/crates/asciimath/out/libasciimath.a"
 }

@@ -1,6 +1,6 @@
 #!/usr/bin/env python3
-# Writes src/forms.rt of crates/mathml_forms, and the proofs that go with its rows, from the table of crates/mathml_rules/specs/Forms.antt.
-# Run in the repository: python3 tools/make_mathml_forms.py && rt fmt
+# Writes src/forms.rt of crates/mathml_forms, and the answers of its two functions (proofs/forms), from the table of
+# crates/mathml_rules/specs/Forms.antt. Run in the repository: python3 tools/make_mathml_forms.py && cd crates/mathml_forms && rt fmt
 import os
 import re
 
@@ -50,15 +50,16 @@ def arm(spelling, form):
 
 src = """// The display forms by their spellings, each as one number: a form's bytes behind a 1, so that the empty form is 1; 0 is no form. The rows
 // are written by tools/make_mathml_forms.py.
+ghost use Rattle.std.specs.Prelude.{◌≡◌};
+ghost use Rattle.mathml_forms.specs.Words.{form_word, key_word};
+
 use crate::equal::same_bytes;
 use crate::key::key_of;
-ghost use mathlib.Core.Path.{_≡_};
-ghost use Rattle·mathml_forms·specs.specs.Words.{formWord, keyWord};
 
 const MOST_WITH_KEY: usize = 9;
 
 fn short_word(key: u64) -> u64
-    ensures { λ r. ⌜ r ≡ keyWord key ⌝ }
+    ensures { result ≡ key_word key }
 {
     match key {
 """
@@ -68,7 +69,7 @@ src += """        _ => 0,
 }
 
 pub fn form_word(s: &[u8]) -> u64
-    ensures { λ r. ⌜ r ≡ formWord (now (s .entry)) ⌝ }
+    ensures { result ≡ form_word s.now }
 {
     if s.len() <= MOST_WITH_KEY {
         return short_word(key_of(s));
@@ -82,87 +83,67 @@ src += """    0
 write("src/forms.rt", src)
 print(len(short), "rows with a key,", len(long), "without")
 
-P = "Rattle·mathml_forms·proofs.proofs"
+P = "Rattle.mathml_forms.proofs"
 
 
 def head(comment, uses, fn):
-    return (
-        "-- %s Written by tools/make_mathml_forms.py.\n" % comment
-        + "".join("use %s\n" % u for u in uses)
-        + "use %s.forms.%s.Statement.{statement}\nuse %s.forms.%s.Tie as tie\n" % (P, fn, P, fn)
-    )
+    lines = uses + ["%s.forms.%s.Goals as goal" % (P, fn)]
+    return "-- %s Written by tools/make_mathml_forms.py.\n" % comment + "".join("use %s\n" % u for u in lines)
+
+
+def answer(name, proof, unfolding):
+    opened = "unfolding %s\n" % unfolding if unfolding else ""
+    return "\npub %s : goal.%s\n%s%s c = %s\n" % (name, name, opened, name, proof)
 
 
 def nth(name, k):
     return name if k == 1 else "%s-%d" % (name, k)
 
 
-n = len(short)
 text = head(
     "Each arm is the table's row of its key, by computing; a key of no arm is that of no row with a form.",
     [
-        "Rattle·mathml_rules.specs.Utf8.{encoded, utf8}",
-        "Rattle·mathml_rules.specs.Forms.{forms}",
-        "Rattle·mathml_forms·specs.specs.Keys.{key, ascii, keyOf}",
-        "Rattle·mathml_forms·specs.specs.Words.{packed, keyWordBy, keyWord}",
-        P + ".Words.{NoRow, no-row}",
+        "Rattle.mathml_rules.specs.Utf8.{encoded, utf8}",
+        "Rattle.mathml_rules.specs.Forms.{forms}",
+        "Rattle.mathml_forms.specs.Keys.{key, ascii, key_of}",
+        "Rattle.mathml_forms.specs.Words.{packed, key_word_by, key_word}",
+        P + ".Words.{NoRow, no_row}",
     ],
     "short_word",
 )
-for k in range(1, n + 1):
-    text += "\n%s : tie.Need-%s\nunfolding keyWord keyWordBy forms keyOf key ascii packed utf8 encoded\n%s c = rw (c .match .keys%d)\n" % (
-        nth("returns", k), nth("returns", k), nth("returns", k), k)
-text += "\n%s : tie.Need-%s\nunfolding NoRow forms keyOf key ascii utf8 encoded\n%s c = no-row _ (c .match .rest)\n" % (nth("returns", n + 1), nth("returns", n + 1), nth("returns", n + 1))
-text += "\npub short-word-spec : {M : Type 1} → statement M\nshort-word-spec =\n    tie.close\n    (tie.spec\n"
-text += "\n".join("    " + nth("returns", k) for k in range(1, n + 2)) + ")\n"
-write("proofs/forms/short_word/Proof.antt", text)
+for spelling, _ in short:
+    k = key_of(spelling)
+    text += answer("returns-in-%d" % k, "rw c.in-%d.is" % k, "key_word key_word_by forms key_of key ascii packed utf8 encoded")
+text += answer("returns-in_default", "no_row _ c.in_default.in_default-own.rest", "NoRow forms key_of key ascii utf8 encoded")
+write("proofs/forms/short_word/Answers.antt", text)
 
-m = len(long)
 text = head(
     "A short text by its key; a longer one is compared with each long spelling that has a form.",
     [
-        "mathlib.Core.Path.{_≡_, refl, sym, ap, _∙_}",
-        "borrow.Author.Needs.{needs}",
-        "Rattle·tokens.specs.Bytes.{bytes, same}",
-        "Rattle·mathml_rules.specs.Utf8.{encoded, utf8}",
-        "Rattle·mathml_rules.specs.Forms.{forms}",
-        "Rattle·mathml_forms·specs.specs.Words.{packed, formWordBy, formWord, keyWord}",
-        P + ".Words.{long, short-is, is-row, no-long}",
+        "mathlib.Core.Path.{◌≡◌, refl, sym, ap, ◌∙◌}",
+        "Rattle.tokens.specs.Bytes.{bytes, same}",
+        "Rattle.mathml_rules.specs.Utf8.{encoded, utf8}",
+        "Rattle.mathml_rules.specs.Forms.{forms}",
+        "Rattle.mathml_forms.specs.Words.{packed, form_word_by, form_word, key_word}",
+        P + ".Words.{long, short-is, is_row, no_long}",
     ],
     "form_word",
 )
-
-
-def answer(name, proof, unfolding=""):
-    global text
-    needs.append(name)
-    text += "\n%s : tie.Need-%s\n" % (name, name)
-    text += "unfolding %s\n" % unfolding if unfolding else ""
-    text += "%s %s\n" % (name, proof)
-
-
-needs = []
-answer("key-of-requires", "c κs = search needs")
-answer("short-word-requires", "c κs = search needs")
-answer(
-    "returns",
-    "c = c .short-word .ensures ∙ ap keyWord (c .before .key-of .ensures) ∙ sym (short-is _ (c .before .before .if1 .taken))",
+for k, (spelling, form) in enumerate(long, 1):
+    text += '\nword-%d : %d ≡ form_word (bytes "%s")\n' % (k, word_of(form), spelling)
+    text += "unfolding form_word form_word_by forms same packed utf8 encoded\nword-%d = refl\n" % k
+brief = "s-le-MOST_WITH_KEY"
+text += answer(
+    "returns-then-" + brief,
+    "c.short_word.ensures ∙ ap key_word c.key_of.ensures ∙ sym (short-is _ c.if-%s.true)" % brief,
+    "",
 )
-for k in range(1, m + 1):
-    answer(nth("slice-aggregate-same-bytes", k), "c = search needs")
-    answer(nth("same-bytes-requires", k), "c κs = search needs")
-    call = "same-bytes" + (str(k) if k > 1 else "")
-    spelling, form = long[k - 1]
-    text += '\nword-%d : %d ≡ formWord (bytes "%s")\n' % (k, word_of(form), spelling)
-    text += "unfolding formWord formWordBy forms same packed utf8 encoded\nword-%d = refl\n" % k
-    answer(nth("returns", k + 1), "c = is-row _ _ word-%d (c .before .%s .ensures) (c .if%d .taken)" % (k, call, k + 1))
-lets = ""
 facts = "tt"
-for k in range(m, 0, -1):
-    call = "same-bytes" + (str(k) if k > 1 else "")
-    lets += "    let e%d = %s in\n" % (k, "c" if k == m else "e%d .before .before .before" % (k + 1))
-    facts = "(sym (e%d .before .%s .ensures) ∙ e%d .if%d .left, %s)" % (k, call, k, k + 1, facts)
-answer(nth("returns", m + 2), "c =\n%s    no-long _ (e1 .before .before .before .if1 .left)\n    %s" % (lets, facts), "long forms")
-text += "\npub form-word-spec : {M : Type 1} → statement M\nform-word-spec =\n    tie.close\n    (tie.spec\n"
-text += "\n".join("    " + x for x in needs) + ")\n"
-write("proofs/forms/form_word/Proof.antt", text)
+for k in range(1, len(long) + 1):
+    call = nth("same_bytes", k)
+    text += answer("returns-then-" + call, "is_row _ _ word-%d c.%s.ensures c.if-%s.true" % (k, call, call), "")
+for k in range(len(long), 0, -1):
+    call = nth("same_bytes", k)
+    facts = "(sym c.%s.ensures ∙ c.if-%s.false, %s)" % (call, call, facts)
+text += answer("returns", "no_long _ c.if-%s.false\n    %s" % (brief, facts), "long forms")
+write("proofs/forms/form_word/Answers.antt", text)

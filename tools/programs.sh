@@ -10,7 +10,7 @@ set -euo pipefail
 [ $# -le 1 ] || { echo "usage: programs.sh [READ]" >&2; exit 2; }
 here=$(cd "$(dirname "$0")" && pwd)
 read=$(realpath "${1:-$here/../read}")
-programs=$(dirname "$read")/target/bin
+crates=$(dirname "$read")/crates
 out=$(mktemp -d)
 trap 'rm -rf "$out"' EXIT
 chmod 755 "$out"
@@ -40,7 +40,7 @@ answered() { [ $status -eq 0 ] && [ ! -s said ] && grep -qxF -- "$1" got; }
 refused() { [ $status -eq 1 ] && [ ! -s said ] && echo "refused=$1" | cmp -s - got; }
 # no print, and a line that says why:
 failed() { [ $status -eq 2 ] && [ ! -s got ] && [ -s said ]; }
-# the same of a program by itself, which has no exit status:
+# the same of a program by itself, whose exit status is 0 even so:
 silent() { [ $status -eq 0 ] && [ ! -s got ] && [ -s said ]; }
 # no print, and the usage:
 misused() { failed && grep -q '^usage:' said; }
@@ -130,7 +130,7 @@ as=()
 [ "$(id -u)" -ne 0 ] || as=(setpriv --reuid 65534 --regid 65534 --clear-groups)
 touch closed
 chmod 0 closed
-if "${as[@]}" test -x "$programs/read"; then
+if "${as[@]}" test -x "$crates/read/out/read"; then
     run "${as[@]}" "$read" closed; check "./read FILE, one that may not be read" failed
 else
     echo "not run, as another user can't reach the programs: a file that may not be read"
@@ -139,7 +139,7 @@ fi
 for form in tree --brackets --mathml; do
     name=read${form/tree/}
     name=${name/--/_}
-    program=$programs/$name
+    program=$crates/$name/out/$name
     run "$program" < text; check "$name, a text" answered "${line[$form]}"
     run "$program" < .; check "$name, a folder" silent
     run "$program" <&-; check "$name, closed input" silent
@@ -150,22 +150,27 @@ for form in tree --brackets --mathml; do
 done
 
 # a build by an rt of three crates, which fails at the third or is done
-mkdir -p repo/crates bin
+mkdir -p repo/crates/read bin
 cp "$read" repo/read
-printf 'other:\nlow:\nmiddle: low io\nread: low middle io libc\n' > repo/crates.txt
+printf 'other:\nlow:\nmiddle: low io\nread: low middle io\n' > repo/crates.txt
 cat > bin/rt << 'EOF'
 #!/bin/sh
-echo "rt: low proved (1 s)"
-echo "rt: middle proved (unchanged since it was last proved)"
-[ -n "$PROGRAM" ] || { echo "rt: read NOT PROVED (exit 1, 1 s)"; exit 1; }
-echo "rt: read proved (1 s)"
-mkdir -p target/bin && cp "$PROGRAM" target/bin/read
+exec >&2
+for crate in low middle; do
+    echo "fn $crate::one: proved"
+    echo "crate $crate: modules loaded=1 checked=1"
+    echo "logic=proved functions=1"
+done
+[ -n "$PROGRAM" ] || { echo "fn read::main: no proof: a fact is left"; echo "crate read: modules loaded=1 checked=1"; echo "logic=not-proved"; exit 1; }
+echo "crate read: modules loaded=1 checked=1"
+echo "logic=proved functions=1"
+mkdir -p out && cp "$PROGRAM" out/read
 EOF
 chmod +x bin/rt
-not_built() { failed && grep -qx 'read: 2 of 3: middle' said && grep -q 'build failed' said; }
+not_built() { failed && grep -qx 'read: 2 of 3: middle' said && grep -q 'no proof' said && grep -q 'build failed' said; }
 built() { [ $status -eq 0 ] && grep -qx 'read: 3 of 3: read' said && grep -qx 'depth=0 node=frac' got; }
 run env PATH="$out/bin:$PATH" PROGRAM= repo/read text; check "./read, a build that fails" not_built
-run env PATH="$out/bin:$PATH" PROGRAM="$programs/read" repo/read text; check "./read, a build" built
+run env PATH="$out/bin:$PATH" PROGRAM="$crates/read/out/read" repo/read text; check "./read, a build" built
 run repo/read text; check "./read, built" answered "${line[tree]}"
 
 echo "programs: $cases cases, $wrong wrong"

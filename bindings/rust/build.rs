@@ -1,4 +1,4 @@
-//! Finds libasciimath.a: in the folder ASCIIMATH_LIB_DIR, else where `rt staticlib` puts it.
+//! Finds libasciimath.a: in the folder ASCIIMATH_LIB_DIR, else where `rt lib` in crates/asciimath puts it.
 
 use std::path::PathBuf;
 
@@ -6,13 +6,13 @@ fn main() {
     println!("cargo::rerun-if-env-changed=ASCIIMATH_LIB_DIR");
     let folder = match std::env::var_os("ASCIIMATH_LIB_DIR") {
         Some(folder) => PathBuf::from(folder),
-        None => PathBuf::from(env!("CARGO_MANIFEST_DIR")).join("../../target/staticlib"),
+        None => PathBuf::from(env!("CARGO_MANIFEST_DIR")).join("../../crates/asciimath/out"),
     };
     let library = folder.join("libasciimath.a");
     println!("cargo::rerun-if-changed={}", library.display());
     if !library.exists() {
         println!(
-            "cargo::error=no {}: run `rt staticlib asciimath`, or set ASCIIMATH_LIB_DIR",
+            "cargo::error=no {}: run `rt lib` in crates/asciimath, or set ASCIIMATH_LIB_DIR",
             library.display()
         );
     }

@@ -1,7 +1,7 @@
 /* Reads a text from standard input and shows below it which brackets belong together: each and its
  * partner have the same letter.
  *
- *     cc -I include examples/c/brackets.c target/staticlib/libasciimath.a -o brackets-c
+ *     cc -I include examples/c/brackets.c crates/asciimath/out/libasciimath.a -o brackets-c
  *     printf '[[1,2],[3,4]]' | ./brackets-c
  */
 #include <asciimath.h>

@@ -1,6 +1,6 @@
 /* Reads a text from standard input and shows its tree.
  *
- *     cc -I include examples/c/read.c target/staticlib/libasciimath.a -o read-c
+ *     cc -I include examples/c/read.c crates/asciimath/out/libasciimath.a -o read-c
  *     printf '[[1,2],[3,4]]' | ./read-c
  */
 #include <asciimath.h>

@@ -126,6 +126,7 @@ def in_source(text, names):
         if re.match(r"\s*//", l):
             return in_comment(l, names)
         ghost = re.match(r"\s*(ghost|requires|ensures)\b", l)
+        l = re.sub(r"(?<=\.)[a-z]\w*[A-Z]\w*", lambda m: names.get(m[0], m[0]), l)
         pattern = r"\"(?:[^\"\\]|\\.)*\"|(?<![\w.-])" + (r"[^\s(){}.;,@\"«»\[\]\\]+" if ghost else r"[a-z]\w*")
         return re.sub(pattern, lambda m: names.get(m[0], m[0]) if ghost or is_camel(m[0]) else m[0], l)
 

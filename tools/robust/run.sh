@@ -35,13 +35,13 @@ fi
 corpus --families nested --count 500 --max-length 4096 | "$out/robust" stack
 "$here/frames.py" "$library"
 
-program=$root/target/bin/read
+program=$root/crates/read/out/read
 [ -x "$program" ] || { echo "the program read is not built: not run"; exit 0; }
 
 # said NAME STATUS LINE: the program must have ended with status 0 and printed this line first
 said() {
     local line
-    line=$(cat "$out/got" "$out/err" | head -c 60 | head -n 1 | tr -c '[:print:]\n' '?')
+    line=$(cat "$out/got" "$out/err" | head -c 80 | head -n 1 | tr -c '[:print:]\n' '?')
     echo "read, $1: status $2, $line"
     if [ "$2" -ne 0 ] || [ "$line" != "$3" ]; then
         echo "read, $1: not status 0, $3" >&2
@@ -63,14 +63,14 @@ printf '%0501d' 0 | run "501 bytes" 'refused=1'
 printf '\177ELF\002\001\200\000' | run "binary" 'refused=2'
 { head -c 100000000 /dev/zero || true; } | run "100 million bytes" 'refused=1'
 printf '%0.s(' {1..500} | run "500 brackets" 'text=500 tokens=500 takes=2116 items=1'
-run "a folder" "read: can't read the input: Is a directory" < "$out"
+run "a folder" "read: can't read the input: Is a directory (os error 21)" < "$out"
 status=0
 timeout 60 "$program" <&- > "$out/got" 2> "$out/err" || status=$?
-said "closed input" $status "read: can't read the input: Bad file descriptor"
+said "closed input" $status "read: can't read the input: Bad file descriptor (os error 9)"
 : > "$out/got"
 status=0
 printf 'x' | timeout 60 "$program" > /dev/full 2> "$out/err" || status=$?
-said "no room for output" $status "read: can't write the answer: No space left on device"
+said "no room for output" $status "read: can't write the answer: No space left on device (os error 28)"
 status=0
 printf 'x' | timeout 60 "$program" >&- 2> "$out/err" || status=$?
-said "closed output" $status "read: can't write the answer: Bad file descriptor"
+said "closed output" $status "read: can't write the answer: Bad file descriptor (os error 9)"

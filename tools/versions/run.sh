@@ -3,7 +3,7 @@
 #
 #   run.sh BEFORE [LIB]
 #
-# BEFORE is the archive of the earlier build, `rt staticlib asciimath` in a checkout of it; its calls `parse` and
+# BEFORE is the archive of the earlier build, made in a checkout of it; its calls `parse` and
 # `parse_tokens` must have today's signatures. LIB is the project's archive; without it the archive is proved and
 # built here. Exit status 1 on a difference.
 set -euo pipefail

@@ -6,7 +6,8 @@
 //!
 //! Lend slices for the bytes of the text, not whole buffers: a reading clears all words of work and
 //! tree that it is lent. One letter takes 0.1 µs in buffers for its one byte and 5 in buffers for
-//! 4,096 tokens, several times as much where those words are not in the cache.
+//! 4,096 tokens, several times as much where those words are not in the cache (measured with an older
+//! kit's archive, not again with today's).
 
 /// A slice as the library takes it: a pointer, then the number of elements.
 trait Lent {

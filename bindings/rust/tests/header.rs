@@ -57,8 +57,8 @@ fn tokens_and_classes() {
     let tokens = constants("asciimath_token", "TOKEN");
     let classes = constants("asciimath_class", "CLASS");
     assert_eq!((tokens.len(), classes.len()), (17, 8));
-    assert_eq!(tokens, defined(KINDS, "numberOf"));
-    assert_eq!(classes, defined(KINDS, "classNumber"));
+    assert_eq!(tokens, defined(KINDS, "number_of"));
+    assert_eq!(classes, defined(KINDS, "class_number"));
     for token in Token::ALL {
         let number = match token {
             Token::Symbol(class) => tokens["SYMBOL"] + classes[&capitals(&format!("{class:?}"))],
@@ -70,9 +70,9 @@ fn tokens_and_classes() {
 
 #[test]
 fn nodes_and_scripts() {
-    let mut nodes = defined(WORDS, "atomKind");
-    nodes.extend(defined(WORDS, "prefixKind"));
-    nodes.extend(defined(WORDS, "headWords"));
+    let mut nodes = defined(WORDS, "atom_kind");
+    nodes.extend(defined(WORDS, "prefix_kind"));
+    nodes.extend(defined(WORDS, "head_words"));
     // no reading has a fraction but as an item, which the word in front tells
     assert_eq!(nodes.remove("FRAC"), Some(18));
     for (short, long) in [("SSIGNED", "SIMPLE_SIGNED"), ("SFUNC", "SIMPLE_FUNC")] {
@@ -82,7 +82,7 @@ fn nodes_and_scripts() {
     assert_eq!(nodes.len(), 18);
     assert_eq!(constants("asciimath_node", "NODE"), nodes);
 
-    let scripts = defined(WORDS, "scriptNumber");
+    let scripts = defined(WORDS, "script_number");
     assert_eq!(scripts.len(), 4);
     assert_eq!(constants("asciimath_script", "SCRIPT"), scripts);
 }

@@ -1,5 +1,7 @@
 // The reader for programs in C and Rust: its calls with plain numbers for answers. Each returns 0 and puts its values into the lent
 // answer, as many as it has words for, or returns the number of a refusal and leaves the answer as it was (crates/asciimath_answers).
+#![tactic(auto)]
+
 ghost use Rattle.std.specs.Prelude.{◌≡◌};
 ghost use Rattle.tokenizer.specs.Call.{tokenized, counted};
 ghost use Rattle.parse.specs.Call.{parsed_text, parsed_tokens};

@@ -1,5 +1,7 @@
 // The answers of the calls as plain numbers, one function for each type of answer. Each returns 0 and puts the values first into the lent
 // answer, as many as it has words for, or returns the number of the refusal and leaves the answer as it was.
+#![tactic(auto)]
+
 ghost use Rattle.std.specs.Prelude.{◌≡◌, [], ◌∷◌, set};
 ghost use Rattle.tokens.specs.Refusals.{accepted, refused};
 ghost use Rattle.tokenizer.specs.Call as tokenizer;
@@ -114,7 +116,7 @@ pub fn put_parsed(answer: &mut [u64], got: Parsed) -> u32
 
 // Values: takes, items of the root, blank.
 pub fn put_parsed_tokens(answer: &mut [u64], got: ParsedTokens) -> u32
-    ensures { Given (parse.listAnswerOf got) result answer.old answer.new }
+    ensures { Given (parse.list_answer_of got) result answer.old answer.new }
 {
     match got {
         ParsedTokens::Refused(k) => refuse(answer, k),
@@ -158,7 +160,7 @@ pub fn put_paired(answer: &mut [u64], got: Paired) -> u32
 
 // Values: tokens, tokens other than Space.
 pub fn put_paired_text(answer: &mut [u64], got: PairedText) -> u32
-    ensures { Given (closers.textAnswerOf got) result answer.old answer.new }
+    ensures { Given (closers.text_answer_of got) result answer.old answer.new }
 {
     match got {
         PairedText::Refused(k) => refuse(answer, k),

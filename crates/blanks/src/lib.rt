@@ -1,4 +1,6 @@
 // Where the blanks of a text end.
+#![tactic(auto)]
+
 ghost use Rattle.std.specs.Prelude.{◌≡◌};
 ghost use Rattle.lexing.specs.Rules.{blank, run_end};
 

@@ -11,7 +11,7 @@ use Rattle.tokens.specs.declared.token.Token.TheVariants as token
 use Rattle.tree.specs.Tree.{nowhere, Head, Node, node, Nodes, end, ◌▸◌, ◌⧺◌}
 use Rattle.reading.specs.Stop.{Stop}
 use Rattle.reading.specs.Entries.{Entry, is}
-use Rattle.reading.specs.Reading.{State, M, return, ◌>>=◌, here, if◌then◌else◌, Readers, Row, any, advance, at_open_close, is_at, alike, next_intermediate, intermediates, next_expression, row_cells, next_matrix_row, more_rows, prefixes, spaced, level, parse, last_of, unscripted}
+use Rattle.reading.specs.Reading.{State, M, return, ◌>>=◌, here, when◌then◌else◌, Readers, Row, any, advance, at_open_close, is_at, alike, next_intermediate, intermediates, next_expression, row_cells, next_matrix_row, more_rows, prefixes, spaced, level, parse, last_of, unscripted}
 use Rattle.bounds.specs.Peak.{CountedReaders, level-counted}
 use Rattle.bounds.proofs.Room.{Room, opt, level-room, advance-fits, next_intermediate-fits, intermediates-fits, next_matrix_row-fits}
 
@@ -19,8 +19,8 @@ same-bind : {A B : Type 0} (m n : M A) (f : A → M B) (s : State) → m s ≡ n
 unfolding ◌>>=◌
 same-bind {A} m n f s e = ap (λ (r : A × State). f r.0 r.1) e
 
-same_then : {A : Type 0} (b : Bool) (m n k : M A) (s : State) → m s ≡ n s → (if b then m else k) s ≡ (if b then n else k) s
-unfolding if◌then◌else◌
+same_then : {A : Type 0} (b : Bool) (m n k : M A) (s : State) → m s ≡ n s → (when b then m else k) s ≡ (when b then n else k) s
+unfolding when◌then◌else◌
 same_then true m n k s e = e
 same_then false m n k s e = refl
 
@@ -40,7 +40,7 @@ module _ (text : List ℕ) (es : List Entry) (remember : Bool) (R : Readers) (co
   module _ (until : Option Entry) (stop : Stop) where
     intermediates-turn : (f : ℕ) (before : Option Node) (s : State) → Enough f s →
         intermediates text es remember R (suc f) until stop before s ≡ intermediates text es remember R f until stop before s
-    unfolding intermediates ◌>>=◌ here if◌then◌else◌
+    unfolding intermediates ◌>>=◌ here when◌then◌else◌
     intermediates-turn zero before s enough = absurd (omega (arith, enough.0, enough.1))
     intermediates-turn (suc f) before s enough =
         go (at_open_close text es until s.pos) (λ b t. intermediates-turn f b t)
@@ -70,13 +70,13 @@ module _ (text : List ℕ) (es : List Entry) (remember : Bool) (R : Readers) (co
         next again none e = refl
         next again (some x) e = same-bind (loop (suc f) (some x)) (loop f (some x)) (joined x) (item s).1 (again (some x) (item s).1 (moved x e))
 
-        go : (b : Bool) → Again → (if b then return end else (item >>= after (suc f))) s ≡ (if b then return end else (item >>= after f)) s
+        go : (b : Bool) → Again → (when b then return end else (item >>= after (suc f))) s ≡ (when b then return end else (item >>= after f)) s
         go true again = refl
         go false again = next again (item s).0 refl
 
   -- next_matrix_row: a turn takes a cell and the token behind it
   row_cells-turn : (f : ℕ) (s : State) → Enough f s → row_cells text es remember R (suc f) s ≡ row_cells text es remember R f s
-  unfolding row_cells ◌>>=◌ if◌then◌else◌
+  unfolding row_cells ◌>>=◌ when◌then◌else◌
   row_cells-turn zero s enough = absurd (omega (arith, enough.0, enough.1))
   row_cells-turn (suc f) s enough = next (λ t. row_cells-turn f t) taken.0 refl
     where
@@ -93,10 +93,10 @@ module _ (text : List ℕ) (es : List Entry) (remember : Bool) (R : Readers) (co
       joined q = elim q [ none ↦ return none | some m ↦ return (some (node Head.cell read.0 ▸ m.0, m.1)) ]
 
       closed : Entry → M (Option (Nodes × Entry))
-      closed e = if is token.CloseBracket e then return (some (node Head.cell read.0 ▸ end, e)) else return none
+      closed e = when is token.CloseBracket e then return (some (node Head.cell read.0 ▸ end, e)) else return none
 
       after : ℕ → Option Entry → M (Option (Nodes × Entry))
-      after g t = elim t [ none ↦ return none | some e ↦ if is token.Sep e then (loop g >>= joined) else closed e ]
+      after g t = elim t [ none ↦ return none | some e ↦ when is token.Sep e then (loop g >>= joined) else closed e ]
 
       moved : (e : Entry) → taken.0 ≡ some e → Enough f taken.1
       moved e k =
@@ -124,7 +124,7 @@ module _ (text : List ℕ) (es : List Entry) (remember : Bool) (R : Readers) (co
         go (some y) e = rw (e, advance)
 
     more_rows-turn : (f : ℕ) (s : State) → Enough f s → more_rows text es remember R (suc f) h s ≡ more_rows text es remember R f h s
-    unfolding more_rows ◌>>=◌ if◌then◌else◌ here
+    unfolding more_rows ◌>>=◌ when◌then◌else◌ here
     more_rows-turn zero s enough = absurd (omega (arith, enough.0, enough.1))
     more_rows-turn (suc f) s enough = go (is_at text es (is token.Sep) s.pos) refl (λ t. more_rows-turn f t)
       where
@@ -138,7 +138,7 @@ module _ (text : List ℕ) (es : List Entry) (remember : Bool) (R : Readers) (co
         joined r l = elim l [ none ↦ return none | some m ↦ return (some (r.cells ∷ m)) ]
 
         after : ℕ → Option Row → M (Option (List Nodes))
-        after g q = elim q [ none ↦ return none | some r ↦ if alike text es h r then (loop g >>= joined r) else return none ]
+        after g q = elim q [ none ↦ return none | some r ↦ when alike text es h r then (loop g >>= joined r) else return none ]
 
         Again : Type 0
         Again = (t : State) → Enough f t → more_rows text es remember R (suc f) h t ≡ more_rows text es remember R f h t
@@ -158,8 +158,8 @@ module _ (text : List ℕ) (es : List Entry) (remember : Bool) (R : Readers) (co
             (same-bind (loop (suc f)) (loop f) (joined r) row.1 (again row.1 near))
 
         go : (b : Bool) → is_at text es (is token.Sep) s.pos ≡ b → Again →
-            (if b then (advance text es any >>= λ t. next_matrix_row text es remember R >>= after (suc f)) else return (some [])) s
-            ≡ (if b then (advance text es any >>= λ t. next_matrix_row text es remember R >>= after f) else return (some [])) s
+            (when b then (advance text es any >>= λ t. next_matrix_row text es remember R >>= after (suc f)) else return (some [])) s
+            ≡ (when b then (advance text es any >>= λ t. next_matrix_row text es remember R >>= after f) else return (some [])) s
         go true k again = next (moved k) again row.0
         go false k again = refl
 

@@ -14,7 +14,7 @@ use Rattle.tokens.specs.Lexeme.{Lexeme}
 use Rattle.tree.specs.Tree.{nowhere, Head, Prefix, Node, node, Nodes, end, ◌▸◌, ◌⧺◌, one}
 use Rattle.reading.specs.Stop.{Stop}
 use Rattle.reading.specs.Entries.{Entry, is, entries}
-use Rattle.reading.specs.Reading.{State, M, return, ◌>>=◌, here, current, closed, Mark, open_mark, matrix_mark, slot, Try, made, lost, nought, Readers, is_at, is_bar, advance, failed, give_up, attempt, argument, next_script, next_script_func, next_intermediate, intermediates, at_open_close, Row, next_matrix_row, row_cells, more_rows, next_matrix_rows, matrix_body, try_matrix, next_open_group, bar_body, next_open_close_group, next_bracket, begun, next_simple, step, level, parse, start, parse_entries, or_glyph, could_be_matrix, prefixes, spaced, or_missing_part, any, marks_script, heads, begins, if◌then◌else◌, reading_by, unscripted}
+use Rattle.reading.specs.Reading.{State, M, return, ◌>>=◌, here, current, closed, Mark, open_mark, matrix_mark, slot, Try, made, lost, nought, Readers, is_at, is_bar, advance, failed, give_up, attempt, argument, next_script, next_script_func, next_intermediate, intermediates, at_open_close, Row, next_matrix_row, row_cells, more_rows, next_matrix_rows, matrix_body, try_matrix, next_open_group, bar_body, next_open_close_group, next_bracket, begun, next_simple, step, level, parse, start, parse_entries, or_glyph, could_be_matrix, prefixes, spaced, or_missing_part, any, marks_script, heads, begins, when◌then◌else◌, reading_by, unscripted}
 
 -- For at most 127 entries the reading with its memory and the one without give the same tree. Nothing is assumed.
 
@@ -69,8 +69,8 @@ module _ (text : List ℕ) (es : List Entry) where
         rw (← q.value) w;
   }
 
-  both_ways : {A : Type 0} {e b : ℕ} (x : Bool) {m n : M A} {p q : ℕ → M A} → Agree e b m p → Agree e b n q → Agree e b (if x then m else n) (λ r. if x then p r else q r)
-  unfolding if◌then◌else◌
+  both_ways : {A : Type 0} {e b : ℕ} (x : Bool) {m n : M A} {p q : ℕ → M A} → Agree e b m p → Agree e b n q → Agree e b (when x then m else n) (λ r. when x then p r else q r)
+  unfolding when◌then◌else◌
   both_ways true h k = h
   both_ways false h k = k
 
@@ -101,30 +101,30 @@ module _ (text : List ℕ) (es : List Entry) where
   module _ (b : ℕ) (R : Readers) (like : Like b R) where
     argument-agree : Agree 1 b (argument text es true R) (λ r. argument text es false (level text es false r))
     unfolding argument
-    argument-agree = bind (like.nextSimple-agree Stop.none true) λ a. ret _
+    argument-agree = bind (like.next_simple-agree Stop.none true) λ a. ret _
 
     next_script-agree : Agree 1 b (next_script text es true R) (λ r. next_script text es false (level text es false r))
     unfolding next_script
     next_script-agree =
-        bind (advance-agree marks_script) λ t. elim t [
+        bind (advance-agree marks_script) (elim [
           | none ↦ ret _
           | some e ↦ both_ways _ (bind argument-agree λ a. ret _)
-              (bind argument-agree λ a. bind (advance-agree (is token.Super)) λ u. elim u [
+              (bind argument-agree λ a. bind (advance-agree (is token.Super)) (elim [
                 | none ↦ ret _
                 | some e' ↦ bind argument-agree λ y. ret _
-              ])
-        ]
+              ]))
+        ])
 
     next_intermediate-agree : (stop : Stop) (sg : Bool) → Agree 1 b (next_intermediate text es true R stop sg) (λ r. next_intermediate text es false (level text es false r) stop sg)
     unfolding next_intermediate
     next_intermediate-agree stop sg =
-        bind (like.nextScriptFunc-agree stop sg) λ a. elim a [
+        bind (like.next_script_func-agree stop sg) (elim [
           | none ↦ ret _
-          | some x ↦ bind (advance-agree (is token.Frac)) λ t. elim t [
+          | some x ↦ bind (advance-agree (is token.Frac)) (elim [
             | none ↦ ret _
-            | some e ↦ bind (like.nextScriptFunc-agree Stop.none true) λ y. ret _
-          ]
-        ]
+            | some e ↦ bind (like.next_script_func-agree Stop.none true) λ y. ret _
+          ])
+        ])
 
     intermediates-agree : (f : ℕ) (until : Option Entry) (stop : Stop) (before : Option Node) → Agree 1 b (intermediates text es true R f until stop before) (λ r. intermediates text es false (level text es false r) f until stop before)
     unfolding intermediates at_open_close is_at is_bar spaced
@@ -132,30 +132,30 @@ module _ (text : List ℕ) (es : List Entry) where
     intermediates-agree (suc f) until stop before =
         bind here-agree λ p.
         both_ways _ (ret _)
-        (bind (next_intermediate-agree stop (prefixes before)) λ a. elim a [
+        (bind (next_intermediate-agree stop (prefixes before)) (elim [
           | none ↦ ret _
           | some x ↦ bind (intermediates-agree f until stop (some x)) λ l. ret _
-        ])
+        ]))
 
     row_cells-agree : (f : ℕ) → Agree 1 b (row_cells text es true R f) (λ r. row_cells text es false (level text es false r) f)
     unfolding row_cells
     row_cells-agree zero = ret _
     row_cells-agree (suc f) =
         bind (intermediates-agree _ none Stop.sep none) λ l.
-        bind (advance-agree any) λ t. elim t [
+        bind (advance-agree any) (elim [
           | none ↦ ret _
           | some e ↦ both_ways _
-              (bind (row_cells-agree f) λ q. elim q [ none ↦ ret _ | some m ↦ ret _ ])
+              (bind (row_cells-agree f) (elim [ none ↦ ret _ | some m ↦ ret _ ]))
               (both_ways _ (ret _) (ret _))
-        ]
+        ])
 
     next_matrix_row-agree : Agree 1 b (next_matrix_row text es true R) (λ r. next_matrix_row text es false (level text es false r))
     unfolding next_matrix_row
     next_matrix_row-agree =
-        bind here-agree λ i. bind (advance-agree any) λ t. elim t [
+        bind here-agree λ i. bind (advance-agree any) (elim [
           | none ↦ ret _
-          | some o ↦ both_ways _ (bind (row_cells-agree _) λ q. elim q [ none ↦ ret _ | some m ↦ noted i _ ]) (ret _)
-        ]
+          | some o ↦ both_ways _ (bind (row_cells-agree _) (elim [ none ↦ ret _ | some m ↦ noted i _ ])) (ret _)
+        ])
 
     more_rows-agree : (f : ℕ) (h : Row) → Agree 1 b (more_rows text es true R f h) (λ r. more_rows text es false (level text es false r) f h)
     unfolding more_rows
@@ -163,43 +163,43 @@ module _ (text : List ℕ) (es : List Entry) where
     more_rows-agree (suc f) h =
         bind here-agree λ p.
         both_ways _
-        (bind (advance-agree any) λ t. bind next_matrix_row-agree λ q. elim q [
+        (bind (advance-agree any) λ t. bind next_matrix_row-agree (elim [
           | none ↦ ret _
-          | some r ↦ both_ways _ (bind (more_rows-agree f h) λ l. elim l [ none ↦ ret _ | some m ↦ ret _ ]) (ret _)
-        ])
+          | some r ↦ both_ways _ (bind (more_rows-agree f h) (elim [ none ↦ ret _ | some m ↦ ret _ ])) (ret _)
+        ]))
         (ret _)
 
     next_matrix_rows-agree : Agree 1 b (next_matrix_rows text es true R) (λ r. next_matrix_rows text es false (level text es false r))
     unfolding next_matrix_rows
     next_matrix_rows-agree =
-        bind next_matrix_row-agree λ q. elim q [
+        bind next_matrix_row-agree (elim [
           | none ↦ ret _
-          | some h ↦ both_ways _ (bind (more_rows-agree _ h) λ l. elim l [ none ↦ ret _ | some m ↦ ret _ ]) (ret _)
-        ]
+          | some h ↦ both_ways _ (bind (more_rows-agree _ h) (elim [ none ↦ ret _ | some m ↦ ret _ ])) (ret _)
+        ])
 
     matrix_body-agree : (o : Entry) (i : ℕ) → Agree 1 b (matrix_body text es true R o i) (λ r. matrix_body text es false (level text es false r) o i)
     unfolding matrix_body
     matrix_body-agree o i =
-        bind next_matrix_rows-agree λ q. elim q [
+        bind next_matrix_rows-agree (elim [
           | none ↦ ret _
           | some r ↦ bind here-agree λ p.
-              both_ways _ (bind (advance-agree any) λ t. elim t [ none ↦ ret _ | some c ↦ noted i _ ]) (ret _)
-        ]
+              both_ways _ (bind (advance-agree any) (elim [ none ↦ ret _ | some c ↦ noted i _ ])) (ret _)
+        ])
 
     bar_body-agree : (o : Entry) (i : ℕ) (stop : Stop) → Agree 1 b (bar_body text es true R o i stop) (λ r. bar_body text es false (level text es false r) o i stop)
     unfolding bar_body
     bar_body-agree o i stop =
-        bind (next_intermediate-agree stop true) λ a. elim a [
+        bind (next_intermediate-agree stop true) (elim [
           | none ↦ ret _
           | some x ↦ bind (intermediates-agree _ (some o) stop (some x)) λ l. bind here-agree λ p.
-              both_ways _ (bind (advance-agree any) λ t. elim t [ none ↦ ret _ | some c ↦ noted i _ ]) (ret _)
-        ]
+              both_ways _ (bind (advance-agree any) (elim [ none ↦ ret _ | some c ↦ noted i _ ])) (ret _)
+        ])
 
     next_open_group-agree : (o : Entry) (i : ℕ) → Agree 1 b (next_open_group text es true R o i) (λ r. next_open_group text es false (level text es false r) o i)
     unfolding next_open_group
     next_open_group-agree o i =
         bind (intermediates-agree _ none Stop.none none) λ l.
-        bind (advance-agree (is token.CloseBracket)) λ t. elim t [ none ↦ ret _ | some c ↦ noted i _ ]
+        bind (advance-agree (is token.CloseBracket)) (elim [ none ↦ ret _ | some c ↦ noted i _ ])
 
   -- A matrix is made or lost.
   record Never (m : M Try) : Type 0 where
@@ -209,8 +209,8 @@ module _ (text : List ℕ) (es : List Entry) where
   unfolding ◌>>=◌
   never-bind m k = record { never = λ s. (k (m s).0).never (m s).1 }
 
-  never-if : (x : Bool) {m n : M Try} → Never m → Never n → Never (if x then m else n)
-  unfolding if◌then◌else◌
+  never-if : (x : Bool) {m n : M Try} → Never m → Never n → Never (when x then m else n)
+  unfolding when◌then◌else◌
   never-if true h k = h
   never-if false h k = k
 
@@ -225,10 +225,10 @@ module _ (text : List ℕ) (es : List Entry) where
   matrix-never : (R : Readers) (o : Entry) (i : ℕ) → Never (matrix_body text es true R o i)
   unfolding matrix_body
   matrix-never R o i =
-      never-bind _ λ q. elim q [
+      never-bind _ (elim [
         | none ↦ never-lost
-        | some r ↦ never-bind _ λ p. never-if _ (never-bind _ λ t. elim t [ none ↦ never-lost | some c ↦ never-made i _ ]) never-lost
-      ]
+        | some r ↦ never-bind _ λ p. never-if _ (never-bind _ (elim [ none ↦ never-lost | some c ↦ never-made i _ ])) never-lost
+      ])
 
   -- A new mark is sound.
   slot-one : (m n : Mark) (i j : ℕ) → slot m i ≡ slot n j → (m ≡ n) × (i ≡ j)
@@ -284,13 +284,13 @@ module _ (text : List ℕ) (es : List Entry) where
           sound = sound-set (body s).1.marks m i o has q.sound (λ r' en' t' c'. sym (agree.run r' en' s t' (a ∙ sym c') (omega arith) sound).value ∙ e);
         }
 
-    known : (x : Bool) → get_or s.marks (slot m i) false ≡ x → Same (suc i) ((if x then return none else (body >>= settle true m i s)) s) ((body_of m o i r >>= settle false m i t) t)
-    unfolding if◌then◌else◌ ◌>>=◌ return give_up
+    known : (x : Bool) → get_or s.marks (slot m i) false ≡ x → Same (suc i) ((when x then return none else (body >>= settle true m i s)) s) ((body_of m o i r >>= settle false m i t) t)
+    unfolding when◌then◌else◌ ◌>>=◌ return give_up
     known true e = rw (sound m i e o has r en t c) (record { value = refl; place = a ∙ sym c; base = omega arith; sound = sound })
     known false e = settled (body s).0 (body_of m o i r t).0 refl (agree.run r en s t (a ∙ sym c) (omega arith) sound).value
 
   attempt-at : (m : Mark) (i : ℕ) (o : Entry) → get_elem? es i ≡ some o → (body : M Try) → Agree 1 (suc i) body (body_of m o i) → AgreeAt i (attempt text es true m i body) (λ r. attempt text es false m i (body_of m o i r))
-  unfolding attempt failed ◌>>=◌ if◌then◌else◌ current
+  unfolding attempt failed ◌>>=◌ when◌then◌else◌ current
   attempt-at m i o has body agree = record { run = λ r en s t a c sound. known m i o has body agree r en s t a c sound (get_or s.marks (slot m i) false) refl }
 
   then_at : {A B : Type 0} {i : ℕ} {m : M A} {p : ℕ → M A} {f : A → M B} {g : ℕ → A → M B} → AgreeAt i m p → ((x : A) → Agree 1 (suc i) (f x) (λ r. g r x)) → AgreeAt i (m >>= f) (λ r. p r >>= g r)
@@ -302,8 +302,8 @@ module _ (text : List ℕ) (es : List Entry) where
         rw (← q.value) w;
   }
 
-  either-at : {A : Type 0} {i : ℕ} (x : Bool) {m n : M A} {p q : ℕ → M A} → AgreeAt i m p → AgreeAt i n q → AgreeAt i (if x then m else n) (λ r. if x then p r else q r)
-  unfolding if◌then◌else◌
+  either-at : {A : Type 0} {i : ℕ} (x : Bool) {m n : M A} {p q : ℕ → M A} → AgreeAt i m p → AgreeAt i n q → AgreeAt i (when x then m else n) (λ r. when x then p r else q r)
+  unfolding when◌then◌else◌
   either-at true h k = h
   either-at false h k = k
 
@@ -313,9 +313,9 @@ module _ (text : List ℕ) (es : List Entry) where
     try_matrix-at = either-at _ (attempt-at matrix_mark i o has _ (matrix_body-agree (suc i) R like o i)) (at_once (ret _))
 
     -- A matrix that is not made leaves the reading where it was.
-    back_at : (s : State) → s.pos ≡ suc i → (x : Bool) → ((if x then attempt text es true matrix_mark i (matrix_body text es true R o i) else return none) s).0 ≡ none →
-        ((if x then attempt text es true matrix_mark i (matrix_body text es true R o i) else return none) s).1.pos ≡ suc i
-    unfolding if◌then◌else◌ return attempt failed ◌>>=◌ give_up current
+    back_at : (s : State) → s.pos ≡ suc i → (x : Bool) → ((when x then attempt text es true matrix_mark i (matrix_body text es true R o i) else return none) s).0 ≡ none →
+        ((when x then attempt text es true matrix_mark i (matrix_body text es true R o i) else return none) s).1.pos ≡ suc i
+    unfolding when◌then◌else◌ return attempt failed ◌>>=◌ give_up current
     back_at s a false e = a
     back_at s a true e = go (get_or s.marks (slot matrix_mark i) false) e
       where
@@ -327,7 +327,7 @@ module _ (text : List ℕ) (es : List Entry) where
         end-at lost f e = a
         end-at nought f e = absurd ((matrix-never R o i).never s f)
 
-        go : (x : Bool) → ((if x then return none else (body >>= settle true matrix_mark i s)) s).0 ≡ none → ((if x then return none else (body >>= settle true matrix_mark i s)) s).1.pos ≡ suc i
+        go : (x : Bool) → ((when x then return none else (body >>= settle true matrix_mark i s)) s).0 ≡ none → ((when x then return none else (body >>= settle true matrix_mark i s)) s).1.pos ≡ suc i
         go true e = a
         go false e = end-at (body s).0 refl e
 
@@ -337,7 +337,7 @@ module _ (text : List ℕ) (es : List Entry) where
 
     next_bracket-at : AgreeAt i (next_bracket text es true R o i) (λ r. next_bracket text es false (level text es false r) o i)
     unfolding next_bracket
-    next_bracket-at = then_at try_matrix-at λ m. elim m [ some x ↦ ret _ | none ↦ next_open_group-agree (suc i) R like o i ]
+    next_bracket-at = then_at try_matrix-at (elim [ some x ↦ ret _ | none ↦ next_open_group-agree (suc i) R like o i ])
 
     bar-at : (stop : Stop) → AgreeAt i (attempt text es true (open_mark stop) i (bar_body text es true R o i stop) >>= λ g. return (or_glyph o g))
         (λ r. attempt text es false (open_mark stop) i (bar_body text es false (level text es false r) o i stop) >>= λ g. return (or_glyph o g))
@@ -371,7 +371,7 @@ module _ (text : List ℕ) (es : List Entry) where
     begun-at token.Ident e has stop sg = at_once (ret _)
     begun-at token.Operator e has stop sg = at_once (ret _)
     begun-at (token.Symbol c) e has stop sg = at_once (ret _)
-    begun-at token.Sign e has stop true = at_once (bind (like.nextSimple-agree stop true) λ a. ret _)
+    begun-at token.Sign e has stop true = at_once (bind (like.next_simple-agree stop true) λ a. ret _)
     begun-at token.Sign e has stop false = at_once (ret _)
     begun-at token.Unary e has stop sg = at_once (bind (argument-agree (suc i) R like) λ a. ret _)
     begun-at token.Function e has stop sg = at_once (bind (argument-agree (suc i) R like) λ a. ret _)
@@ -446,7 +446,7 @@ module _ (text : List ℕ) (es : List Entry) where
     scripted rem Q a = elim a [ none ↦ return none | some x ↦ (next_script text es rem Q >>= λ q. return (some (node (Head.simple q.0) (x ▸ q.1)))) ]
 
     abbrev headed : Bool → Readers → Entry → M (Option Node)
-    headed rem Q e = if is token.Function e
+    headed rem Q e = when is token.Function e
         then (next_script text es rem Q >>= λ q. Q.script_func Stop.none true >>= λ a. return (some (node (Head.func e.span q.0) (q.1 ⧺ (or_missing_part a ▸ end)))))
         else (Q.script_func stop true >>= λ a. return (some (one (Head.prefix Prefix.signed e.span) (or_missing_part a))))
 
@@ -457,7 +457,7 @@ module _ (text : List ℕ) (es : List Entry) where
     scripted-agree x = bind (next_script-agree (suc s.pos) R like) λ q. ret _
 
     headed-agree : (e : Entry) → Agree 1 (suc s.pos) (headed true R e) (λ r. headed false (level text es false r) e)
-    headed-agree e = both_ways _ (bind (next_script-agree (suc s.pos) R like) λ q. bind (like.nextScriptFunc-agree Stop.none true) λ a. ret _) (bind (like.nextScriptFunc-agree stop true) λ a. ret _)
+    headed-agree e = both_ways _ (bind (next_script-agree (suc s.pos) R like) λ q. bind (like.next_script_func-agree Stop.none true) λ a. ret _) (bind (like.next_script_func-agree stop true) λ a. ret _)
 
     -- No function and no prefixing sign: a simple one, and its script.
     plainly : (s₁ t₁ : State) → s₁.pos ≡ s.pos → s₁.pos ≡ t₁.pos → Sound s₁.marks → Same s.pos ((R.simple stop sg >>= scripted true R) s₁) (((level text es false r).simple stop sg >>= scripted false (level text es false r)) t₁)
@@ -515,7 +515,7 @@ module _ (text : List ℕ) (es : List Entry) where
       goes_on : Option Entry → M (Option Node)
       goes_on x = elim x [
         | none ↦ (Q.simple stop sg >>= then_on)
-        | some e ↦ (if is token.Function e
+        | some e ↦ (when is token.Function e
             then (next_script text es rem Q >>= λ q. Q.script_func Stop.none true >>= λ a. return (some (node (Head.func e.span q.0) (q.1 ⧺ (or_missing_part a ▸ end)))))
             else (Q.script_func stop true >>= λ a. return (some (one (Head.prefix Prefix.signed e.span) (or_missing_part a)))))
       ]
@@ -580,15 +580,18 @@ module _ (text : List ℕ) (es : List Entry) where
     parse-agree : (f wraps : ℕ) (acc : Nodes) → Agree 1 0 (parse text es true f wraps acc) (λ r. parse text es false f wraps acc)
     unfolding parse
     parse-agree zero wraps acc = ret _
-    parse-agree (suc f) wraps acc =
+    parse-agree (suc f) zero acc =
         bind (fixed (intermediates-agree 0 (level text es true 256) parse-like _ none Stop.none _)) λ l.
-        bind (advance-agree (is token.CloseBracket)) λ t. elim t [
+        bind (advance-agree (is token.CloseBracket)) (elim [
           | none ↦ ret _
-          | some c ↦ elim wraps [
-            | zero ↦ parse-agree f zero _
-            | suc w ↦ parse-agree f w _
-          ]
-        ]
+          | some c ↦ parse-agree f zero _
+        ])
+    parse-agree (suc f) (suc w) acc =
+        bind (fixed (intermediates-agree 0 (level text es true 256) parse-like _ none Stop.none _)) λ l.
+        bind (advance-agree (is token.CloseBracket)) (elim [
+          | none ↦ ret _
+          | some c ↦ parse-agree f w _
+        ])
 
     abbrev begin : State
     begin = start text es true

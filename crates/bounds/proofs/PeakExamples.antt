@@ -11,7 +11,7 @@ use Rattle.lexing.specs.Rules as rules
 use Rattle.lexing.specs.Rules.{tokens}
 use Rattle.tree.specs.Words.{encode}
 use Rattle.reading.specs.Entries.{is, entries, close_after, has_sep}
-use Rattle.reading.specs.Reading.{stops, any, marks_script, heads, begins, slot, return, ◌>>=◌, if◌then◌else◌, here, current, closed, prefixes, text_of, is_byte, same_text, is_at, close_of, is_bar, closes, could_be_matrix, advance, failed, give_up, attempt, is_bar_symbol, is_unscripted, is_column_line, line_cells, both_lines, line_cols, kept_cols, column_lines, keep_cells, join_rows, row_brackets, alike, split_column_lines, argument, next_script, next_script_func, next_intermediate, spaced, at_open_close, intermediates, row_cells, next_matrix_row, more_rows, next_matrix_rows, makes_matrix, matrix_body, try_matrix, next_open_group, bar_body, next_open_close_group, next_bracket, begun, next_simple, step, level, last_of, parse, ends_operand, atom_ends, look}
+use Rattle.reading.specs.Reading.{stops, any, marks_script, heads, begins, slot, return, ◌>>=◌, when◌then◌else◌, here, current, closed, prefixes, text_of, is_byte, same_text, is_at, close_of, is_bar, closes, could_be_matrix, advance, failed, give_up, attempt, is_bar_symbol, is_unscripted, is_column_line, line_cells, both_lines, line_cols, kept_cols, column_lines, keep_cells, join_rows, row_brackets, alike, split_column_lines, argument, next_script, next_script_func, next_intermediate, spaced, at_open_close, intermediates, row_cells, next_matrix_row, more_rows, next_matrix_rows, makes_matrix, matrix_body, try_matrix, next_open_group, bar_body, next_open_close_group, next_bracket, begun, next_simple, step, level, last_of, parse, ends_operand, atom_ends, look}
 use Rattle.bounds.specs.Peak.{peak, attempt-counted, argument-counted, next_script-counted, next_script_func-counted, next_intermediate-counted, intermediates-counted, row_cells-counted, next_matrix_row-counted, more_rows-counted, next_matrix_rows-counted, matrix_body-counted, try_matrix-counted, next_open_group-counted, bar_body-counted, next_open_close_group-counted, next_bracket-counted, begun-counted, next_simple-counted, step-counted, level-counted, parse-counted, peak_of}
 
 pub record Case : Type 0 where
@@ -42,5 +42,5 @@ unfoldable pub read : Case → ℕ
 read c = peak_of (bytes c.text) (tokens (bytes c.text))
 
 pub peaks : map read cases ≡ map (λ (c : Case). c.peak) cases
-unfolding read cases encode rows longest.begins longest.longest_of longest.longest_at rules.run rules.run_end rules.blank rules.digit rules.letter rules.other rules.blanks_at rules.closer rules.literal_at rules.command_at same rules.is_text_command rules.spelling_at rules.number_end rules.past_point rules.number_at rules.quotation_at rules.byte_at rules.read_at rules.tokens_from rules.tokens_by is stops any marks_script heads begins entries close_after has_sep slot return ◌>>=◌ if◌then◌else◌ here current closed prefixes text_of is_byte same_text is_at close_of is_bar closes could_be_matrix advance failed give_up attempt is_bar_symbol is_unscripted is_column_line line_cells both_lines line_cols kept_cols column_lines keep_cells join_rows row_brackets alike split_column_lines argument next_script next_script_func next_intermediate spaced at_open_close intermediates row_cells next_matrix_row more_rows next_matrix_rows makes_matrix matrix_body try_matrix next_open_group bar_body next_open_close_group next_bracket begun next_simple step level last_of parse ends_operand atom_ends look peak attempt-counted argument-counted next_script-counted next_script_func-counted next_intermediate-counted intermediates-counted row_cells-counted next_matrix_row-counted more_rows-counted next_matrix_rows-counted matrix_body-counted try_matrix-counted next_open_group-counted bar_body-counted next_open_close_group-counted next_bracket-counted begun-counted next_simple-counted step-counted level-counted parse-counted peak_of
+unfolding read cases encode rows longest.begins longest.longest_of longest.longest_at rules.run rules.run_end rules.blank rules.digit rules.letter rules.other rules.blanks_at rules.closer rules.literal_at rules.command_at same rules.is_text_command rules.spelling_at rules.number_end rules.past_point rules.number_at rules.quotation_at rules.byte_at rules.read_at rules.tokens_from rules.tokens_by is stops any marks_script heads begins entries close_after has_sep slot return ◌>>=◌ when◌then◌else◌ here current closed prefixes text_of is_byte same_text is_at close_of is_bar closes could_be_matrix advance failed give_up attempt is_bar_symbol is_unscripted is_column_line line_cells both_lines line_cols kept_cols column_lines keep_cells join_rows row_brackets alike split_column_lines argument next_script next_script_func next_intermediate spaced at_open_close intermediates row_cells next_matrix_row more_rows next_matrix_rows makes_matrix matrix_body try_matrix next_open_group bar_body next_open_close_group next_bracket begun next_simple step level last_of parse ends_operand atom_ends look peak attempt-counted argument-counted next_script-counted next_script_func-counted next_intermediate-counted intermediates-counted row_cells-counted next_matrix_row-counted more_rows-counted next_matrix_rows-counted matrix_body-counted try_matrix-counted next_open_group-counted bar_body-counted next_open_close_group-counted next_bracket-counted begun-counted next_simple-counted step-counted level-counted parse-counted peak_of
 peaks = refl

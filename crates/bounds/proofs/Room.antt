@@ -19,8 +19,8 @@ use Rattle.bounds.proofs.Columns.{rows_of, mask_of, cols_length, split-either}
 use Rattle.bounds.proofs.Takes.{entry-inside}
 use Rattle.reading.specs.Stop.{Stop}
 use Rattle.reading.specs.Entries.{Entry, is, entries}
-use Rattle.reading.specs.Reading.{State, M, return, ◌>>=◌, here, current, closed, Mark, open_mark, matrix_mark, slot, Try, made, lost, nought, Readers, advance, failed, give_up, attempt, argument, next_script, next_script_func, next_intermediate, intermediates, Row, Rows, next_matrix_row, row_cells, more_rows, next_matrix_rows, matrix_body, try_matrix, next_open_group, bar_body, next_open_close_group, next_bracket, begun, next_simple, step, level, parse, start, parse_entries, last_of, split_column_lines, prefixes, spaced, any, marks_script, heads, begins, if◌then◌else◌, join_rows, keep_cells, column_lines, unscripted, reading_by, read_tokens}
-use Rattle.bounds.specs.Peak.{words, items_words, rows_words, perhaps, try_words, space_words, Counted, more, ran, either, answer, answer_closed, place, whole, take, known, back, peak, attempt-counted, CountedReaders, argument-counted, next_script-counted, next_script_func-counted, next_intermediate-counted, intermediates-counted, row_cells-counted, next_matrix_row-counted, more_rows-counted, next_matrix_rows-counted, matrix_body-counted, try_matrix-counted, next_open_group-counted, bar_body-counted, next_open_close_group-counted, next_bracket-counted, begun-counted, next_simple-counted, step-counted, level-counted, parse-counted, peak_of}
+use Rattle.reading.specs.Reading.{State, M, return, ◌>>=◌, here, current, closed, Mark, open_mark, matrix_mark, slot, Try, made, lost, nought, Readers, advance, failed, give_up, attempt, argument, next_script, next_script_func, next_intermediate, intermediates, Row, Rows, next_matrix_row, row_cells, more_rows, next_matrix_rows, matrix_body, try_matrix, next_open_group, bar_body, next_open_close_group, next_bracket, begun, next_simple, step, level, parse, start, parse_entries, last_of, split_column_lines, prefixes, spaced, any, marks_script, heads, begins, when◌then◌else◌, join_rows, keep_cells, column_lines, unscripted, reading_by, read_tokens}
+use Rattle.bounds.specs.Peak.{no_words, words, items_words, rows_words, perhaps, try_words, space_words, Counted, more, ran, either, answer, answer_closed, place, whole, take, known, back, peak, attempt-counted, CountedReaders, argument-counted, next_script-counted, next_script_func-counted, next_intermediate-counted, intermediates-counted, row_cells-counted, next_matrix_row-counted, more_rows-counted, next_matrix_rows-counted, matrix_body-counted, try_matrix-counted, next_open_group-counted, bar_body-counted, next_open_close_group-counted, next_bracket-counted, begun-counted, next_simple-counted, step-counted, level-counted, parse-counted, peak_of}
 
 ruleset lengths = (length-encode, length-encodes, length-encode_item, length-encode_items)
 
@@ -142,7 +142,7 @@ module _ (text : List ℕ) (es : List Entry) (rem : Bool) where
 
   both_ways : {A : Type 0} {w c : ℕ} {d g : A → ℕ} {m n : M A} (b : Bool) {C : Counted text es rem A w d m}
       {D : Counted text es rem A w d n} → Fits c C g → Fits c D g → Fits c (either b C D) g
-  unfolding if◌then◌else◌ peak
+  unfolding when◌then◌else◌ peak
   both_ways true p q = record { run = p.run; stays = p.stays; within = p.within }
   both_ways false p q = record { run = q.run; stays = q.stays; within = q.within }
 
@@ -217,16 +217,16 @@ module _ (text : List ℕ) (es : List Entry) (rem : Bool) where
       stay s low nought = unfold return in h.stays s low
 
       stay-known : (s : State) → s.pos ≤ length es → (x : Bool) →
-          ((if x then return none else (body >>= settle s)) s).1.pos ≤ length es
-      stay-known s low true = unfold if◌then◌else◌ return in low
-      stay-known s low false = unfold if◌then◌else◌ in stay s low (body s).0
+          ((when x then return none else (body >>= settle s)) s).1.pos ≤ length es
+      stay-known s low true = unfold when◌then◌else◌ return in low
+      stay-known s low false = unfold when◌then◌else◌ in stay s low (body s).0
 
-      known-run : (s : State) (x : Bool) → Covers s ((if x then return none else (body >>= settle s)) s)
-      known-run s true = unfold if◌then◌else◌ return in omega arith
-      known-run s false = unfold if◌then◌else◌ in done s (body s).0 refl
+      known-run : (s : State) (x : Bool) → Covers s ((when x then return none else (body >>= settle s)) s)
+      known-run s true = unfold when◌then◌else◌ return in omega arith
+      known-run s false = unfold when◌then◌else◌ in done s (body s).0 refl
 
       settled : (p : State) (t : Try) → Counted text es rem (Option Node) (0 + try_words t) (perhaps words) (settle p t)
-      settled p t = elim t [ made x ↦ answer _ | lost ↦ back m i p | nought ↦ answer _ ]
+      settled p = elim [ made x ↦ answer _ | lost ↦ back m i p | nought ↦ answer _ ]
 
       settled-within : (s : State) → s.pos ≤ length es → (t : Try) → (body s).0 ≡ t →
           peak text es rem (settled s t) (body s).1 ≤ c + 32 * (length es - s.pos)
@@ -251,57 +251,57 @@ module _ (text : List ℕ) (es : List Entry) (rem : Bool) where
     argument-fits : Fits 6 (argument-counted text es rem R counted) (λ a. 0)
     unfolding argument argument-counted size
     argument-fits =
-        bind (room.simple Stop.none true) (omega arith) λ a. elim a [
+        bind (room.simple Stop.none true) (omega arith) (elim [
           | none ↦ ret _ (simp lengths (omega arith))
           | some x ↦ ret _ (omega arith)
-        ]
+        ])
 
     next_script-fits : Fits 0 (next_script-counted text es rem R counted) (λ q. 0)
     unfolding next_script next_script-counted size
     next_script-fits =
-        bind (advance-fits marks_script) (omega arith) λ t. elim t [
+        bind (advance-fits marks_script) (omega arith) (elim [
           | none ↦ ret _ (simp lengths (omega arith))
           | some e ↦ both_ways _ (bind argument-fits (omega arith) λ a. ret _ (simp lengths (omega arith)))
-              (bind argument-fits (omega arith) λ a. bind (advance-fits (is token.Super)) (omega arith) λ u. elim u [
+              (bind argument-fits (omega arith) λ a. bind (advance-fits (is token.Super)) (omega arith) (elim [
                 | none ↦ ret _ (simp lengths (omega arith))
                 | some e' ↦ bind argument-fits (omega arith) λ y. ret _ (simp lengths (omega arith))
-              ])
-        ]
+              ]))
+        ])
 
     next_script_func-fits : (stop : Stop) (sg : Bool) → Fits 6 (next_script_func-counted text es rem R counted stop sg) (opt 6 14)
     unfolding next_script_func next_script_func-counted size
     next_script_func-fits stop sg =
-        putting (omega arith) (bind (advance-fits (heads sg)) (omega arith) λ t. elim t [
-          | none ↦ bind (room.simple stop sg) (omega arith) λ a. elim a [
+        putting (omega arith) (bind (advance-fits (heads sg)) (omega arith) (elim [
+          | none ↦ bind (room.simple stop sg) (omega arith) (elim [
             | none ↦ ret _ (omega arith)
             | some x ↦ bind next_script-fits (omega arith) λ q. ret _ (simp lengths (omega arith))
-          ]
+          ])
           | some e ↦ both_ways _
               (bind next_script-fits (omega arith) λ q.
-              bind (room.script_func Stop.none true) (omega arith) λ a. elim a [
+              bind (room.script_func Stop.none true) (omega arith) (elim [
                 | none ↦ ret _ (simp lengths (omega (arith, sizes-join q.1 (unscripted (leaf Head.missing) ▸ end))))
                 | some x ↦ ret _ (simp lengths (omega (arith, sizes-join q.1 (x ▸ end))))
-              ])
-              (bind (room.script_func stop true) (omega arith) λ a. elim a [
+              ]))
+              (bind (room.script_func stop true) (omega arith) (elim [
                 | none ↦ ret _ (simp lengths (omega arith))
                 | some x ↦ ret _ (simp lengths (omega arith))
-              ])
-        ])
+              ]))
+        ]))
 
     pub next_intermediate-fits : (stop : Stop) (sg : Bool) →
         Fits 7 (next_intermediate-counted text es rem R counted stop sg) (opt 7 14)
     unfolding next_intermediate next_intermediate-counted size
     next_intermediate-fits stop sg =
-        putting (omega arith) (bind (room.script_func stop sg) (omega arith) λ a. elim a [
+        putting (omega arith) (bind (room.script_func stop sg) (omega arith) (elim [
           | none ↦ ret _ (omega arith)
-          | some x ↦ bind (advance-fits (is token.Frac)) (omega arith) λ t. elim t [
+          | some x ↦ bind (advance-fits (is token.Frac)) (omega arith) (elim [
             | none ↦ ret _ (simp lengths (omega (arith, item-within x)))
-            | some e ↦ bind (room.script_func Stop.none true) (omega arith) λ y. elim y [
+            | some e ↦ bind (room.script_func Stop.none true) (omega arith) (elim [
               | none ↦ ret _ (simp lengths (omega arith))
               | some z ↦ ret _ (simp lengths (omega arith))
-            ]
-          ]
-        ])
+            ])
+          ])
+        ]))
 
     pub intermediates-fits : (f : ℕ) (until : Option Entry) (stop : Stop) (before : Option Node) →
         Fits (waits before) (intermediates-counted text es rem R counted f until stop before) (λ l. waits before)
@@ -311,7 +311,7 @@ module _ (text : List ℕ) (es : List Entry) (rem : Bool) where
         bind here-fits (omega arith) λ p.
         both_ways _ (ret _ (simp lengths (omega arith)))
         (putting (omega (arith, space-small before (get_elem? es p)))
-        (bind (next_intermediate-fits stop (prefixes before)) (omega (arith, space-small before (get_elem? es p))) λ a. elim a [
+        (bind (next_intermediate-fits stop (prefixes before)) (omega (arith, space-small before (get_elem? es p))) (elim [
           | none ↦ ret _ (simp lengths (omega arith))
           | some x ↦ bind (intermediates-fits f until stop (some x)) (omega (arith, space-small before (get_elem? es p))) λ l.
               ret _ (simp lengths (omega (
@@ -320,7 +320,7 @@ module _ (text : List ℕ) (es : List Entry) (rem : Bool) where
                 space-small before (get_elem? es p),
                 waits-small before,
               )))
-        ]))
+        ])))
 
     -- a cell's own words and those of the first item in it; a cell read has paid for a column's flag
     row_cells-fits : (f : ℕ) → Fits 13 (row_cells-counted text es rem R counted f) (perhaps (λ q. count q.0))
@@ -328,25 +328,25 @@ module _ (text : List ℕ) (es : List Entry) (rem : Bool) where
     row_cells-fits zero = ret _ (omega arith)
     row_cells-fits (suc f) =
         putting (omega arith) (bind (intermediates-fits _ none Stop.sep none) (omega arith) λ l.
-        bind (advance-fits any) (omega arith) λ t. elim t [
+        bind (advance-fits any) (omega arith) (elim [
           | none ↦ ret _ (omega arith)
           | some e ↦ both_ways _
-              (bind (row_cells-fits f) (omega arith) λ q. elim q [
+              (bind (row_cells-fits f) (omega arith) (elim [
                 | none ↦ ret _ (omega arith)
                 | some m ↦ ret _ (simp lengths (omega arith))
-              ])
+              ]))
               (both_ways _ (ret _ (simp lengths (omega arith))) (ret _ (omega arith)))
-        ])
+        ]))
 
     pub next_matrix_row-fits : Fits 0 (next_matrix_row-counted text es rem R counted) (perhaps (λ r. count r.cells))
     unfolding next_matrix_row next_matrix_row-counted
     next_matrix_row-fits =
-        bind here-fits (omega arith) λ i. bind (advance-fits any) (omega arith) λ t. elim t [
+        bind here-fits (omega arith) λ i. bind (advance-fits any) (omega arith) (elim [
           | none ↦ ret _ (omega arith)
           | some o ↦ both_ways _
-              (bind (row_cells-fits _) (omega arith) λ q. elim q [ none ↦ ret _ (omega arith) | some m ↦ noted i _ (omega arith) ])
+              (bind (row_cells-fits _) (omega arith) (elim [ none ↦ ret _ (omega arith) | some m ↦ noted i _ (omega arith) ]))
               (ret _ (omega arith))
-        ]
+        ])
 
     more_rows-fits : (f : ℕ) (h : Row) → Fits 0 (more_rows-counted text es rem R counted f h) (λ l. 0)
     unfolding more_rows more_rows-counted
@@ -354,61 +354,61 @@ module _ (text : List ℕ) (es : List Entry) (rem : Bool) where
     more_rows-fits (suc f) h =
         bind here-fits (omega arith) λ p.
         both_ways _
-        (bind (advance-fits any) (omega arith) λ t. bind next_matrix_row-fits (omega arith) λ q. elim q [
+        (bind (advance-fits any) (omega arith) λ t. bind next_matrix_row-fits (omega arith) (elim [
           | none ↦ ret _ (omega arith)
           | some r ↦ both_ways _
-              (bind (more_rows-fits f h) (omega arith) λ l. elim l [ none ↦ ret _ (omega arith) | some m ↦ ret _ (omega arith) ])
+              (bind (more_rows-fits f h) (omega arith) (elim [ none ↦ ret _ (omega arith) | some m ↦ ret _ (omega arith) ]))
               (ret _ (omega arith))
-        ])
+        ]))
         (ret _ (omega arith))
 
     next_matrix_rows-fits : Fits 0 (next_matrix_rows-counted text es rem R counted) (perhaps (λ r. count r.head.cells))
     unfolding next_matrix_rows next_matrix_rows-counted
     next_matrix_rows-fits =
-        bind next_matrix_row-fits (omega arith) λ q. elim q [
+        bind next_matrix_row-fits (omega arith) (elim [
           | none ↦ ret _ (omega arith)
           | some h ↦ both_ways _
-              (bind (more_rows-fits _ h) (omega arith) λ l. elim l [ none ↦ ret _ (omega arith) | some m ↦ ret _ (omega arith) ])
+              (bind (more_rows-fits _ h) (omega arith) (elim [ none ↦ ret _ (omega arith) | some m ↦ ret _ (omega arith) ]))
               (ret _ (omega arith))
-        ]
+        ])
 
     -- a bracket's token has paid for its own words and for the first item in it
     matrix_body-fits : (o : Entry) (i : ℕ) → Fits 13 (matrix_body-counted text es rem R counted o i) (tried 13)
     unfolding matrix_body matrix_body-counted
     matrix_body-fits o i =
-        putting (omega arith) (bind next_matrix_rows-fits (omega arith) λ q. elim q [
+        putting (omega arith) (bind next_matrix_rows-fits (omega arith) (elim [
           | none ↦ ret _ (omega arith)
           | some r ↦ putting (omega arith) (bind here-fits (omega arith) λ p.
-              both_ways _ (bind (advance-fits any) (omega arith) λ t. elim t [
+              both_ways _ (bind (advance-fits any) (omega arith) (elim [
                 | none ↦ ret _ (omega arith)
                 | some c ↦ noted i _ (omega (arith, matrix-words r o.span c.span))
-              ]) (ret _ (omega arith)))
-        ])
+              ])) (ret _ (omega arith)))
+        ]))
 
     bar_body-fits : (o : Entry) (i : ℕ) (stop : Stop) → Fits 13 (bar_body-counted text es rem R counted o i stop) (tried 13)
     unfolding bar_body bar_body-counted size
     bar_body-fits o i stop =
-        putting (omega arith) (bind (next_intermediate-fits stop true) (omega arith) λ a. elim a [
+        putting (omega arith) (bind (next_intermediate-fits stop true) (omega arith) (elim [
           | none ↦ ret _ (omega arith)
           | some x ↦
               bind (intermediates-fits _ (some o) stop (some x)) (omega arith) λ l.
               bind here-fits (omega arith) λ p.
               both_ways _
-              (bind (advance-fits any) (omega arith) λ t. elim t [
+              (bind (advance-fits any) (omega arith) (elim [
                 | none ↦ ret _ (omega arith)
                 | some c ↦ noted i _ (simp lengths (omega arith))
-              ])
+              ]))
               (ret _ (omega arith))
-        ])
+        ]))
 
     next_open_group-fits : (o : Entry) (i : ℕ) → Fits 13 (next_open_group-counted text es rem R counted o i) (λ a. 0)
     unfolding next_open_group next_open_group-counted size
     next_open_group-fits o i =
         putting (omega arith) (bind (intermediates-fits _ none Stop.none none) (omega arith) λ l.
-        bind (advance-fits (is token.CloseBracket)) (omega arith) λ t. elim t [
+        bind (advance-fits (is token.CloseBracket)) (omega arith) (elim [
           | none ↦ ret _ (simp lengths (omega arith))
           | some c ↦ noted i _ (simp lengths (omega arith))
-        ])
+        ]))
 
     try_matrix-fits : (o : Entry) (i : ℕ) → Fits 13 (try_matrix-counted text es rem R counted o i) (opt 13 0)
     unfolding try_matrix try_matrix-counted
@@ -417,22 +417,22 @@ module _ (text : List ℕ) (es : List Entry) (rem : Bool) where
     next_bracket-fits : (o : Entry) (i : ℕ) → Fits 13 (next_bracket-counted text es rem R counted o i) (λ a. 0)
     unfolding next_bracket next_bracket-counted
     next_bracket-fits o i =
-        bind (try_matrix-fits o i) (omega arith) λ m. elim m [
+        bind (try_matrix-fits o i) (omega arith) (elim [
           | some x ↦ ret _ (omega arith)
           | none ↦ spare (next_open_group-fits o i) (omega arith) (omega arith)
-        ]
+        ])
 
     next_open_close_group-fits : (o : Entry) (i : ℕ) (stop : Stop) →
         Fits 13 (next_open_close_group-counted text es rem R counted o i stop) (λ a. 0)
     unfolding next_open_close_group next_open_close_group-counted size
     next_open_close_group-fits o i stop =
-        bind (try_matrix-fits o i) (omega arith) λ m. elim m [
+        bind (try_matrix-fits o i) (omega arith) (elim [
           | some x ↦ ret _ (omega arith)
-          | none ↦ bind (attempt-fits (open_mark stop) i (bar_body-fits o i stop)) (omega arith) λ g. elim g [
+          | none ↦ bind (attempt-fits (open_mark stop) i (bar_body-fits o i stop)) (omega arith) (elim [
             | none ↦ ret _ (simp lengths (omega arith))
             | some x ↦ ret _ (omega arith)
-          ]
-        ]
+          ])
+        ])
 
     begun-fits : (k : Token) (e : Entry) (i : ℕ) (stop : Stop) (sg : Bool) →
         Fits 32 (begun-counted text es rem R counted k e i stop sg) (opt 0 14)
@@ -443,10 +443,10 @@ module _ (text : List ℕ) (es : List Entry) (rem : Bool) where
     begun-fits token.Operator e i stop sg = ret _ (simp lengths (omega arith))
     begun-fits (token.Symbol c) e i stop sg = ret _ (simp lengths (omega arith))
     begun-fits token.Sign e i stop true =
-        putting (omega arith) (bind (room.simple stop true) (omega arith) λ a. elim a [
+        putting (omega arith) (bind (room.simple stop true) (omega arith) (elim [
           | none ↦ ret _ (simp lengths (omega arith))
           | some x ↦ ret _ (simp lengths (omega arith))
-        ])
+        ]))
     begun-fits token.Sign e i stop false = ret _ (simp lengths (omega arith))
     begun-fits token.Unary e i stop sg =
         putting (omega arith) (bind argument-fits (omega arith) λ a. ret _ (simp lengths (omega arith)))
@@ -467,10 +467,10 @@ module _ (text : List ℕ) (es : List Entry) (rem : Bool) where
     next_simple-fits : (stop : Stop) (sg : Bool) → Fits 0 (next_simple-counted text es rem R counted stop sg) (opt 0 14)
     unfolding next_simple next_simple-counted
     next_simple-fits stop sg =
-        bind here-fits (omega arith) λ i. bind (advance-fits (begins stop)) (omega arith) λ t. elim t [
+        bind here-fits (omega arith) λ i. bind (advance-fits (begins stop)) (omega arith) (elim [
           | none ↦ ret _ (omega arith)
           | some e ↦ begun-fits e.token e i stop sg
-        ]
+        ])
 
     step_room : Room (step text es rem R) (step-counted text es rem R counted)
     unfolding step step-counted
@@ -493,19 +493,23 @@ module _ (text : List ℕ) (es : List Entry) (rem : Bool) where
       Fits (w + 14) (parse-counted text es rem w f wraps inters) (λ l. 14)
   unfolding parse parse-counted
   parse-fits w zero wraps inters e = ret _ (omega arith)
-  parse-fits w (suc f) wraps inters e =
+  parse-fits w (suc f) zero inters e =
       bind (intermediates-fits (level text es rem 256) (level-counted text es rem 256) (level-room 256) _ none Stop.none (last_of inters))
       (omega (arith, waits-small (last_of inters))) λ l.
-      bind (advance-fits (is token.CloseBracket)) (omega (arith, waits-small (last_of inters))) λ t. elim t [
+      bind (advance-fits (is token.CloseBracket)) (omega (arith, waits-small (last_of inters))) (elim [
         | none ↦ ret _ (omega (arith, join-words inters l, waits-small (last_of inters)))
-        | some c ↦ elim wraps [
-          | zero ↦ spare (parse-fits _ f zero (inters ⧺ l) (omega (arith, join-words inters l))) (omega arith)
-              (omega (arith, waits-small (last_of inters)))
-          | suc v ↦ putting (omega (arith, waits-small (last_of inters)))
-              (spare (parse-fits _ f v _ (omega (arith, wrap-words c.span (inters ⧺ l), join-words inters l))) (omega arith)
-              (omega (arith, waits-small (last_of inters))))
-        ]
-      ]
+        | some c ↦ spare (parse-fits (w + items_words l + no_words (some c)) f zero (inters ⧺ l) (omega (arith, join-words inters l))) (omega arith)
+            (omega (arith, waits-small (last_of inters)))
+      ])
+  parse-fits w (suc f) (suc v) inters e =
+      bind (intermediates-fits (level text es rem 256) (level-counted text es rem 256) (level-room 256) _ none Stop.none (last_of inters))
+      (omega (arith, waits-small (last_of inters))) λ l.
+      bind (advance-fits (is token.CloseBracket)) (omega (arith, waits-small (last_of inters))) (elim [
+        | none ↦ ret _ (omega (arith, join-words inters l, waits-small (last_of inters)))
+        | some c ↦ putting (omega (arith, waits-small (last_of inters)))
+            (spare (parse-fits _ f v _ (omega (arith, wrap-words c.span (inters ⧺ l), join-words inters l))) (omega arith)
+            (omega (arith, waits-small (last_of inters))))
+      ])
 
   -- The peak is no less than the words that stand at the beginning, and those of the answer.
   pub peak-start : {A : Type 0} {w : ℕ} {d : A → ℕ} {m : M A} (C : Counted text es rem A w d m) (s : State) →
@@ -525,7 +529,7 @@ module _ (text : List ℕ) (es : List Entry) (rem : Bool) where
 
   pub peak-answer : {A : Type 0} {w : ℕ} {d : A → ℕ} {m : M A} (C : Counted text es rem A w d m) (s : State) →
       d (m s).0 ≤ peak text es rem C s
-  unfolding peak ◌>>=◌ if◌then◌else◌ return closed give_up
+  unfolding peak ◌>>=◌ when◌then◌else◌ return closed give_up
   peak-answer (more n C) s = peak-answer C s
   peak-answer (ran {m} C K) s = le_trans (peak-answer (K (m s).0) (m s).1) (le-max_right _ _)
   peak-answer (either true C D) s = peak-answer C s

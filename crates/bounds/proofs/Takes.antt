@@ -14,7 +14,7 @@ use Rattle.tokens.specs.declared.token.Token.TheVariants as token
 use Rattle.tree.specs.Tree.{Node, Nodes, end}
 use Rattle.reading.specs.Stop.{Stop}
 use Rattle.reading.specs.Entries.{Entry, is}
-use Rattle.reading.specs.Reading.{State, M, return, ◌>>=◌, here, current, closed, Mark, open_mark, matrix_mark, slot, Try, made, lost, nought, Readers, is_at, advance, failed, give_up, attempt, argument, next_script, next_script_func, next_intermediate, intermediates, Row, next_matrix_row, row_cells, more_rows, next_matrix_rows, matrix_body, try_matrix, next_open_group, bar_body, next_open_close_group, next_bracket, begun, next_simple, step, level, parse, start, parse_entries, could_be_matrix, prefixes, any, marks_script, heads, begins, if◌then◌else◌}
+use Rattle.reading.specs.Reading.{State, M, return, ◌>>=◌, here, current, closed, Mark, open_mark, matrix_mark, slot, Try, made, lost, nought, Readers, is_at, advance, failed, give_up, attempt, argument, next_script, next_script_func, next_intermediate, intermediates, Row, next_matrix_row, row_cells, more_rows, next_matrix_rows, matrix_body, try_matrix, next_open_group, bar_body, next_open_close_group, next_bracket, begun, next_simple, step, level, parse, start, parse_entries, could_be_matrix, prefixes, any, marks_script, heads, begins, when◌then◌else◌}
 
 -- The takes are bounded: every reader pays for what it takes. Nothing is assumed.
 
@@ -110,16 +110,16 @@ module _ (text : List ℕ) (es : List Entry) (price : ℕ) (fee : (m : Mark) (i 
         record { ok = q.ok; base = q.base; kept = λ j l. q.kept j l ∙ p.kept j l; cost = omega (arith, p.cost, q.cost, leb→le c₀ c le) };
   }
 
-  where_true : {A : Type 0} {a b c : ℕ} (x : Bool) {m n : M A} {d : A → ℕ} → (x ≡ true → Pays a b c m d) → Pays a b c n d → Pays a b c (if x then m else n) d
-  unfolding if◌then◌else◌
+  where_true : {A : Type 0} {a b c : ℕ} (x : Bool) {m n : M A} {d : A → ℕ} → (x ≡ true → Pays a b c m d) → Pays a b c n d → Pays a b c (when x then m else n) d
+  unfolding when◌then◌else◌
   where_true true p q = p refl
   where_true false p q = q
 
   spare : {A : Type 0} {a b c c₀ : ℕ} {m : M A} {d : A → ℕ} → Pays a b c₀ m d → T (leb c₀ c) → Pays a b c m d
   spare {c} {c₀} {m} {d} h le = record { run = λ s o base. let p = h.run s o base in record { ok = p.ok; base = p.base; kept = p.kept; cost = omega (arith, p.cost, leb→le c₀ c le) } }
 
-  both_ways : {A : Type 0} {a b c : ℕ} (x : Bool) {m n : M A} {d : A → ℕ} → Pays a b c m d → Pays a b c n d → Pays a b c (if x then m else n) d
-  unfolding if◌then◌else◌
+  both_ways : {A : Type 0} {a b c : ℕ} (x : Bool) {m n : M A} {d : A → ℕ} → Pays a b c m d → Pays a b c n d → Pays a b c (when x then m else n) d
+  unfolding when◌then◌else◌
   both_ways true p q = p
   both_ways false p q = q
 
@@ -182,8 +182,8 @@ module _ (text : List ℕ) (es : List Entry) (price : ℕ) (fee : (m : Mark) (i 
           cost = omega (arith, p.cost, p.ok.inside, bank-set price (body s).1.marks (slot m i) short (p.kept (slot m i) (slot-below m i) ∙ u));
         }
 
-    known : (x : Bool) → get_or s.marks (slot m i) false ≡ x → Paid (suc i) b 7 z s ((if x then return none else (body >>= settle m i s)) s).1
-    unfolding if◌then◌else◌ ◌>>=◌ return
+    known : (x : Bool) → get_or s.marks (slot m i) false ≡ x → Paid (suc i) b 7 z s ((when x then return none else (body >>= settle m i s)) s).1
+    unfolding when◌then◌else◌ ◌>>=◌ return
     known true e = record { ok = o; base = base; kept = λ j l. refl; cost = omega arith }
     known false e = settled (body s).0 refl e
 
@@ -198,42 +198,42 @@ module _ (text : List ℕ) (es : List Entry) (price : ℕ) (fee : (m : Mark) (i 
   module _ (R : Readers) (good : Good R) where
     argument-pays : {b : ℕ} → Pays b b 1 (argument text es true R) (λ a. 0)
     unfolding argument
-    argument-pays = bind (good.nextSimple-pays Stop.none true) tt λ a. elim a [ none ↦ ret _ tt | some x ↦ ret _ tt ]
+    argument-pays = bind (good.next_simple-pays Stop.none true) tt (elim [ none ↦ ret _ tt | some x ↦ ret _ tt ])
 
     next_script-pays : {b : ℕ} → Pays b b 1 (next_script text es true R) (λ a. 0)
     unfolding next_script
     next_script-pays =
-        bind (advance-pays marks_script) tt λ t. elim t [
+        bind (advance-pays marks_script) tt (elim [
           | none ↦ ret _ tt
           | some e ↦ both_ways _ (bind argument-pays tt λ a. ret _ tt)
-              (bind argument-pays tt λ a. bind (advance-pays (is token.Super)) tt λ u. elim u [
+              (bind argument-pays tt λ a. bind (advance-pays (is token.Super)) tt (elim [
                 | none ↦ ret _ tt
                 | some e' ↦ bind argument-pays tt λ y. ret _ tt
-              ])
-        ]
+              ]))
+        ])
 
     next_script_func-pays' : {b : ℕ} (stop : Stop) (sg : Bool) → Pays b b 2 (next_script_func text es true R stop sg) (opt 3)
     unfolding next_script_func
     next_script_func-pays' stop sg =
-        bind (advance-pays (heads sg)) tt λ t. elim t [
-          | none ↦ bind (good.nextSimple-pays stop sg) tt λ a. elim a [
+        bind (advance-pays (heads sg)) tt (elim [
+          | none ↦ bind (good.next_simple-pays stop sg) tt (elim [
             | none ↦ ret _ tt
             | some x ↦ bind next_script-pays tt λ q. ret _ tt
-          ]
-          | some e ↦ both_ways _ (bind next_script-pays tt λ q. bind (good.nextScriptFunc-pays Stop.none true) tt λ a. elim a [ none ↦ ret _ tt | some x ↦ ret _ tt ])
-              (bind (good.nextScriptFunc-pays stop true) tt λ a. elim a [ none ↦ ret _ tt | some x ↦ ret _ tt ])
-        ]
+          ])
+          | some e ↦ both_ways _ (bind next_script-pays tt λ q. bind (good.next_script_func-pays Stop.none true) tt (elim [ none ↦ ret _ tt | some x ↦ ret _ tt ]))
+              (bind (good.next_script_func-pays stop true) tt (elim [ none ↦ ret _ tt | some x ↦ ret _ tt ]))
+        ])
 
     next_intermediate-pays : {b : ℕ} (stop : Stop) (sg : Bool) → Pays b b 2 (next_intermediate text es true R stop sg) (opt 2)
     unfolding next_intermediate
     next_intermediate-pays stop sg =
-        bind (good.nextScriptFunc-pays stop sg) tt λ a. elim a [
+        bind (good.next_script_func-pays stop sg) tt (elim [
           | none ↦ ret _ tt
-          | some x ↦ bind (advance-pays (is token.Frac)) tt λ t. elim t [
+          | some x ↦ bind (advance-pays (is token.Frac)) tt (elim [
             | none ↦ ret _ tt
-            | some e ↦ bind (good.nextScriptFunc-pays Stop.none true) tt λ y. elim y [ none ↦ ret _ tt | some z ↦ ret _ tt ]
-          ]
-        ]
+            | some e ↦ bind (good.next_script_func-pays Stop.none true) tt (elim [ none ↦ ret _ tt | some z ↦ ret _ tt ])
+          ])
+        ])
 
     intermediates-pays : {b : ℕ} (f : ℕ) (until : Option Entry) (stop : Stop) (before : Option Node) → Pays b b 2 (intermediates text es true R f until stop before) (λ l. 0)
     unfolding intermediates
@@ -241,30 +241,30 @@ module _ (text : List ℕ) (es : List Entry) (price : ℕ) (fee : (m : Mark) (i 
     intermediates-pays (suc f) until stop before =
         bind here-pays tt λ p.
         both_ways _ (ret _ tt)
-        (bind (next_intermediate-pays stop (prefixes before)) tt λ a. elim a [
+        (bind (next_intermediate-pays stop (prefixes before)) tt (elim [
           | none ↦ ret _ tt
           | some x ↦ bind (intermediates-pays f until stop (some x)) tt λ l. ret _ tt
-        ])
+        ]))
 
     row_cells-pays : {b : ℕ} (f : ℕ) → Pays b b 3 (row_cells text es true R f) (opt 7)
     unfolding row_cells
     row_cells-pays zero = ret _ tt
     row_cells-pays (suc f) =
         bind (intermediates-pays _ none Stop.sep none) tt λ l.
-        bind (advance-pays any) tt λ t. elim t [
+        bind (advance-pays any) tt (elim [
           | none ↦ ret _ tt
           | some e ↦ both_ways _
-              (bind (row_cells-pays f) tt λ q. elim q [ none ↦ ret _ tt | some m ↦ ret _ tt ])
+              (bind (row_cells-pays f) tt (elim [ none ↦ ret _ tt | some m ↦ ret _ tt ]))
               (both_ways _ (ret _ tt) (ret _ tt))
-        ]
+        ])
 
     next_matrix_row-pays : {b : ℕ} → Pays b b 1 (next_matrix_row text es true R) (opt 7)
     unfolding next_matrix_row
     next_matrix_row-pays =
-        bind here-pays tt λ i. bind (advance-pays any) tt λ t. elim t [
+        bind here-pays tt λ i. bind (advance-pays any) tt (elim [
           | none ↦ ret _ tt
-          | some o ↦ both_ways _ (bind (row_cells-pays _) tt λ q. elim q [ none ↦ ret _ tt | some m ↦ noted i _ tt ]) (ret _ tt)
-        ]
+          | some o ↦ both_ways _ (bind (row_cells-pays _) tt (elim [ none ↦ ret _ tt | some m ↦ noted i _ tt ])) (ret _ tt)
+        ])
 
     more_rows-pays : {b : ℕ} (f : ℕ) (h : Row) → Pays b b 2 (more_rows text es true R f h) (opt 2)
     unfolding more_rows
@@ -272,43 +272,43 @@ module _ (text : List ℕ) (es : List Entry) (price : ℕ) (fee : (m : Mark) (i 
     more_rows-pays (suc f) h =
         bind here-pays tt λ p.
         both_ways _
-        (bind (advance-pays any) tt λ t. elim t [
-          | none ↦ bind next_matrix_row-pays tt λ q. elim q [ none ↦ ret _ tt | some r ↦ both_ways _ (bind (more_rows-pays f h) tt λ l. elim l [ none ↦ ret _ tt | some m ↦ ret _ tt ]) (ret _ tt) ]
-          | some e ↦ bind next_matrix_row-pays tt λ q. elim q [ none ↦ ret _ tt | some r ↦ both_ways _ (bind (more_rows-pays f h) tt λ l. elim l [ none ↦ ret _ tt | some m ↦ ret _ tt ]) (ret _ tt) ]
-        ])
+        (bind (advance-pays any) tt (elim [
+          | none ↦ bind next_matrix_row-pays tt (elim [ none ↦ ret _ tt | some r ↦ both_ways _ (bind (more_rows-pays f h) tt (elim [ none ↦ ret _ tt | some m ↦ ret _ tt ])) (ret _ tt) ])
+          | some e ↦ bind next_matrix_row-pays tt (elim [ none ↦ ret _ tt | some r ↦ both_ways _ (bind (more_rows-pays f h) tt (elim [ none ↦ ret _ tt | some m ↦ ret _ tt ])) (ret _ tt) ])
+        ]))
         (ret _ tt)
 
     next_matrix_rows-pays : {b : ℕ} → Pays b b 1 (next_matrix_rows text es true R) (opt 2)
     unfolding next_matrix_rows
     next_matrix_rows-pays =
-        bind next_matrix_row-pays tt λ q. elim q [
+        bind next_matrix_row-pays tt (elim [
           | none ↦ ret _ tt
-          | some h ↦ both_ways _ (bind (more_rows-pays _ h) tt λ l. elim l [ none ↦ ret _ tt | some m ↦ ret _ tt ]) (ret _ tt)
-        ]
+          | some h ↦ both_ways _ (bind (more_rows-pays _ h) tt (elim [ none ↦ ret _ tt | some m ↦ ret _ tt ])) (ret _ tt)
+        ])
 
     matrix_body-pays : {b : ℕ} (o : Entry) (i : ℕ) → Pays b b 7 (matrix_body text es true R o i) (tries 7)
     unfolding matrix_body
     matrix_body-pays o i =
-        bind next_matrix_rows-pays tt λ q. elim q [
+        bind next_matrix_rows-pays tt (elim [
           | none ↦ ret _ tt
           | some r ↦ bind here-pays tt λ p.
-              both_ways _ (bind (advance-pays any) tt λ t. elim t [ none ↦ ret _ tt | some c ↦ noted i _ tt ]) (ret _ tt)
-        ]
+              both_ways _ (bind (advance-pays any) tt (elim [ none ↦ ret _ tt | some c ↦ noted i _ tt ])) (ret _ tt)
+        ])
 
     bar_body-pays : {b : ℕ} (o : Entry) (i : ℕ) (stop : Stop) → Pays b b 7 (bar_body text es true R o i stop) (tries 4)
     unfolding bar_body
     bar_body-pays o i stop =
-        bind (next_intermediate-pays stop true) tt λ a. elim a [
+        bind (next_intermediate-pays stop true) tt (elim [
           | none ↦ ret _ tt
           | some x ↦ bind (intermediates-pays _ (some o) stop (some x)) tt λ l. bind here-pays tt λ p.
-              both_ways _ (bind (advance-pays any) tt λ t. elim t [ none ↦ ret _ tt | some c ↦ noted i _ tt ]) (ret _ tt)
-        ]
+              both_ways _ (bind (advance-pays any) tt (elim [ none ↦ ret _ tt | some c ↦ noted i _ tt ])) (ret _ tt)
+        ])
 
     next_open_group-pays : {b : ℕ} (o : Entry) (i : ℕ) → Pays b b 7 (next_open_group text es true R o i) (λ x. 4)
     unfolding next_open_group
     next_open_group-pays o i =
         bind (intermediates-pays _ none Stop.none none) tt λ l.
-        bind (advance-pays (is token.CloseBracket)) tt λ t. elim t [ none ↦ ret _ tt | some c ↦ noted i _ tt ]
+        bind (advance-pays (is token.CloseBracket)) tt (elim [ none ↦ ret _ tt | some c ↦ noted i _ tt ])
 
     module _ (i b : ℕ) (below : b ≤ i) (within : i < length es) (o : Entry) (has : get_elem? es i ≡ some o) where
       try_matrix-pays : Opener o → Pays (suc i) b 7 (try_matrix text es true R o i) (λ x. 7)
@@ -318,18 +318,18 @@ module _ (text : List ℕ) (es : List Entry) (price : ℕ) (fee : (m : Mark) (i 
       next_bracket-pays : o.token ≡ token.OpenBracket → Pays (suc i) b 7 (next_bracket text es true R o i) (λ x. 4)
       unfolding next_bracket
       next_bracket-pays k =
-          bind (try_matrix-pays (opens k)) tt λ m. elim m [
+          bind (try_matrix-pays (opens k)) tt (elim [
             | some x ↦ ret _ tt
             | none ↦ lower (omega arith) (next_open_group-pays o i)
-          ]
+          ])
 
       next_open_close_group-pays : (stop : Stop) → o.token ≡ token.OpenCloseBracket → Pays (suc i) b 7 (next_open_close_group text es true R o i stop) (λ x. 4)
       unfolding next_open_close_group
       next_open_close_group-pays stop bar =
-          bind (try_matrix-pays (bars bar)) tt λ m. elim m [
+          bind (try_matrix-pays (bars bar)) tt (elim [
             | some x ↦ ret _ tt
             | none ↦ bind (attempt-pays (open_mark stop) i below within (omega arith) (fee (open_mark stop) i (o, has, bar)) (bar_body-pays o i stop)) tt λ g. ret _ tt
-          ]
+          ])
 
       begun-pays : (k : Token) → o.token ≡ k → (stop : Stop) (sg : Bool) → Pays (suc i) b 7 (begun text es true R k o i stop sg) (opt 4)
       unfolding begun
@@ -338,7 +338,7 @@ module _ (text : List ℕ) (es : List Entry) (price : ℕ) (fee : (m : Mark) (i 
       begun-pays token.Ident e stop sg = ret _ tt
       begun-pays token.Operator e stop sg = ret _ tt
       begun-pays (token.Symbol c) e stop sg = ret _ tt
-      begun-pays token.Sign e stop true = lower (omega arith) (bind (good.nextSimple-pays stop true) tt λ a. elim a [ none ↦ ret _ tt | some x ↦ ret _ tt ])
+      begun-pays token.Sign e stop true = lower (omega arith) (bind (good.next_simple-pays stop true) tt (elim [ none ↦ ret _ tt | some x ↦ ret _ tt ]))
       begun-pays token.Sign e stop false = ret _ tt
       begun-pays token.Unary e stop sg = lower (omega arith) (bind argument-pays tt λ a. ret _ tt)
       begun-pays token.Function e stop sg = lower (omega arith) (bind argument-pays tt λ a. ret _ tt)
@@ -386,15 +386,18 @@ module _ (text : List ℕ) (es : List Entry) (price : ℕ) (fee : (m : Mark) (i 
   parse-pays : {b : ℕ} (f wraps : ℕ) (acc : Nodes) → Pays b b 3 (parse text es true f wraps acc) (λ l. 0)
   unfolding parse
   parse-pays zero wraps acc = ret _ tt
-  parse-pays (suc f) wraps acc =
+  parse-pays (suc f) zero acc =
       bind (intermediates-pays (level text es true 256) (level-good 256) _ none Stop.none _) tt λ l.
-      bind (advance-pays (is token.CloseBracket)) tt λ t. elim t [
+      bind (advance-pays (is token.CloseBracket)) tt (elim [
         | none ↦ ret _ tt
-        | some c ↦ elim wraps [
-          | zero ↦ spare (parse-pays f zero _) tt
-          | suc w ↦ spare (parse-pays f w _) tt
-        ]
-      ]
+        | some c ↦ spare (parse-pays f zero _) tt
+      ])
+  parse-pays (suc f) (suc w) acc =
+      bind (intermediates-pays (level text es true 256) (level-good 256) _ none Stop.none _) tt λ l.
+      bind (advance-pays (is token.CloseBracket)) tt (elim [
+        | none ↦ ret _ tt
+        | some c ↦ spare (parse-pays f w _) tt
+      ])
 
 bank-full : (n k : ℕ) → bank (7 * n + 7) (replicate k false) ≡ 7 * (k * suc n)
 unfolding bank

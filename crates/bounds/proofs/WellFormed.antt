@@ -20,7 +20,7 @@ use Rattle.tree.proofs.Decode.{decode-encode}
 use Rattle.bounds.proofs.Columns.{rows_of, mask_of, both-length, cells-length, split-either}
 use Rattle.reading.specs.Stop.{Stop}
 use Rattle.reading.specs.Entries.{Entry, entries}
-use Rattle.reading.specs.Reading.{State, M, return, ◌>>=◌, closed, Mark, open_mark, matrix_mark, Try, made, lost, nought, Readers, is_at, give_up, attempt, argument, next_script, next_script_func, next_intermediate, intermediates, Row, Rows, next_matrix_row, row_cells, more_rows, next_matrix_rows, matrix_body, try_matrix, next_open_group, bar_body, next_open_close_group, next_bracket, begun, next_simple, step, level, parse, parse_entries, last_of, unscripted, alike, split_column_lines, line_cells, prefixes, spaced, if◌then◌else◌, makes_matrix, join_rows, keep_cells, kept_cols, column_lines, line_cols, closes, is_byte, same_text, reading_by, read_tokens}
+use Rattle.reading.specs.Reading.{State, M, return, ◌>>=◌, closed, Mark, open_mark, matrix_mark, Try, made, lost, nought, Readers, is_at, give_up, attempt, argument, next_script, next_script_func, next_intermediate, intermediates, Row, Rows, next_matrix_row, row_cells, more_rows, next_matrix_rows, matrix_body, try_matrix, next_open_group, bar_body, next_open_close_group, next_bracket, begun, next_simple, step, level, parse, parse_entries, last_of, unscripted, alike, split_column_lines, line_cells, prefixes, spaced, when◌then◌else◌, makes_matrix, join_rows, keep_cells, kept_cols, column_lines, line_cols, closes, is_byte, same_text, reading_by, read_tokens}
 
 both : (x y : Bool) → x && y ≡ true → (x ≡ true) × (y ≡ true)
 both true y e = (refl, e)
@@ -193,12 +193,12 @@ module _ (text : List ℕ) (es : List Entry) where
     any-answer = record { run = λ s. tt }
 
     where_true : {A : Type 0} (x : Bool) {m n : M A} {P : A → Type 0} → (x ≡ true → Gives m P) → Gives n P →
-        Gives (if x then m else n) P
-    unfolding if◌then◌else◌
+        Gives (when x then m else n) P
+    unfolding when◌then◌else◌
     where_true true p q = p refl
     where_true false p q = q
 
-    both_ways : {A : Type 0} (x : Bool) {m n : M A} {P : A → Type 0} → Gives m P → Gives n P → Gives (if x then m else n) P
+    both_ways : {A : Type 0} (x : Bool) {m n : M A} {P : A → Type 0} → Gives m P → Gives n P → Gives (when x then m else n) P
     both_ways x p q = where_true x (λ e. p) q
 
     abbrev Tried : Try → Type 0
@@ -210,11 +210,11 @@ module _ (text : List ℕ) (es : List Entry) where
     unfolding attempt give_up
     attempt-gives m i h =
         bind any-answer λ p t. bind any-answer λ known u.
-        both_ways known (ret _ tt) (bind h λ t. elim t [
+        both_ways known (ret _ tt) (bind h (elim [
           | made x ↦ λ w. ret _ w
           | lost ↦ λ w. record { run = λ s. tt }
           | nought ↦ λ w. ret _ tt
-        ])
+        ]))
 
     record Good (R : Readers) : Type 0 where
       simple : (stop : Stop) (sg : Bool) → Gives (R.simple stop sg) (Any Simple)
@@ -227,52 +227,52 @@ module _ (text : List ℕ) (es : List Entry) where
     module _ (R : Readers) (good : Good R) where
       argument-gives : Gives (argument text es rem R) Simple
       unfolding argument
-      argument-gives = bind (good.simple Stop.none true) λ a. elim a [ none ↦ λ w. ret _ Simple.missing | some x ↦ λ w. ret _ w ]
+      argument-gives = bind (good.simple Stop.none true) (elim [ none ↦ λ w. ret _ Simple.missing | some x ↦ λ w. ret _ w ])
 
       next_script-gives : Gives (next_script text es rem R) (λ q. Arguments q.0 q.1)
       unfolding next_script
       next_script-gives =
-          bind any-answer λ t u. elim t [
-            | none ↦ ret _ Arguments.no_script
-            | some e ↦ both_ways _ (bind argument-gives λ a w. ret _ (Arguments.super w))
-                (bind argument-gives λ a w. bind any-answer λ u v. elim u [
-                  | none ↦ ret _ (Arguments.sub w)
-                  | some e' ↦ bind argument-gives λ b z. ret _ (Arguments.subsuper w z)
-                ])
-          ]
+          bind any-answer (elim [
+            | none ↦ λ u. ret _ Arguments.no_script
+            | some e ↦ λ u. both_ways _ (bind argument-gives λ a w. ret _ (Arguments.super w))
+                (bind argument-gives λ a w. bind any-answer (elim [
+                  | none ↦ λ v. ret _ (Arguments.sub w)
+                  | some e' ↦ λ v. bind argument-gives λ b z. ret _ (Arguments.subsuper w z)
+                ]))
+          ])
 
       next_script_func-gives : (stop : Stop) (sg : Bool) → Gives (next_script_func text es rem R stop sg) (Any ScriptFunc)
       unfolding next_script_func
       next_script_func-gives stop sg =
-          bind any-answer λ t u. elim t [
-            | none ↦ bind (good.simple stop sg) λ a. elim a [
+          bind any-answer (elim [
+            | none ↦ λ u. bind (good.simple stop sg) (elim [
               | none ↦ λ w. ret _ tt
               | some x ↦ λ w. bind next_script-gives λ q v. ret _ (ScriptFunc.simple w v)
-            ]
-            | some e ↦ both_ways _
-                (bind next_script-gives λ q v. bind (good.script_func Stop.none true) λ a. elim a [
+            ])
+            | some e ↦ λ u. both_ways _
+                (bind next_script-gives λ q v. bind (good.script_func Stop.none true) (elim [
                   | none ↦ λ w. ret _ (ScriptFunc.func v missing-part refl)
                   | some x ↦ λ w. ret _ (ScriptFunc.func v w refl)
-                ])
-                (bind (good.script_func stop true) λ a. elim a [
+                ]))
+                (bind (good.script_func stop true) (elim [
                   | none ↦ λ w. ret _ (ScriptFunc.signed missing-part)
                   | some x ↦ λ w. ret _ (ScriptFunc.signed w)
-                ])
-          ]
+                ]))
+          ])
 
       next_intermediate-gives : (stop : Stop) (sg : Bool) → Gives (next_intermediate text es rem R stop sg) (Any Intermediate)
       unfolding next_intermediate
       next_intermediate-gives stop sg =
-          bind (good.script_func stop sg) λ a. elim a [
+          bind (good.script_func stop sg) (elim [
             | none ↦ λ w. ret _ tt
-            | some x ↦ λ w. bind any-answer λ t u. elim t [
-              | none ↦ ret _ (Intermediate.script_func w)
-              | some e ↦ bind (good.script_func Stop.none true) λ b. elim b [
+            | some x ↦ λ w. bind any-answer (elim [
+              | none ↦ λ u. ret _ (Intermediate.script_func w)
+              | some e ↦ λ u. bind (good.script_func Stop.none true) (elim [
                 | none ↦ λ v. ret _ (Intermediate.frac w missing-part)
                 | some y ↦ λ v. ret _ (Intermediate.frac w v)
-              ]
-            ]
-          ]
+              ])
+            ])
+          ])
 
       nothing-after : (before : Option Node) → After before end
       nothing-after none = Expression.empty
@@ -285,33 +285,33 @@ module _ (text : List ℕ) (es : List Entry) where
       intermediates-gives (suc f) until stop before =
           bind any-answer λ p u.
           both_ways _ (ret _ (nothing-after before))
-          (bind (next_intermediate-gives stop (prefixes before)) λ a. elim a [
+          (bind (next_intermediate-gives stop (prefixes before)) (elim [
             | none ↦ λ w. ret _ (nothing-after before)
             | some x ↦ λ w. bind (intermediates-gives f until stop (some x)) λ l v.
                 ret _ (spaced-after before (get_elem? es p) w v)
-          ])
+          ]))
 
       row_cells-gives : (f : ℕ) → Gives (row_cells text es rem R f) (Any (λ q. Cells q.0))
       unfolding row_cells
       row_cells-gives zero = ret _ tt
       row_cells-gives (suc f) =
           bind (intermediates-gives _ none Stop.sep none) λ l w.
-          bind any-answer λ t u. elim t [
-            | none ↦ ret _ tt
-            | some e ↦ both_ways _
-                (bind (row_cells-gives f) λ q. elim q [ none ↦ λ v. ret _ tt | some m ↦ λ v. ret _ (Cells.cell w v) ])
+          bind any-answer (elim [
+            | none ↦ λ u. ret _ tt
+            | some e ↦ λ u. both_ways _
+                (bind (row_cells-gives f) (elim [ none ↦ λ v. ret _ tt | some m ↦ λ v. ret _ (Cells.cell w v) ]))
                 (both_ways _ (ret _ (Cells.cell w Cells.no_more_cells)) (ret _ tt))
-          ]
+          ])
 
       next_matrix_row-gives : Gives (next_matrix_row text es rem R) (Any (λ r. Cells r.cells))
       unfolding next_matrix_row
       next_matrix_row-gives =
-          bind any-answer λ i z. bind any-answer λ t u. elim t [
-            | none ↦ ret _ tt
-            | some o ↦ both_ways _
-                (bind (row_cells-gives _) λ q. elim q [ none ↦ λ v. ret _ tt | some m ↦ λ v. noted i _ v ])
+          bind any-answer λ i z. bind any-answer (elim [
+            | none ↦ λ u. ret _ tt
+            | some o ↦ λ u. both_ways _
+                (bind (row_cells-gives _) (elim [ none ↦ λ v. ret _ tt | some m ↦ λ v. noted i _ v ]))
                 (ret _ tt)
-          ]
+          ])
 
       more_rows-gives : (f : ℕ) (h : Row) → Gives (more_rows text es rem R f h) (Any (Others (count h.cells)))
       unfolding more_rows
@@ -319,42 +319,42 @@ module _ (text : List ℕ) (es : List Entry) where
       more_rows-gives (suc f) h =
           bind any-answer λ p u.
           both_ways _
-          (bind any-answer λ t v. bind next_matrix_row-gives λ q. elim q [
+          (bind any-answer λ t v. bind next_matrix_row-gives (elim [
             | none ↦ λ w. ret _ tt
             | some r ↦ λ w. where_true _
-                (λ e. bind (more_rows-gives f h) λ l. elim l [
+                (λ e. bind (more_rows-gives f h) (elim [
                   | none ↦ λ z. ret _ tt
                   | some m ↦ λ z. ret _ (w, alike-count h r e, z)
-                ])
+                ]))
                 (ret _ tt)
-          ])
+          ]))
           (ret _ tt)
 
       next_matrix_rows-gives : Gives (next_matrix_rows text es rem R) (Any Grid)
       unfolding next_matrix_rows
       next_matrix_rows-gives =
-          bind next_matrix_row-gives λ q. elim q [
+          bind next_matrix_row-gives (elim [
             | none ↦ λ w. ret _ tt
             | some h ↦ λ w. both_ways _
-                (bind (more_rows-gives _ h) λ l. elim l [
+                (bind (more_rows-gives _ h) (elim [
                   | none ↦ λ z. ret _ tt
                   | some m ↦ λ z. ret _ (record { head = w; others = z })
-                ])
+                ]))
                 (ret _ tt)
-          ]
+          ])
 
       matrix_body-gives : (o : Entry) (i : ℕ) → Gives (matrix_body text es rem R o i) Tried
       unfolding matrix_body
       matrix_body-gives o i =
-          bind next_matrix_rows-gives λ q. elim q [
+          bind next_matrix_rows-gives (elim [
             | none ↦ λ w. ret _ tt
             | some r ↦ λ w. bind any-answer λ p u. where_true _
-                (λ e. bind any-answer λ t v. elim t [
-                  | none ↦ ret _ tt
-                  | some c ↦ noted i _ (matrix-simple r w (two_cells o i r p e) o.span c.span)
-                ])
+                (λ e. bind any-answer (elim [
+                  | none ↦ λ v. ret _ tt
+                  | some c ↦ λ v. noted i _ (matrix-simple r w (two_cells o i r p e) o.span c.span)
+                ]))
                 (ret _ tt)
-          ]
+          ])
 
       try_matrix-gives : (o : Entry) (i : ℕ) → Gives (try_matrix text es rem R o i) (Any Simple)
       unfolding try_matrix
@@ -364,35 +364,35 @@ module _ (text : List ℕ) (es : List Entry) where
       unfolding next_open_group
       next_open_group-gives o i =
           bind (intermediates-gives _ none Stop.none none) λ l w.
-          bind any-answer λ t u. elim t [ none ↦ ret _ (Simple.group w) | some c ↦ noted i _ (Simple.group w) ]
+          bind any-answer (elim [ none ↦ λ u. ret _ (Simple.group w) | some c ↦ λ u. noted i _ (Simple.group w) ])
 
       bar_body-gives : (o : Entry) (i : ℕ) (stop : Stop) → Gives (bar_body text es rem R o i stop) Tried
       unfolding bar_body
       bar_body-gives o i stop =
-          bind (next_intermediate-gives stop true) λ a. elim a [
+          bind (next_intermediate-gives stop true) (elim [
             | none ↦ λ w. ret _ tt
             | some x ↦ λ w. bind (intermediates-gives _ (some o) stop (some x)) λ l v. bind any-answer λ p u.
-                both_ways _ (bind any-answer λ t z. elim t [
-                  | none ↦ ret _ tt
-                  | some c ↦ noted i _ (Simple.group (Expression.items w v))
-                ]) (ret _ tt)
-          ]
+                both_ways _ (bind any-answer (elim [
+                  | none ↦ λ z. ret _ tt
+                  | some c ↦ λ z. noted i _ (Simple.group (Expression.items w v))
+                ])) (ret _ tt)
+          ])
 
       next_open_close_group-gives : (o : Entry) (i : ℕ) (stop : Stop) → Gives (next_open_close_group text es rem R o i stop) Simple
       unfolding next_open_close_group
       next_open_close_group-gives o i stop =
-          bind (try_matrix-gives o i) λ m. elim m [
+          bind (try_matrix-gives o i) (elim [
             | some x ↦ λ w. ret _ w
-            | none ↦ λ w. bind (attempt-gives (open_mark stop) i (bar_body-gives o i stop)) λ g. elim g [
+            | none ↦ λ w. bind (attempt-gives (open_mark stop) i (bar_body-gives o i stop)) (elim [
               | none ↦ λ v. ret _ (Simple.atom refl)
               | some x ↦ λ v. ret _ v
-            ]
-          ]
+            ])
+          ])
 
       next_bracket-gives : (o : Entry) (i : ℕ) → Gives (next_bracket text es rem R o i) Simple
       unfolding next_bracket
       next_bracket-gives o i =
-          bind (try_matrix-gives o i) λ m. elim m [ some x ↦ λ w. ret _ w | none ↦ λ w. next_open_group-gives o i ]
+          bind (try_matrix-gives o i) (elim [ some x ↦ λ w. ret _ w | none ↦ λ w. next_open_group-gives o i ])
 
       begun-gives : (k : Token) (e : Entry) (i : ℕ) (stop : Stop) (sg : Bool) →
           Gives (begun text es rem R k e i stop sg) (Any Simple)
@@ -403,10 +403,10 @@ module _ (text : List ℕ) (es : List Entry) where
       begun-gives token.Operator e i stop sg = ret _ (Simple.atom refl)
       begun-gives (token.Symbol c) e i stop sg = ret _ (Simple.atom refl)
       begun-gives token.Sign e i stop true =
-          bind (good.simple stop true) λ a. elim a [
+          bind (good.simple stop true) (elim [
             | none ↦ λ w. ret _ (Simple.ssigned Simple.missing)
             | some x ↦ λ w. ret _ (Simple.ssigned w)
-          ]
+          ])
       begun-gives token.Sign e i stop false = ret _ (Simple.atom refl)
       begun-gives token.Unary e i stop sg = bind argument-gives λ a w. ret _ (Simple.unary w)
       begun-gives token.Function e i stop sg = bind argument-gives λ a w. ret _ (Simple.sfunc w)
@@ -423,10 +423,10 @@ module _ (text : List ℕ) (es : List Entry) where
       next_simple-gives : (stop : Stop) (sg : Bool) → Gives (next_simple text es rem R stop sg) (Any Simple)
       unfolding next_simple
       next_simple-gives stop sg =
-          bind any-answer λ i u. bind any-answer λ t v. elim t [
-            | none ↦ ret _ tt
-            | some e ↦ begun-gives e.token e i stop sg
-          ]
+          bind any-answer λ i u. bind any-answer (elim [
+            | none ↦ λ v. ret _ tt
+            | some e ↦ λ v. begun-gives e.token e i stop sg
+          ])
 
       step-good : Good (step text es rem R)
       unfolding step
@@ -445,15 +445,18 @@ module _ (text : List ℕ) (es : List Entry) where
     parse_gives : (f wraps : ℕ) (inters : Nodes) → Expression inters → Gives (parse text es rem f wraps inters) Expression
     unfolding parse
     parse_gives zero wraps inters w = ret _ w
-    parse_gives (suc f) wraps inters w =
+    parse_gives (suc f) zero inters w =
         bind (intermediates-gives (level text es rem 256) (level-good 256) _ none Stop.none (last_of inters)) λ l v.
-        bind any-answer λ t u. elim t [
-          | none ↦ ret _ (join l w v)
-          | some c ↦ elim wraps [
-            | zero ↦ parse_gives f zero (inters ⧺ l) (join l w v)
-            | suc k ↦ parse_gives f k _ (wrapped (join l w v))
-          ]
-        ]
+        bind any-answer (elim [
+          | none ↦ λ u. ret _ (join l w v)
+          | some c ↦ λ u. parse_gives f zero (inters ⧺ l) (join l w v)
+        ])
+    parse_gives (suc f) (suc k) inters w =
+        bind (intermediates-gives (level text es rem 256) (level-good 256) _ none Stop.none (last_of inters)) λ l v.
+        bind any-answer (elim [
+          | none ↦ λ u. ret _ (join l w v)
+          | some c ↦ λ u. parse_gives f k _ (wrapped (join l w v))
+        ])
 
 -- The tree of any reading of any list, with memory or without.
 pub reading-well_formed : (remember : Bool) (text : List ℕ) (ts : List Lexeme) → WellFormed (reading_by remember text ts).tree

@@ -15,7 +15,7 @@ use Rattle.tree.specs.Tree.{nowhere, Node, Nodes, end, count}
 use Rattle.tree.specs.Words.{encode, encodes, encode_item, encode_items}
 use Rattle.reading.specs.Stop.{Stop}
 use Rattle.reading.specs.Entries.{Entry, entries}
-use Rattle.reading.specs.Reading.{State, M, return, ◌>>=◌, if◌then◌else◌, here, current, closed, Mark, open_mark, matrix_mark, Try, made, lost, nought, Readers, Scripted, Row, Rows, entry_at, advance, failed, give_up, attempt, argument, next_script, next_script_func, next_intermediate, intermediates, row_cells, next_matrix_row, more_rows, next_matrix_rows, matrix_body, try_matrix, next_open_group, bar_body, next_open_close_group, next_bracket, begun, next_simple, step, level, parse, start}
+use Rattle.reading.specs.Reading.{State, M, return, ◌>>=◌, when◌then◌else◌, here, current, closed, Mark, open_mark, matrix_mark, Try, made, lost, nought, Readers, Scripted, Row, Rows, entry_at, advance, failed, give_up, attempt, argument, next_script, next_script_func, next_intermediate, intermediates, row_cells, next_matrix_row, more_rows, next_matrix_rows, matrix_body, try_matrix, next_open_group, bar_body, next_open_close_group, next_bracket, begun, next_simple, step, level, parse, start}
 
 -- How many words an answer has. One without a node has none: what was read for it is given back.
 abbrev pub words : Node → ℕ
@@ -63,7 +63,7 @@ module _ (text : List ℕ) (es : List Entry) (remember : Bool) where
         Counted A 0 d m → ((x : A) → Counted B (w + d x) e (f x)) → Counted B w e (m >>= f)
     either :
         {A : Type 0} {w : ℕ} {d : A → ℕ} {m n : M A} (b : Bool) →
-        Counted A w d m → Counted A w d n → Counted A w d (if b then m else n)
+        Counted A w d m → Counted A w d n → Counted A w d (when b then m else n)
     -- the words that stood, or those of the answer, whichever are more
     answer : {A : Type 0} {w : ℕ} {d : A → ℕ} (x : A) → Counted A w d (return x)
     answer_closed : {A : Type 0} {w : ℕ} {d : A → ℕ} (i : ℕ) (x : A) → Counted A w d (closed i x)
@@ -102,7 +102,7 @@ module _ (text : List ℕ) (es : List Entry) (remember : Bool) where
   attempt-counted m i body =
       run whole λ o.
       run (known m i) λ failed.
-      either _ (answer _) (run body λ t. elim t [ made x ↦ answer _ | lost ↦ back m i o | nought ↦ answer _ ])
+      either _ (answer _) (run body (elim [ made x ↦ answer _ | lost ↦ back m i o | nought ↦ answer _ ]))
 
   pub record CountedReaders (R : Readers) : Type 1 where
     pub simple : (stop : Stop) (sg : Bool) → Counted (Option Node) 0 (perhaps words) (R.simple stop sg)
@@ -116,41 +116,41 @@ module _ (text : List ℕ) (es : List Entry) (remember : Bool) where
     unfoldable pub next_script-counted : Counted Scripted 0 (λ q. all_words q.1) (next_script text es remember R)
     unfolding next_script
     next_script-counted =
-        run (take _) λ t. elim t [
+        run (take _) (elim [
           | none ↦ answer _
           | some e ↦ either _ (run argument-counted λ a. answer _)
-              (run argument-counted λ a. run (take _) λ u. elim u [
+              (run argument-counted λ a. run (take _) (elim [
                 | none ↦ answer _
                 | some e' ↦ run argument-counted λ b. answer _
-              ])
-        ]
+              ]))
+        ])
 
     -- the own words of the scripted part
     unfoldable pub next_script_func-counted : (stop : Stop) (sg : Bool) →
         Counted (Option Node) 0 (perhaps words) (next_script_func text es remember R stop sg)
     unfolding next_script_func
     next_script_func-counted stop sg =
-        put 6 (run (take _) λ t. elim t [
-          | none ↦ run (counted.simple stop sg) λ a. elim a [
+        put 6 (run (take _) (elim [
+          | none ↦ run (counted.simple stop sg) (elim [
             | none ↦ answer _
             | some x ↦ run next_script-counted λ q. answer _
-          ]
+          ])
           | some e ↦ either _ (run next_script-counted λ q. run (counted.script_func Stop.none true) λ a. answer _)
               (run (counted.script_func stop true) λ a. answer _)
-        ])
+        ]))
 
     -- the word in front of the item
     unfoldable pub next_intermediate-counted : (stop : Stop) (sg : Bool) →
         Counted (Option Node) 0 (perhaps item_words) (next_intermediate text es remember R stop sg)
     unfolding next_intermediate
     next_intermediate-counted stop sg =
-        put 1 (run (counted.script_func stop sg) λ a. elim a [
+        put 1 (run (counted.script_func stop sg) (elim [
           | none ↦ answer _
-          | some x ↦ run (take _) λ t. elim t [
+          | some x ↦ run (take _) (elim [
             | none ↦ answer _
             | some e ↦ run (counted.script_func Stop.none true) λ b. answer _
-          ]
-        ])
+          ])
+        ]))
 
     -- the Space before each item, before the item is read
     unfoldable pub intermediates-counted : (f : ℕ) (until : Option Entry) (stop : Stop) (before : Option Node) →
@@ -160,10 +160,10 @@ module _ (text : List ℕ) (es : List Entry) (remember : Bool) where
     intermediates-counted (suc f) until stop before =
         run place λ p.
         either _ (answer _)
-        (put (space_words before (entry_at text es p)) (run (next_intermediate-counted stop _) λ a. elim a [
+        (put (space_words before (entry_at text es p)) (run (next_intermediate-counted stop _) (elim [
           | none ↦ answer _
           | some x ↦ run (intermediates-counted f until stop (some x)) λ l. answer _
-        ]))
+        ])))
 
     -- the own words of each cell
     unfoldable pub row_cells-counted : (f : ℕ) →
@@ -171,20 +171,20 @@ module _ (text : List ℕ) (es : List Entry) (remember : Bool) where
     unfolding row_cells
     row_cells-counted zero = answer _
     row_cells-counted (suc f) =
-        put 6 (run (intermediates-counted _ none Stop.sep none) λ l. run (take _) λ t. elim t [
+        put 6 (run (intermediates-counted _ none Stop.sep none) λ l. run (take _) (elim [
           | none ↦ answer _
-          | some e ↦ either _ (run (row_cells-counted f) λ q. elim q [ none ↦ answer _ | some m ↦ answer _ ])
+          | some e ↦ either _ (run (row_cells-counted f) (elim [ none ↦ answer _ | some m ↦ answer _ ]))
               (either _ (answer _) (answer _))
-        ])
+        ]))
 
     unfoldable pub next_matrix_row-counted :
         Counted (Option Row) 0 (perhaps (λ r. all_words r.cells)) (next_matrix_row text es remember R)
     unfolding next_matrix_row
     next_matrix_row-counted =
-        run place λ i. run (take _) λ t. elim t [
+        run place λ i. run (take _) (elim [
           | none ↦ answer _
-          | some o ↦ either _ (run (row_cells-counted _) λ q. elim q [ none ↦ answer _ | some m ↦ answer_closed i _ ]) (answer _)
-        ]
+          | some o ↦ either _ (run (row_cells-counted _) (elim [ none ↦ answer _ | some m ↦ answer_closed i _ ])) (answer _)
+        ])
 
     unfoldable pub more_rows-counted : (f : ℕ) (h : Row) →
         Counted (Option (List Nodes)) 0 (perhaps rows_words) (more_rows text es remember R f h)
@@ -193,30 +193,30 @@ module _ (text : List ℕ) (es : List Entry) (remember : Bool) where
     more_rows-counted (suc f) h =
         run place λ p.
         either _
-        (run (take _) λ t. run next_matrix_row-counted λ q. elim q [
+        (run (take _) λ t. run next_matrix_row-counted (elim [
           | none ↦ answer _
-          | some r ↦ either _ (run (more_rows-counted f h) λ l. elim l [ none ↦ answer _ | some m ↦ answer _ ]) (answer _)
-        ])
+          | some r ↦ either _ (run (more_rows-counted f h) (elim [ none ↦ answer _ | some m ↦ answer _ ])) (answer _)
+        ]))
         (answer _)
 
     unfoldable pub next_matrix_rows-counted :
         Counted (Option Rows) 0 (perhaps (λ r. rows_words (r.head.cells ∷ r.others))) (next_matrix_rows text es remember R)
     unfolding next_matrix_rows
     next_matrix_rows-counted =
-        run next_matrix_row-counted λ q. elim q [
+        run next_matrix_row-counted (elim [
           | none ↦ answer _
-          | some h ↦ either _ (run (more_rows-counted _ h) λ l. elim l [ none ↦ answer _ | some m ↦ answer _ ]) (answer _)
-        ]
+          | some h ↦ either _ (run (more_rows-counted _ h) (elim [ none ↦ answer _ | some m ↦ answer _ ])) (answer _)
+        ])
 
     -- A matrix's own words; then, behind its rows, a flag for each column while column lines are looked for.
     unfoldable pub matrix_body-counted : (o : Entry) (i : ℕ) → Counted Try 0 try_words (matrix_body text es remember R o i)
     unfolding matrix_body
     matrix_body-counted o i =
-        put 8 (run next_matrix_rows-counted λ q. elim q [
+        put 8 (run next_matrix_rows-counted (elim [
           | none ↦ answer _
           | some r ↦ put (count r.head.cells) (run place λ p.
-              either _ (run (take _) λ t. elim t [ none ↦ answer _ | some c ↦ answer_closed i _ ]) (answer _))
-        ])
+              either _ (run (take _) (elim [ none ↦ answer _ | some c ↦ answer_closed i _ ])) (answer _))
+        ]))
 
     unfoldable pub try_matrix-counted : (o : Entry) (i : ℕ) →
         Counted (Option Node) 0 (perhaps words) (try_matrix text es remember R o i)
@@ -227,37 +227,37 @@ module _ (text : List ℕ) (es : List Entry) (remember : Bool) where
     unfoldable pub next_open_group-counted : (o : Entry) (i : ℕ) → Counted Node 0 words (next_open_group text es remember R o i)
     unfolding next_open_group
     next_open_group-counted o i =
-        put 6 (run (intermediates-counted _ none Stop.none none) λ l. run (take _) λ t. elim t [
+        put 6 (run (intermediates-counted _ none Stop.none none) λ l. run (take _) (elim [
           | none ↦ answer _
           | some c ↦ answer_closed i _
-        ])
+        ]))
 
     unfoldable pub bar_body-counted : (o : Entry) (i : ℕ) (stop : Stop) → Counted Try 0 try_words (bar_body text es remember R o i stop)
     unfolding bar_body
     bar_body-counted o i stop =
-        put 6 (run (next_intermediate-counted stop true) λ a. elim a [
+        put 6 (run (next_intermediate-counted stop true) (elim [
           | none ↦ answer _
           | some x ↦ run (intermediates-counted _ (some o) stop (some x)) λ l.
               run place λ p.
-              either _ (run (take _) λ t. elim t [ none ↦ answer _ | some c ↦ answer_closed i _ ]) (answer _)
-        ])
+              either _ (run (take _) (elim [ none ↦ answer _ | some c ↦ answer_closed i _ ])) (answer _)
+        ]))
 
     unfoldable pub next_open_close_group-counted : (o : Entry) (i : ℕ) (stop : Stop) →
         Counted Node 0 words (next_open_close_group text es remember R o i stop)
     unfolding next_open_close_group
     next_open_close_group-counted o i stop =
-        run (try_matrix-counted o i) λ m. elim m [
+        run (try_matrix-counted o i) (elim [
           | some x ↦ answer _
           | none ↦ run (attempt-counted (open_mark stop) i (bar_body-counted o i stop)) λ g. answer _
-        ]
+        ])
 
     unfoldable pub next_bracket-counted : (o : Entry) (i : ℕ) → Counted Node 0 words (next_bracket text es remember R o i)
     unfolding next_bracket
     next_bracket-counted o i =
-        run (try_matrix-counted o i) λ m. elim m [
+        run (try_matrix-counted o i) (elim [
           | some x ↦ answer _
           | none ↦ next_open_group-counted o i
-        ]
+        ])
 
     -- the own words of a node with arguments
     unfoldable pub begun-counted : (k : Token) (e : Entry) (i : ℕ) (stop : Stop) (sg : Bool) →
@@ -286,10 +286,10 @@ module _ (text : List ℕ) (es : List Entry) (remember : Bool) where
         Counted (Option Node) 0 (perhaps words) (next_simple text es remember R stop sg)
     unfolding next_simple
     next_simple-counted stop sg =
-        run place λ i. run (take _) λ t. elim t [
+        run place λ i. run (take _) (elim [
           | none ↦ answer _
           | some e ↦ begun-counted e.token e i stop sg
-        ]
+        ])
 
     unfoldable pub step-counted : CountedReaders (step text es remember R)
     unfolding step
@@ -304,14 +304,16 @@ module _ (text : List ℕ) (es : List Entry) (remember : Bool) where
   unfoldable pub parse-counted : (w f wraps : ℕ) (inters : Nodes) → Counted Nodes w items_words (parse text es remember f wraps inters)
   unfolding parse
   parse-counted w zero wraps inters = answer _
-  parse-counted w (suc f) wraps inters =
-      run (intermediates-counted _ (level-counted 256) _ none Stop.none _) λ l. run (take _) λ t. elim t [
+  parse-counted w (suc f) zero inters =
+      run (intermediates-counted _ (level-counted 256) _ none Stop.none _) λ l. run (take _) (elim [
         | none ↦ answer _
-        | some c ↦ elim wraps [
-          | zero ↦ parse-counted _ f zero _
-          | suc v ↦ put 13 (parse-counted _ f v _)
-        ]
-      ]
+        | some c ↦ parse-counted (w + items_words l + no_words (some c)) f zero _
+      ])
+  parse-counted w (suc f) (suc v) inters =
+      run (intermediates-counted _ (level-counted 256) _ none Stop.none _) λ l. run (take _) (elim [
+        | none ↦ answer _
+        | some c ↦ put 13 (parse-counted _ f v _)
+      ])
 
 -- The most words that stand at one time while the list ts is read over the text.
 unfoldable pub peak_of : List ℕ → List Lexeme → ℕ

@@ -1,4 +1,6 @@
 // Tests of brackets and bars, by their words and their texts.
+#![tactic(auto)]
+
 ghost use Rattle.std.specs.Prelude.{◌≡◌, ◌<◌};
 ghost use Rattle.brackets.specs.Brackets.{bar_at, closes_at, row_fits_at, could_be_matrix_at, set_at, makes_at, tries_at, has_attempts};
 

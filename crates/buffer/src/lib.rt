@@ -1,4 +1,6 @@
 // Words stored in a buffer, moved and cleared: all of them, or none if one would stand past its end.
+#![tactic(auto)]
+
 ghost use Rattle.std.specs.Prelude.{◌≡◌, [], ◌∷◌, ◌++◌, ◌+◌, ◌-◌, leb, length, take, replicate};
 ghost use Rattle.buffer.specs.Buffer.{stored, shifted};
 

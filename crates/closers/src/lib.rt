@@ -1,4 +1,6 @@
 // The bracket pass as calls: for each token other than Space the place of its closer, of a token list and of a text.
+#![tactic(auto)]
+
 ghost use Rattle.std.specs.Prelude.{◌≡◌, ◌+◌, ◌≤◌, length};
 ghost use Rattle.std.proofs.Math.Option.{none};
 ghost use Rattle.tokens.specs.Refusals.{list_refusal};
@@ -13,7 +15,7 @@ use records::RECORD_WORDS;
 use tokenizer::{TokenizedUnder, tokenize_under};
 
 // What the pass over a token list answers.
-#[derive(Drop)]
+#[derive(Clone, Copy)]
 pub enum Paired {
     // Its tokens other than Space: so many closers are written.
     Found { others: usize },
@@ -22,7 +24,7 @@ pub enum Paired {
 }
 
 // What the pass over a text answers.
-#[derive(Drop)]
+#[derive(Clone, Copy)]
 pub enum PairedText {
     // Tokens with Space, and those other than Space.
     Found { tokens: usize, others: usize },

@@ -15,7 +15,7 @@ use Rattle.tokens.specs.Lexeme.{Lexeme}
 use Rattle.tree.specs.Tree.{nowhere, Node, Nodes, end}
 use Rattle.reading.specs.Stop.{Stop}
 use Rattle.reading.specs.Entries.{Entry, is, entries}
-use Rattle.reading.specs.Reading.{State, M, return, ◌>>=◌, here, current, closed, Mark, open_mark, matrix_mark, slot, Try, made, lost, nought, Readers, advance, failed, give_up, attempt, argument, next_script, next_script_func, next_intermediate, intermediates, Row, next_matrix_row, row_cells, more_rows, next_matrix_rows, matrix_body, try_matrix, next_open_group, bar_body, next_open_close_group, next_bracket, begun, next_simple, step, level, parse, parse_entries, start, or_glyph, could_be_matrix, prefixes, any, marks_script, heads, begins, if◌then◌else◌, closers_of}
+use Rattle.reading.specs.Reading.{State, M, return, ◌>>=◌, here, current, closed, Mark, open_mark, matrix_mark, slot, Try, made, lost, nought, Readers, advance, failed, give_up, attempt, argument, next_script, next_script_func, next_intermediate, intermediates, Row, next_matrix_row, row_cells, more_rows, next_matrix_rows, matrix_body, try_matrix, next_open_group, bar_body, next_open_close_group, next_bracket, begun, next_simple, step, level, parse, parse_entries, start, or_glyph, could_be_matrix, prefixes, any, marks_script, heads, begins, when◌then◌else◌, closers_of}
 
 -- Of n entries, those from a up to b: a closer stands behind its opener, before b; of two openers the first is closed before the
 -- second, or the second before the first is closed. n stands for none.
@@ -227,8 +227,8 @@ module _ (text : List ℕ) (es : List Entry) where
   unfolding ◌>>=◌
   bind {m} h k = record { run = λ s f. let p = h.run s f in along p ((k (m s).0).run (m s).1 p.fit) }
 
-  both_ways : {A : Type 0} (x : Bool) {m n : M A} → Pairs m → Pairs n → Pairs (if x then m else n)
-  unfolding if◌then◌else◌
+  both_ways : {A : Type 0} (x : Bool) {m n : M A} → Pairs m → Pairs n → Pairs (when x then m else n)
+  unfolding when◌then◌else◌
   both_ways true h k = h
   both_ways false h k = k
 
@@ -255,13 +255,13 @@ module _ (text : List ℕ) (es : List Entry) where
         record { fit = q.fit; on = q.on; low = λ j l. q.low j l ∙ p.low j (omega arith); nest = q.nest };
   }
 
-  closing-if : {A : Type 0} (i : ℕ) (x : Bool) {m n : M A} → Closing i m → Closing i n → Closing i (if x then m else n)
-  unfolding if◌then◌else◌
+  closing-if : {A : Type 0} (i : ℕ) (x : Bool) {m n : M A} → Closing i m → Closing i n → Closing i (when x then m else n)
+  unfolding when◌then◌else◌
   closing-if i true h k = h
   closing-if i false h k = k
 
   -- the closer is taken
-  closing-take : {A : Type 0} (i : ℕ) (ok : Entry → Bool) (x : A) (g : Entry → A) → Closing {A = A} i (advance text es ok >>= λ t. elim t [ none ↦ return x | some c ↦ closed i (g c) ])
+  closing-take : {A : Type 0} (i : ℕ) (ok : Entry → Bool) (x : A) (g : Entry → A) → Closing {A = A} i (advance text es ok >>= (elim [ none ↦ return x | some c ↦ closed i (g c) ]))
   unfolding ◌>>=◌ return closed
   closing-take {A} i ok x g = record { run = λ s f on unshut nest. go s f on unshut nest (advance text es ok s).0 refl }
     where
@@ -342,12 +342,12 @@ module _ (text : List ℕ) (es : List Entry) where
     };
   }
 
-  after-if : (x : Bool) {m n : M (Option (Nodes × Entry))} → RowAfter m → RowAfter n → RowAfter (if x then m else n)
-  unfolding if◌then◌else◌
+  after-if : (x : Bool) {m n : M (Option (Nodes × Entry))} → RowAfter m → RowAfter n → RowAfter (when x then m else n)
+  unfolding when◌then◌else◌
   after-if true h k = h
   after-if false h k = k
 
-  row-take : (ok : Entry → Bool) (f : Entry → M (Option (Nodes × Entry))) → ((e : Entry) → RowAfter (f e)) → RowPairs (advance text es ok >>= λ t. elim t [ none ↦ return none | some e ↦ f e ])
+  row-take : (ok : Entry → Bool) (f : Entry → M (Option (Nodes × Entry))) → ((e : Entry) → RowAfter (f e)) → RowPairs (advance text es ok >>= (elim [ none ↦ return none | some e ↦ f e ]))
   unfolding ◌>>=◌ return
   row-take ok f k = record { run = λ s fit. go s fit (advance text es ok s).0 refl }
     where
@@ -358,7 +358,7 @@ module _ (text : List ℕ) (es : List Entry) where
       go s fit none e = record { pair = stepped (advance-steps ok s) fit; ends = λ m h. no_row m h }
       go s fit (some y) e = let h = advance-some ok s y e in (k y).run s (advance text es ok s).1 fit (advance-steps ok s).same h.0 h.1
 
-  row-map : {m : M (Option (Nodes × Entry))} (g : Nodes × Entry → Nodes × Entry) → RowPairs m → RowPairs (m >>= λ q. elim q [ none ↦ return none | some x ↦ return (some (g x)) ])
+  row-map : {m : M (Option (Nodes × Entry))} (g : Nodes × Entry → Nodes × Entry) → RowPairs m → RowPairs (m >>= (elim [ none ↦ return none | some x ↦ return (some (g x)) ]))
   unfolding ◌>>=◌ return
   row-map {m} g h = record { run = λ s f. go s (h.run s f) (m s).0 refl }
     where
@@ -381,37 +381,37 @@ module _ (text : List ℕ) (es : List Entry) where
     next_script-pairs : Pairs (next_script text es true R)
     unfolding next_script
     next_script-pairs =
-        bind (taking marks_script) λ t. elim t [
+        bind (taking marks_script) (elim [
           | none ↦ ret _
           | some e ↦ both_ways _ (bind argument-pairs λ a. ret _)
-              (bind argument-pairs λ a. bind (taking (is token.Super)) λ u. elim u [
+              (bind argument-pairs λ a. bind (taking (is token.Super)) (elim [
                 | none ↦ ret _
                 | some e' ↦ bind argument-pairs λ b. ret _
-              ])
-        ]
+              ]))
+        ])
 
     next_script_func-pairs : (stop : Stop) (sg : Bool) → Pairs (next_script_func text es true R stop sg)
     unfolding next_script_func
     next_script_func-pairs stop sg =
-        bind (taking (heads sg)) λ t. elim t [
-          | none ↦ bind (good.simple stop sg) λ a. elim a [
+        bind (taking (heads sg)) (elim [
+          | none ↦ bind (good.simple stop sg) (elim [
             | none ↦ ret _
             | some x ↦ bind next_script-pairs λ q. ret _
-          ]
+          ])
           | some e ↦ both_ways _ (bind next_script-pairs λ q. bind (good.script_func Stop.none true) λ a. ret _)
               (bind (good.script_func stop true) λ a. ret _)
-        ]
+        ])
 
     pub next_intermediate-pairs : (stop : Stop) (sg : Bool) → Pairs (next_intermediate text es true R stop sg)
     unfolding next_intermediate
     next_intermediate-pairs stop sg =
-        bind (good.script_func stop sg) λ a. elim a [
+        bind (good.script_func stop sg) (elim [
           | none ↦ ret _
-          | some x ↦ bind (taking (is token.Frac)) λ t. elim t [
+          | some x ↦ bind (taking (is token.Frac)) (elim [
             | none ↦ ret _
             | some e ↦ bind (good.script_func Stop.none true) λ b. ret _
-          ]
-        ]
+          ])
+        ])
 
     pub intermediates-pairs : (f : ℕ) (until : Option Entry) (stop : Stop) (before : Option Node) → Pairs (intermediates text es true R f until stop before)
     unfolding intermediates
@@ -419,10 +419,10 @@ module _ (text : List ℕ) (es : List Entry) where
     intermediates-pairs (suc f) until stop before =
         bind at_here λ p.
         both_ways _ (ret _)
-        (bind (next_intermediate-pairs stop (prefixes before)) λ a. elim a [
+        (bind (next_intermediate-pairs stop (prefixes before)) (elim [
           | none ↦ ret _
           | some x ↦ bind (intermediates-pairs f until stop (some x)) λ l. ret _
-        ])
+        ]))
 
     row_cells-pairs : (f : ℕ) → RowPairs (row_cells text es true R f)
     unfolding row_cells
@@ -434,7 +434,7 @@ module _ (text : List ℕ) (es : List Entry) where
         (after-if _ (after-some _) (after-pairs row-none))
 
     next_matrix_row-pairs : Pairs (next_matrix_row text es true R)
-    unfolding next_matrix_row ◌>>=◌ here return closed if◌then◌else◌
+    unfolding next_matrix_row ◌>>=◌ here return closed when◌then◌else◌
     next_matrix_row-pairs = record { run = λ s f. go s f (advance text es any s).0 refl }
       where
         cells : State → Option (Nodes × Entry) × State
@@ -463,12 +463,12 @@ module _ (text : List ℕ) (es : List Entry) where
                   (around (omega (arith, a.fit.size, a.fit.within, w.0)) (omega (arith, w.0)) (omega (arith, a.fit.within, w.0)) w.1 (subst (λ (b : ℕ). Nested (length es) b (r.pos - 1) r.closers) e w.2));
             }
 
-        opened : (s u : State) → Fit s → Stepped s u → u.pos ≡ suc s.pos → (o : Entry) → (b : Bool) → Pairing s ((if b then (row_cells text es true R (suc (length es)) >>= next s.pos o) else return none) u).1
+        opened : (s u : State) → Fit s → Stepped s u → u.pos ≡ suc s.pos → (o : Entry) → (b : Bool) → Pairing s ((when b then (row_cells text es true R (suc (length es)) >>= next s.pos o) else return none) u).1
         opened s u f st e o true = last s u f st e o ((row_cells-pairs _).run u (stepped st f).fit) (cells u).0 refl
         opened s u f st e o false = stepped st f
 
         taken : ℕ → Option Entry → M (Option Row)
-        taken i t = elim t [ none ↦ return none | some o ↦ (if is token.OpenBracket o then (row_cells text es true R (suc (length es)) >>= next i o) else return none) ]
+        taken i t = elim t [ none ↦ return none | some o ↦ (when is token.OpenBracket o then (row_cells text es true R (suc (length es)) >>= next i o) else return none) ]
 
         go : (s : State) → Fit s → (t : Option Entry) → (advance text es any s).0 ≡ t → Pairing s (taken s.pos t (advance text es any s).1).1
         go s f none e = stepped (advance-steps any s) f
@@ -480,36 +480,36 @@ module _ (text : List ℕ) (es : List Entry) where
     more_rows-pairs (suc f) h =
         bind at_here λ p.
         both_ways _
-        (bind (taking any) λ t. bind next_matrix_row-pairs λ q. elim q [
+        (bind (taking any) λ t. bind next_matrix_row-pairs (elim [
           | none ↦ ret _
-          | some r ↦ both_ways _ (bind (more_rows-pairs f h) λ l. elim l [ none ↦ ret _ | some m ↦ ret _ ]) (ret _)
-        ])
+          | some r ↦ both_ways _ (bind (more_rows-pairs f h) (elim [ none ↦ ret _ | some m ↦ ret _ ])) (ret _)
+        ]))
         (ret _)
 
     pub next_matrix_rows-pairs : Pairs (next_matrix_rows text es true R)
     unfolding next_matrix_rows
     next_matrix_rows-pairs =
-        bind next_matrix_row-pairs λ q. elim q [
+        bind next_matrix_row-pairs (elim [
           | none ↦ ret _
-          | some h ↦ both_ways _ (bind (more_rows-pairs _ h) λ l. elim l [ none ↦ ret _ | some m ↦ ret _ ]) (ret _)
-        ]
+          | some h ↦ both_ways _ (bind (more_rows-pairs _ h) (elim [ none ↦ ret _ | some m ↦ ret _ ])) (ret _)
+        ])
 
     matrix_body-closing : (o : Entry) (i : ℕ) → Closing i (matrix_body text es true R o i)
     unfolding matrix_body
     matrix_body-closing o i =
-        closing-bind i next_matrix_rows-pairs λ q. elim q [
+        closing-bind i next_matrix_rows-pairs (elim [
           | none ↦ closing-ret i _
           | some r ↦ closing-bind i at_here λ p. closing-if i _ (closing-take i any _ _) (closing-ret i _)
-        ]
+        ])
 
     bar_body-closing : (o : Entry) (i : ℕ) (stop : Stop) → Closing i (bar_body text es true R o i stop)
     unfolding bar_body
     bar_body-closing o i stop =
-        closing-bind i (next_intermediate-pairs stop true) λ a. elim a [
+        closing-bind i (next_intermediate-pairs stop true) (elim [
           | none ↦ closing-ret i _
           | some x ↦ closing-bind i (intermediates-pairs _ (some o) stop (some x)) λ l.
               closing-bind i at_here λ p. closing-if i _ (closing-take i any _ _) (closing-ret i _)
-        ]
+        ])
 
     next_open_group-closing : (o : Entry) (i : ℕ) → Closing i (next_open_group text es true R o i)
     unfolding next_open_group
@@ -542,7 +542,7 @@ module _ (text : List ℕ) (es : List Entry) where
 
   module _ (k : Mark) (i : ℕ) (body : M Try) (closing : Closing i body) where
     attempt-pairs : AtPairs i (attempt text es true k i body)
-    unfolding attempt failed ◌>>=◌ current if◌then◌else◌ return give_up
+    unfolding attempt failed ◌>>=◌ current when◌then◌else◌ return give_up
     attempt-pairs = record { run = λ s f e u. go s f e u (get_or s.marks (slot k i) false) }
       where
         settled : (s : State) → Fit s → s.pos ≡ suc i → get_or s.closers i (length es) ≡ length es → (t : Try) → Closed i s (settle k i s t (body s).1).1
@@ -550,7 +550,7 @@ module _ (text : List ℕ) (es : List Entry) where
         settled s f e u nought = (begins-at closing).run s f e u
         settled s f e u lost = unmoved f e u refl refl
 
-        go : (s : State) → Fit s → s.pos ≡ suc i → get_or s.closers i (length es) ≡ length es → (x : Bool) → Closed i s ((if x then return none else (body >>= settle k i s)) s).1
+        go : (s : State) → Fit s → s.pos ≡ suc i → get_or s.closers i (length es) ≡ length es → (x : Bool) → Closed i s ((when x then return none else (body >>= settle k i s)) s).1
         go s f e u true = unmoved f e u refl refl
         go s f e u false = settled s f e u (body s).0
 
@@ -561,8 +561,8 @@ module _ (text : List ℕ) (es : List Entry) where
   unfolding ◌>>=◌
   never-bind m k = record { never = λ s. (k (m s).0).never (m s).1 }
 
-  never-if : (x : Bool) {m n : M Try} → Never m → Never n → Never (if x then m else n)
-  unfolding if◌then◌else◌
+  never-if : (x : Bool) {m n : M Try} → Never m → Never n → Never (when x then m else n)
+  unfolding when◌then◌else◌
   never-if true h k = h
   never-if false h k = k
 
@@ -577,25 +577,25 @@ module _ (text : List ℕ) (es : List Entry) where
   matrix-never : (R : Readers) (o : Entry) (i : ℕ) → Never (matrix_body text es true R o i)
   unfolding matrix_body
   matrix-never R o i =
-      never-bind _ λ q. elim q [
+      never-bind _ (elim [
         | none ↦ never-lost
-        | some r ↦ never-bind _ λ p. never-if _ (never-bind _ λ t. elim t [ none ↦ never-lost | some c ↦ never-made i _ ]) never-lost
-      ]
+        | some r ↦ never-bind _ λ p. never-if _ (never-bind _ (elim [ none ↦ never-lost | some c ↦ never-made i _ ])) never-lost
+      ])
 
   module _ (R : Readers) (good : Good R) (i : ℕ) (o : Entry) where
     try_matrix-pairs : AtPairs i (try_matrix text es true R o i)
-    unfolding try_matrix if◌then◌else◌
+    unfolding try_matrix when◌then◌else◌
     try_matrix-pairs = go (could_be_matrix text es o i)
       where
-        go : (x : Bool) → AtPairs i (if x then attempt text es true matrix_mark i (matrix_body text es true R o i) else return none)
+        go : (x : Bool) → AtPairs i (when x then attempt text es true matrix_mark i (matrix_body text es true R o i) else return none)
         go true = attempt-pairs matrix_mark i _ (matrix_body-closing R good o i)
         go false = at_plain (ret _)
 
     -- A matrix that is not made leaves the place and the closers as they were.
-    back_at : (s : State) (x : Bool) → ((if x then attempt text es true matrix_mark i (matrix_body text es true R o i) else return none) s).0 ≡ none →
-        (((if x then attempt text es true matrix_mark i (matrix_body text es true R o i) else return none) s).1.pos ≡ s.pos)
-        × (((if x then attempt text es true matrix_mark i (matrix_body text es true R o i) else return none) s).1.closers ≡ s.closers)
-    unfolding if◌then◌else◌ return attempt failed ◌>>=◌ give_up current
+    back_at : (s : State) (x : Bool) → ((when x then attempt text es true matrix_mark i (matrix_body text es true R o i) else return none) s).0 ≡ none →
+        (((when x then attempt text es true matrix_mark i (matrix_body text es true R o i) else return none) s).1.pos ≡ s.pos)
+        × (((when x then attempt text es true matrix_mark i (matrix_body text es true R o i) else return none) s).1.closers ≡ s.closers)
+    unfolding when◌then◌else◌ return attempt failed ◌>>=◌ give_up current
     back_at s false e = (refl, refl)
     back_at s true e = go (get_or s.marks (slot matrix_mark i) false) e
       where
@@ -605,9 +605,9 @@ module _ (text : List ℕ) (es : List Entry) where
         end-at lost f e = (refl, refl)
         end-at nought f e = absurd ((matrix-never R o i).never s f)
 
-        go : (x : Bool) → ((if x then return none else (matrix_body text es true R o i >>= settle matrix_mark i s)) s).0 ≡ none →
-            (((if x then return none else (matrix_body text es true R o i >>= settle matrix_mark i s)) s).1.pos ≡ s.pos)
-            × (((if x then return none else (matrix_body text es true R o i >>= settle matrix_mark i s)) s).1.closers ≡ s.closers)
+        go : (x : Bool) → ((when x then return none else (matrix_body text es true R o i >>= settle matrix_mark i s)) s).0 ≡ none →
+            (((when x then return none else (matrix_body text es true R o i >>= settle matrix_mark i s)) s).1.pos ≡ s.pos)
+            × (((when x then return none else (matrix_body text es true R o i >>= settle matrix_mark i s)) s).1.closers ≡ s.closers)
         go true e = (refl, refl)
         go false e = end-at (matrix_body text es true R o i s).0 refl e
 
@@ -696,12 +696,18 @@ module _ (text : List ℕ) (es : List Entry) where
   parse-pairs : (f wraps : ℕ) (acc : Nodes) → Pairs (parse text es true f wraps acc)
   unfolding parse
   parse-pairs zero wraps acc = ret _
-  parse-pairs (suc f) wraps acc =
+  parse-pairs (suc f) zero acc =
       bind (intermediates-pairs (level text es true 256) (level-good 256) _ none Stop.none _) λ l.
-      bind (taking (is token.CloseBracket)) λ t. elim t [
+      bind (taking (is token.CloseBracket)) (elim [
         | none ↦ ret _
-        | some c ↦ elim wraps [ zero ↦ parse-pairs f zero _ | suc w ↦ parse-pairs f w _ ]
-      ]
+        | some c ↦ parse-pairs f zero _
+      ])
+  parse-pairs (suc f) (suc w) acc =
+      bind (intermediates-pairs (level text es true 256) (level-good 256) _ none Stop.none _) λ l.
+      bind (taking (is token.CloseBracket)) (elim [
+        | none ↦ ret _
+        | some c ↦ parse-pairs f w _
+      ])
 
   all_none : (k m j : ℕ) → get_or (replicate k m) j m ≡ m
   all_none zero m j = refl

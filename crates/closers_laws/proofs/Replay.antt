@@ -13,7 +13,7 @@ use Rattle.tokens.specs.declared.token.Token.TheVariants as token
 use Rattle.tree.specs.Tree.{Node, Nodes, end}
 use Rattle.reading.specs.Stop.{Stop}
 use Rattle.reading.specs.Entries.{Entry, is}
-use Rattle.reading.specs.Reading.{State, M, return, ◌>>=◌, here, current, closed, Mark, open_mark, matrix_mark, slot, Try, made, lost, nought, Readers, advance, failed, give_up, attempt, argument, next_script, next_script_func, next_intermediate, intermediates, Row, next_matrix_row, row_cells, more_rows, next_matrix_rows, matrix_body, try_matrix, next_open_group, bar_body, next_open_close_group, next_bracket, begun, next_simple, step, level, parse, parse_entries, start, or_glyph, could_be_matrix, prefixes, any, marks_script, heads, begins, if◌then◌else◌}
+use Rattle.reading.specs.Reading.{State, M, return, ◌>>=◌, here, current, closed, Mark, open_mark, matrix_mark, slot, Try, made, lost, nought, Readers, advance, failed, give_up, attempt, argument, next_script, next_script_func, next_intermediate, intermediates, Row, next_matrix_row, row_cells, more_rows, next_matrix_rows, matrix_body, try_matrix, next_open_group, bar_body, next_open_close_group, next_bracket, begun, next_simple, step, level, parse, parse_entries, start, or_glyph, could_be_matrix, prefixes, any, marks_script, heads, begins, when◌then◌else◌}
 
 inside_of : {A : Type 0} (l : List A) (i : ℕ) (x : A) → get_elem? l i ≡ some x → i < length l
 inside_of [] i x e = let z : ◌≡◌ {A = ℕ} 0 1 = cc in absurd (omega arith)
@@ -162,8 +162,8 @@ module _ (text : List ℕ) (es : List Entry) where
         };
   }
 
-  both_ways : {A : Type 0} (x : Bool) {m n : M A} → Plays m → Plays n → Plays (if x then m else n)
-  unfolding if◌then◌else◌
+  both_ways : {A : Type 0} (x : Bool) {m n : M A} → Plays m → Plays n → Plays (when x then m else n)
+  unfolding when◌then◌else◌
   both_ways true h k = h
   both_ways false h k = k
 
@@ -211,7 +211,7 @@ module _ (text : List ℕ) (es : List Entry) where
   settle k i o t = elim t [ made x ↦ return (some x) | lost ↦ give_up text es true k i o | nought ↦ return none ]
 
   abbrev tried : Mark → ℕ → M Try → State → Bool → Option Node × State
-  tried k i body s x = (if x then return none else (body >>= settle k i s)) s
+  tried k i body s x = (when x then return none else (body >>= settle k i s)) s
 
   module _ (k : Mark) (i : ℕ) (within : i < length es) (body : M Try) (plays : Plays body) where
     attempt-is : (t : State) (b : Bool) → get_or t.marks (slot k i) false ≡ b → attempt text es true k i body t ≡ tried k i body t b
@@ -219,11 +219,11 @@ module _ (text : List ℕ) (es : List Entry) where
     attempt-is t b e = ap (λ (x : Bool). tried k i body t x) e
 
     attempt-known : (t : State) → get_or t.marks (slot k i) false ≡ true → attempt text es true k i body t ≡ (none, t)
-    unfolding if◌then◌else◌ return
+    unfolding when◌then◌else◌ return
     attempt-known t e = attempt-is t true e
 
     attempt-new : (t : State) → get_or t.marks (slot k i) false ≡ false → (x : Try) → (body t).0 ≡ x → attempt text es true k i body t ≡ settle k i t x (body t).1
-    unfolding if◌then◌else◌ ◌>>=◌
+    unfolding when◌then◌else◌ ◌>>=◌
     attempt-new t e x h = attempt-is t false e ∙ ap (λ (y : Try). settle k i t y (body t).1) h
 
     module _ (s : State) (l : Long s) (a : s.pos ≡ suc i) where
@@ -286,37 +286,37 @@ module _ (text : List ℕ) (es : List Entry) where
     next_script-plays : Plays (next_script text es true R)
     unfolding next_script
     next_script-plays =
-        bind (taking marks_script) λ t. elim t [
+        bind (taking marks_script) (elim [
           | none ↦ ret _
           | some e ↦ both_ways _ (bind argument-plays λ a. ret _)
-              (bind argument-plays λ a. bind (taking (is token.Super)) λ u. elim u [
+              (bind argument-plays λ a. bind (taking (is token.Super)) (elim [
                 | none ↦ ret _
                 | some e' ↦ bind argument-plays λ b. ret _
-              ])
-        ]
+              ]))
+        ])
 
     next_script_func-plays : (stop : Stop) (sg : Bool) → Plays (next_script_func text es true R stop sg)
     unfolding next_script_func
     next_script_func-plays stop sg =
-        bind (taking (heads sg)) λ t. elim t [
-          | none ↦ bind (good.simple stop sg) λ a. elim a [
+        bind (taking (heads sg)) (elim [
+          | none ↦ bind (good.simple stop sg) (elim [
             | none ↦ ret _
             | some x ↦ bind next_script-plays λ q. ret _
-          ]
+          ])
           | some e ↦ both_ways _ (bind next_script-plays λ q. bind (good.script_func Stop.none true) λ a. ret _)
               (bind (good.script_func stop true) λ a. ret _)
-        ]
+        ])
 
     next_intermediate-plays : (stop : Stop) (sg : Bool) → Plays (next_intermediate text es true R stop sg)
     unfolding next_intermediate
     next_intermediate-plays stop sg =
-        bind (good.script_func stop sg) λ a. elim a [
+        bind (good.script_func stop sg) (elim [
           | none ↦ ret _
-          | some x ↦ bind (taking (is token.Frac)) λ t. elim t [
+          | some x ↦ bind (taking (is token.Frac)) (elim [
             | none ↦ ret _
             | some e ↦ bind (good.script_func Stop.none true) λ b. ret _
-          ]
-        ]
+          ])
+        ])
 
     intermediates-plays : (f : ℕ) (until : Option Entry) (stop : Stop) (before : Option Node) → Plays (intermediates text es true R f until stop before)
     unfolding intermediates
@@ -324,30 +324,30 @@ module _ (text : List ℕ) (es : List Entry) where
     intermediates-plays (suc f) until stop before =
         bind at_here λ p.
         both_ways _ (ret _)
-        (bind (next_intermediate-plays stop (prefixes before)) λ a. elim a [
+        (bind (next_intermediate-plays stop (prefixes before)) (elim [
           | none ↦ ret _
           | some x ↦ bind (intermediates-plays f until stop (some x)) λ l. ret _
-        ])
+        ]))
 
     row_cells-plays : (f : ℕ) → Plays (row_cells text es true R f)
     unfolding row_cells
     row_cells-plays zero = ret _
     row_cells-plays (suc f) =
         bind (intermediates-plays _ none Stop.sep none) λ l.
-        bind (taking any) λ t. elim t [
+        bind (taking any) (elim [
           | none ↦ ret _
           | some e ↦ both_ways _
-              (bind (row_cells-plays f) λ q. elim q [ none ↦ ret _ | some m ↦ ret _ ])
+              (bind (row_cells-plays f) (elim [ none ↦ ret _ | some m ↦ ret _ ]))
               (both_ways _ (ret _) (ret _))
-        ]
+        ])
 
     next_matrix_row-plays : Plays (next_matrix_row text es true R)
     unfolding next_matrix_row
     next_matrix_row-plays =
-        bind at_here λ i. bind (taking any) λ t. elim t [
+        bind at_here λ i. bind (taking any) (elim [
           | none ↦ ret _
-          | some o ↦ both_ways _ (bind (row_cells-plays _) λ q. elim q [ none ↦ ret _ | some m ↦ noted i _ ]) (ret _)
-        ]
+          | some o ↦ both_ways _ (bind (row_cells-plays _) (elim [ none ↦ ret _ | some m ↦ noted i _ ])) (ret _)
+        ])
 
     more_rows-plays : (f : ℕ) (h : Row) → Plays (more_rows text es true R f h)
     unfolding more_rows
@@ -355,43 +355,43 @@ module _ (text : List ℕ) (es : List Entry) where
     more_rows-plays (suc f) h =
         bind at_here λ p.
         both_ways _
-        (bind (taking any) λ t. bind next_matrix_row-plays λ q. elim q [
+        (bind (taking any) λ t. bind next_matrix_row-plays (elim [
           | none ↦ ret _
-          | some r ↦ both_ways _ (bind (more_rows-plays f h) λ l. elim l [ none ↦ ret _ | some m ↦ ret _ ]) (ret _)
-        ])
+          | some r ↦ both_ways _ (bind (more_rows-plays f h) (elim [ none ↦ ret _ | some m ↦ ret _ ])) (ret _)
+        ]))
         (ret _)
 
     next_matrix_rows-plays : Plays (next_matrix_rows text es true R)
     unfolding next_matrix_rows
     next_matrix_rows-plays =
-        bind next_matrix_row-plays λ q. elim q [
+        bind next_matrix_row-plays (elim [
           | none ↦ ret _
-          | some h ↦ both_ways _ (bind (more_rows-plays _ h) λ l. elim l [ none ↦ ret _ | some m ↦ ret _ ]) (ret _)
-        ]
+          | some h ↦ both_ways _ (bind (more_rows-plays _ h) (elim [ none ↦ ret _ | some m ↦ ret _ ])) (ret _)
+        ])
 
     matrix_body-plays : (o : Entry) (i : ℕ) → Plays (matrix_body text es true R o i)
     unfolding matrix_body
     matrix_body-plays o i =
-        bind next_matrix_rows-plays λ q. elim q [
+        bind next_matrix_rows-plays (elim [
           | none ↦ ret _
           | some r ↦ bind at_here λ p.
-              both_ways _ (bind (taking any) λ t. elim t [ none ↦ ret _ | some c ↦ noted i _ ]) (ret _)
-        ]
+              both_ways _ (bind (taking any) (elim [ none ↦ ret _ | some c ↦ noted i _ ])) (ret _)
+        ])
 
     bar_body-plays : (o : Entry) (i : ℕ) (stop : Stop) → Plays (bar_body text es true R o i stop)
     unfolding bar_body
     bar_body-plays o i stop =
-        bind (next_intermediate-plays stop true) λ a. elim a [
+        bind (next_intermediate-plays stop true) (elim [
           | none ↦ ret _
           | some x ↦ bind (intermediates-plays _ (some o) stop (some x)) λ l. bind at_here λ p.
-              both_ways _ (bind (taking any) λ t. elim t [ none ↦ ret _ | some c ↦ noted i _ ]) (ret _)
-        ]
+              both_ways _ (bind (taking any) (elim [ none ↦ ret _ | some c ↦ noted i _ ])) (ret _)
+        ])
 
     next_open_group-plays : (o : Entry) (i : ℕ) → Plays (next_open_group text es true R o i)
     unfolding next_open_group
     next_open_group-plays o i =
         bind (intermediates-plays _ none Stop.none none) λ l.
-        bind (taking (is token.CloseBracket)) λ t. elim t [ none ↦ ret _ | some c ↦ noted i _ ]
+        bind (taking (is token.CloseBracket)) (elim [ none ↦ ret _ | some c ↦ noted i _ ])
 
   -- A matrix is made or lost, and one that is lost leaves the reading where it was.
   record Never (m : M Try) : Type 0 where
@@ -401,8 +401,8 @@ module _ (text : List ℕ) (es : List Entry) where
   unfolding ◌>>=◌
   never-bind m k = record { never = λ s. (k (m s).0).never (m s).1 }
 
-  never-if : (x : Bool) {m n : M Try} → Never m → Never n → Never (if x then m else n)
-  unfolding if◌then◌else◌
+  never-if : (x : Bool) {m n : M Try} → Never m → Never n → Never (when x then m else n)
+  unfolding when◌then◌else◌
   never-if true h k = h
   never-if false h k = k
 
@@ -417,23 +417,23 @@ module _ (text : List ℕ) (es : List Entry) where
   matrix-never : (R : Readers) (o : Entry) (i : ℕ) → Never (matrix_body text es true R o i)
   unfolding matrix_body
   matrix-never R o i =
-      never-bind _ λ q. elim q [
+      never-bind _ (elim [
         | none ↦ never-lost
-        | some r ↦ never-bind _ λ p. never-if _ (never-bind _ λ t. elim t [ none ↦ never-lost | some c ↦ never-made i _ ]) never-lost
-      ]
+        | some r ↦ never-bind _ λ p. never-if _ (never-bind _ (elim [ none ↦ never-lost | some c ↦ never-made i _ ])) never-lost
+      ])
 
   module _ (R : Readers) (good : Good R) (i : ℕ) (o : Entry) (within : i < length es) where
     try_matrix-plays : PlaysBy matrix_mark i (try_matrix text es true R o i)
-    unfolding try_matrix if◌then◌else◌
+    unfolding try_matrix when◌then◌else◌
     try_matrix-plays = go (could_be_matrix text es o i)
       where
-        go : (x : Bool) → PlaysBy matrix_mark i (if x then attempt text es true matrix_mark i (matrix_body text es true R o i) else return none)
+        go : (x : Bool) → PlaysBy matrix_mark i (when x then attempt text es true matrix_mark i (matrix_body text es true R o i) else return none)
         go true = attempt-plays matrix_mark i within _ (matrix_body-plays R good o i)
         go false = by_once matrix_mark i (ret _)
 
-    back_at : (s : State) → s.pos ≡ suc i → (x : Bool) → ((if x then attempt text es true matrix_mark i (matrix_body text es true R o i) else return none) s).0 ≡ none →
-        ((if x then attempt text es true matrix_mark i (matrix_body text es true R o i) else return none) s).1.pos ≡ suc i
-    unfolding if◌then◌else◌ return attempt failed ◌>>=◌ give_up current
+    back_at : (s : State) → s.pos ≡ suc i → (x : Bool) → ((when x then attempt text es true matrix_mark i (matrix_body text es true R o i) else return none) s).0 ≡ none →
+        ((when x then attempt text es true matrix_mark i (matrix_body text es true R o i) else return none) s).1.pos ≡ suc i
+    unfolding when◌then◌else◌ return attempt failed ◌>>=◌ give_up current
     back_at s a false e = a
     back_at s a true e = go (get_or s.marks (slot matrix_mark i) false) e
       where
@@ -442,7 +442,7 @@ module _ (text : List ℕ) (es : List Entry) where
         end-at lost f e = a
         end-at nought f e = absurd ((matrix-never R o i).never s f)
 
-        go : (x : Bool) → ((if x then return none else (matrix_body text es true R o i >>= settle matrix_mark i s)) s).0 ≡ none → ((if x then return none else (matrix_body text es true R o i >>= settle matrix_mark i s)) s).1.pos ≡ suc i
+        go : (x : Bool) → ((when x then return none else (matrix_body text es true R o i >>= settle matrix_mark i s)) s).0 ≡ none → ((when x then return none else (matrix_body text es true R o i >>= settle matrix_mark i s)) s).1.pos ≡ suc i
         go true e = a
         go false e = end-at (matrix_body text es true R o i s).0 refl e
 
@@ -578,12 +578,18 @@ module _ (text : List ℕ) (es : List Entry) where
   parse-plays : (f wraps : ℕ) (acc : Nodes) → Plays (parse text es true f wraps acc)
   unfolding parse
   parse-plays zero wraps acc = ret _
-  parse-plays (suc f) wraps acc =
+  parse-plays (suc f) zero acc =
       bind (intermediates-plays (level text es true 256) (level-good 256) _ none Stop.none _) λ l.
-      bind (taking (is token.CloseBracket)) λ t. elim t [
+      bind (taking (is token.CloseBracket)) (elim [
         | none ↦ ret _
-        | some c ↦ elim wraps [ zero ↦ parse-plays f zero _ | suc w ↦ parse-plays f w _ ]
-      ]
+        | some c ↦ parse-plays f zero _
+      ])
+  parse-plays (suc f) (suc w) acc =
+      bind (intermediates-plays (level text es true 256) (level-good 256) _ none Stop.none _) λ l.
+      bind (taking (is token.CloseBracket)) (elim [
+        | none ↦ ret _
+        | some c ↦ parse-plays f w _
+      ])
 
   blank-long : (n : ℕ) → length (replicate n false) ≡ n
   blank-long zero = refl

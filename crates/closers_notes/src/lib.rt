@@ -1,4 +1,6 @@
 // The closers as the bracket pass notes them in the records: taken back where an attempt is given back, and written out.
+#![tactic(auto)]
+
 ghost use Rattle.std.specs.Prelude.{◌≡◌, ◌-◌};
 ghost use Rattle.records.specs.Record.{closer_of, with_closer};
 ghost use Rattle.closers_notes.specs.Notes.{cleared, gave_up, with_closers};

@@ -5,7 +5,7 @@ ghost use Rattle.closers_pass.specs.Meet.{onward, seen, passing, inner, at_depth
 use lookahead::takes::{count_look, count_take};
 
 // The position, the depth of the readers, and the takes so far, counted round 2^32.
-#[derive(Drop)]
+#[derive(Clone, Copy)]
 pub(crate) struct Cursor {
     pub pos: u16,
     pub depth: u16,
@@ -84,7 +84,7 @@ impl Cursor {
 }
 
 // Whether a node was read; if so, whether it ends an operand, and whether it is a bar by itself.
-#[derive(Drop)]
+#[derive(Clone, Copy)]
 pub(crate) struct Part {
     pub cur: Cursor,
     pub some: bool,
@@ -130,7 +130,7 @@ pub(crate) fn back(g: Part, depth: u16) -> Part
 }
 
 // Whether a script was there.
-#[derive(Drop)]
+#[derive(Clone, Copy)]
 pub(crate) struct Scripted {
     pub cur: Cursor,
     pub some: bool,
@@ -138,7 +138,7 @@ pub(crate) struct Scripted {
 
 // Items: whether there are some, whether they are a bar alone, whether a sign behind them prefixes, and whether they ended at the bar that
 // was to end them.
-#[derive(Drop)]
+#[derive(Clone, Copy)]
 pub(crate) struct Items {
     pub cur: Cursor,
     pub some: bool,
@@ -148,7 +148,7 @@ pub(crate) struct Items {
 }
 
 // A row's cells, and how many of them are no lines; whether the row ended at a closing bracket, and which.
-#[derive(Drop)]
+#[derive(Clone, Copy)]
 pub(crate) struct Cells {
     pub cur: Cursor,
     pub count: usize,
@@ -158,7 +158,7 @@ pub(crate) struct Cells {
 }
 
 // The rows behind the first: whether all are read and alike, and whether there are some.
-#[derive(Drop)]
+#[derive(Clone, Copy)]
 pub(crate) struct Others {
     pub cur: Cursor,
     pub done: bool,
@@ -166,7 +166,7 @@ pub(crate) struct Others {
 }
 
 // Rows: whether all are read and alike, whether there are more than one; the first one's cells, and those that are no lines.
-#[derive(Drop)]
+#[derive(Clone, Copy)]
 pub(crate) struct Rows {
     pub cur: Cursor,
     pub done: bool,
@@ -176,7 +176,7 @@ pub(crate) struct Rows {
 }
 
 // Whether a matrix was read.
-#[derive(Drop)]
+#[derive(Clone, Copy)]
 pub(crate) struct Tried {
     pub cur: Cursor,
     pub made: bool,

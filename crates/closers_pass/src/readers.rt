@@ -23,7 +23,7 @@ use tokens::kinds::{
 };
 
 // The scripts at the cursor.
-#[cycle(bars_begun_bracket_extend_headed_more_rows_next_intermediate_next_row_next_rows_next_script_next_script_func_next_simple_open_group_other_row_cells_term_try_matrix)]
+#[cycle(readers)]
 fn next_script(text: &[u8], tok: &[u32], n: usize, work: &mut [u32], c: Cursor) -> Scripted
     requires { Ready n work.old c }
     ensures { Scripts text.now tok.now n work.old work.new c result }
@@ -60,7 +60,7 @@ fn next_script(text: &[u8], tok: &[u32], n: usize, work: &mut [u32], c: Cursor) 
 }
 
 // A scripted part, which a function or a prefixing sign can head.
-#[cycle(bars_begun_bracket_extend_headed_more_rows_next_intermediate_next_row_next_rows_next_script_next_script_func_next_simple_open_group_other_row_cells_term_try_matrix)]
+#[cycle(readers)]
 fn next_script_func(
     text: &[u8],
     tok: &[u32],
@@ -87,7 +87,7 @@ fn next_script_func(
 }
 
 // A term: a simple expression with its scripts.
-#[cycle(bars_begun_bracket_extend_headed_more_rows_next_intermediate_next_row_next_rows_next_script_next_script_func_next_simple_open_group_other_row_cells_term_try_matrix)]
+#[cycle(readers)]
 fn term(
     text: &[u8],
     tok: &[u32],
@@ -126,7 +126,7 @@ fn term(
 }
 
 // What the function or the sign at i heads.
-#[cycle(bars_begun_bracket_extend_headed_more_rows_next_intermediate_next_row_next_rows_next_script_next_script_func_next_simple_open_group_other_row_cells_term_try_matrix)]
+#[cycle(readers)]
 fn headed(
     text: &[u8],
     tok: &[u32],
@@ -154,7 +154,7 @@ fn headed(
 }
 
 // One item: a scripted part, or a fraction of two.
-#[cycle(bars_begun_bracket_extend_headed_more_rows_next_intermediate_next_row_next_rows_next_script_next_script_func_next_simple_open_group_other_row_cells_term_try_matrix)]
+#[cycle(readers)]
 fn next_intermediate(
     text: &[u8],
     tok: &[u32],
@@ -198,7 +198,7 @@ fn next_intermediate(
 }
 
 // The items from the cursor on, up to a bar behind an item like that at `until`, if an entry is there. `first0`: none stands before them.
-#[cycle(bars_begun_bracket_extend_headed_more_rows_next_intermediate_next_row_next_rows_next_script_next_script_func_next_simple_open_group_other_row_cells_term_try_matrix)]
+#[cycle(readers)]
 pub(crate) fn extend(
     text: &[u8],
     tok: &[u32],
@@ -244,7 +244,7 @@ pub(crate) fn extend(
 }
 
 // The cells behind a row's bracket, up to its closing bracket.
-#[cycle(bars_begun_bracket_extend_headed_more_rows_next_intermediate_next_row_next_rows_next_script_next_script_func_next_simple_open_group_other_row_cells_term_try_matrix)]
+#[cycle(readers)]
 fn row_cells(text: &[u8], tok: &[u32], n: usize, work: &mut [u32], c: Cursor) -> Cells
     requires { Ready n work.old c }
     ensures { RowCells text.now tok.now n work.old work.new c result }
@@ -275,7 +275,7 @@ fn row_cells(text: &[u8], tok: &[u32], n: usize, work: &mut [u32], c: Cursor) ->
 }
 
 // A matrix row; a token that opens none is taken too.
-#[cycle(bars_begun_bracket_extend_headed_more_rows_next_intermediate_next_row_next_rows_next_script_next_script_func_next_simple_open_group_other_row_cells_term_try_matrix)]
+#[cycle(readers)]
 fn next_row(text: &[u8], tok: &[u32], n: usize, work: &mut [u32], c: Cursor) -> Cells
     requires { Ready n work.old c }
     ensures { MatrixRow text.now tok.now n work.old work.new c result }
@@ -298,7 +298,7 @@ fn next_row(text: &[u8], tok: &[u32], n: usize, work: &mut [u32], c: Cursor) -> 
 }
 
 // The rows behind the first one, which is of `cols` cells between round brackets, or else square ones.
-#[cycle(bars_begun_bracket_extend_headed_more_rows_next_intermediate_next_row_next_rows_next_script_next_script_func_next_simple_open_group_other_row_cells_term_try_matrix)]
+#[cycle(readers)]
 fn more_rows(
     text: &[u8],
     tok: &[u32],
@@ -339,7 +339,7 @@ fn more_rows(
 }
 
 // The rows of a matrix, up to its closing bracket.
-#[cycle(bars_begun_bracket_extend_headed_more_rows_next_intermediate_next_row_next_rows_next_script_next_script_func_next_simple_open_group_other_row_cells_term_try_matrix)]
+#[cycle(readers)]
 fn next_rows(text: &[u8], tok: &[u32], n: usize, work: &mut [u32], c: Cursor) -> Rows
     requires { Ready n work.old c }
     ensures { MatrixRows text.now tok.now n work.old work.new c result }
@@ -373,7 +373,7 @@ fn next_rows(text: &[u8], tok: &[u32], n: usize, work: &mut [u32], c: Cursor) ->
 }
 
 // The matrix that the bracket at i opens, or nothing: a failed attempt is marked and given back.
-#[cycle(bars_begun_bracket_extend_headed_more_rows_next_intermediate_next_row_next_rows_next_script_next_script_func_next_simple_open_group_other_row_cells_term_try_matrix)]
+#[cycle(readers)]
 fn try_matrix(text: &[u8], tok: &[u32], n: usize, work: &mut [u32], c: Cursor, i: usize) -> Tried
     requires ready { Ready n work.old c }
     requires i_lt_pos { i < c.pos }
@@ -411,7 +411,7 @@ fn try_matrix(text: &[u8], tok: &[u32], n: usize, work: &mut [u32], c: Cursor, i
 }
 
 // The group that the bracket at i opens.
-#[cycle(bars_begun_bracket_extend_headed_more_rows_next_intermediate_next_row_next_rows_next_script_next_script_func_next_simple_open_group_other_row_cells_term_try_matrix)]
+#[cycle(readers)]
 fn open_group(text: &[u8], tok: &[u32], n: usize, work: &mut [u32], c: Cursor, i: usize) -> Cursor
     requires ready { Ready n work.old c }
     requires i_lt_pos { i < c.pos }
@@ -428,7 +428,7 @@ fn open_group(text: &[u8], tok: &[u32], n: usize, work: &mut [u32], c: Cursor, i
 }
 
 // The matrix or the group that the bracket of kind k at i opens, or a bar alone.
-#[cycle(bars_begun_bracket_extend_headed_more_rows_next_intermediate_next_row_next_rows_next_script_next_script_func_next_simple_open_group_other_row_cells_term_try_matrix)]
+#[cycle(readers)]
 fn bracket(
     text: &[u8],
     tok: &[u32],
@@ -455,7 +455,7 @@ fn bracket(
 }
 
 // The group between the bar at i and another like it, or the bar alone: a failed attempt is marked and given back.
-#[cycle(bars_begun_bracket_extend_headed_more_rows_next_intermediate_next_row_next_rows_next_script_next_script_func_next_simple_open_group_other_row_cells_term_try_matrix)]
+#[cycle(readers)]
 fn bars(
     text: &[u8],
     tok: &[u32],
@@ -489,7 +489,7 @@ fn bars(
 }
 
 // What the entry i of another kind k, just taken, begins: an operation or a leaf.
-#[cycle(bars_begun_bracket_extend_headed_more_rows_next_intermediate_next_row_next_rows_next_script_next_script_func_next_simple_open_group_other_row_cells_term_try_matrix)]
+#[cycle(readers)]
 fn other(
     text: &[u8],
     tok: &[u32],
@@ -524,7 +524,7 @@ fn other(
 }
 
 // What the entry i, just taken, begins.
-#[cycle(bars_begun_bracket_extend_headed_more_rows_next_intermediate_next_row_next_rows_next_script_next_script_func_next_simple_open_group_other_row_cells_term_try_matrix)]
+#[cycle(readers)]
 fn begun(
     text: &[u8],
     tok: &[u32],
@@ -549,7 +549,7 @@ fn begun(
 }
 
 // A simple expression. `sign`: a sign here prefixes what follows it.
-#[cycle(bars_begun_bracket_extend_headed_more_rows_next_intermediate_next_row_next_rows_next_script_next_script_func_next_simple_open_group_other_row_cells_term_try_matrix)]
+#[cycle(readers)]
 fn next_simple(
     text: &[u8],
     tok: &[u32],

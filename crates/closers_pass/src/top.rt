@@ -17,7 +17,7 @@ use tokens::kinds::CLOSE_BRACKET;
 const MOST_WRAPS: usize = 256;
 
 // What the pass over a token list answers.
-#[derive(Drop)]
+#[derive(Clone, Copy)]
 pub enum Pass {
     // How many entries there are, and the takes of the whole reading; its marks and closers stand in the records.
     Read { entries: usize, takes: u32 },

@@ -96,7 +96,7 @@ cells_are {x} {at} {e} (cell {l} {m} r) h f (suc k) c =
     let rest : Holds x (at + length w) e (encodes m) = holds_right w (encodes m) h in
     let s : cell_len x at ≡ length w = cell-size l head in
     let this : take (length w) (drop at x) ≡ w = part-is x at (length w) w (omega (arith, rest.upto)) refl head.words in
-    let next = cells_are r rest f k (rw s at c) in
+    let next = cells_are {at = at + length w} r rest f k (rw s at c) in
     (rw (s, this, next.0) refl, ap suc next.1)
 
 -- the cells of a grid

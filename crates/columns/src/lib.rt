@@ -1,4 +1,6 @@
 // split_column_lines: the columns of lone bars are taken out of the cells of a matrix, which stand in the tree's words row after row.
+#![tactic(auto)]
+
 mod flags;
 mod line;
 mod moves;
@@ -10,7 +12,7 @@ use crate::flags::{count_kept, fill, has_room, put_lines};
 use crate::moves::keep_cells;
 
 // Where the words end, and how many columns, cells and column lines there are.
-#[derive(Drop)]
+#[derive(Clone, Copy)]
 pub struct Split {
     pub end: usize,
     pub cols: usize,

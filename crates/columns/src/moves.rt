@@ -7,7 +7,7 @@ use crate::flags::{flag_kept, next_col};
 use crate::line::{cell_len, word};
 
 // Where the cells that are kept end, and how many they are.
-#[derive(Drop)]
+#[derive(Clone, Copy)]
 pub(crate) struct Kept {
     pub end: usize,
     pub cells: usize,

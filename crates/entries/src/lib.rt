@@ -1,4 +1,6 @@
 // Parser::new of parse.rs over lent words: a record for each token other than Space.
+#![tactic(auto)]
+
 ghost use Rattle.std.specs.Prelude.{◌≡◌, List, ℕ, ◌+◌, ◌*◌, ◌≤◌, ltb, length};
 ghost use Rattle.tokens.specs.Table.{token_list, count_others};
 ghost use Rattle.records.specs.Record.{record_words, after_close};
@@ -10,7 +12,7 @@ use records::RECORD_WORDS;
 use stores::{put_record, set_close, set_sep};
 use tokens::kinds::{CLOSE_BRACKET, OPEN_BRACKET, SEP, SPACE};
 
-#[derive(Drop)]
+#[derive(Clone, Copy)]
 pub enum Prepared {
     // How many entries there are.
     Entries(usize),
@@ -19,7 +21,7 @@ pub enum Prepared {
 }
 
 // How many entries there are, and the number behind the last bracket that is left open, or 0.
-#[derive(Drop)]
+#[derive(Clone, Copy)]
 struct Matched {
     entries: usize,
     last: usize,

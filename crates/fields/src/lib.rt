@@ -1,4 +1,6 @@
 // The fields of a record beside its token's place: the closing bracket, the Sep, the marks and the closer.
+#![tactic(auto)]
+
 ghost use Rattle.std.specs.Prelude.{◌≡◌, ◌+◌, ◌*◌, ◌<◌, get_or};
 ghost use Rattle.records.specs.Record.{after_close, sep_of, marks_of, closer_of};
 

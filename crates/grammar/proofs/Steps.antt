@@ -7,7 +7,7 @@ use mathlib.Core.Option.{Option, none, some}
 use Rattle.tree.specs.Tree.{Script, Head, Atom, Node, node, Nodes, end, ◌▸◌, leaf}
 use Rattle.reading.specs.Entries.{Entry}
 use Rattle.grammar.specs.Strip.{is_space_item, strip}
-use Rattle.reading.specs.Reading.{State, M, return, ◌>>=◌, here, closed, if◌then◌else◌, Scripted, spaced}
+use Rattle.reading.specs.Reading.{State, M, return, ◌>>=◌, here, closed, when◌then◌else◌, Scripted, spaced}
 
 -- The node n without its Space items is a, which is none itself.
 pub record Comes (a n : Node) : Type 0 where
@@ -66,12 +66,12 @@ module _ {A : Type 0} {P : A → Type 0} where
   unfolding closed
   note k x h = record { run = λ s p. (x, record { pos = s.pos; takes = s.takes; marks = s.marks; closers = set s.closers k (s.pos - 1) }, refl, p, h) }
 
-  pub on_true : {i j : ℕ} {x : Bool} {m : M A} (n : M A) → x ≡ true → From i m j P → From i (if x then m else n) j P
-  unfolding if◌then◌else◌
+  pub on_true : {i j : ℕ} {x : Bool} {m : M A} (n : M A) → x ≡ true → From i m j P → From i (when x then m else n) j P
+  unfolding when◌then◌else◌
   on_true n h g = rw h g
 
-  pub on_false : {i j : ℕ} {x : Bool} (m : M A) {n : M A} → x ≡ false → From i n j P → From i (if x then m else n) j P
-  unfolding if◌then◌else◌
+  pub on_false : {i j : ℕ} {x : Bool} (m : M A) {n : M A} → x ≡ false → From i n j P → From i (when x then m else n) j P
+  unfolding when◌then◌else◌
   on_false m h g = rw h g
 
 module _ {A B : Type 0} {Q : B → Type 0} {i j k : ℕ} {m : M A} where

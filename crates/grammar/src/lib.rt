@@ -1,1 +1,2 @@
 // The grammar of asciimath.org, and that the lists it settles read as their derivations. There is no code here.
+#![tactic(auto)]

@@ -1,4 +1,6 @@
 // The words of a node that stands for one entry, and the leaves, which have no node below.
+#![tactic(auto)]
+
 ghost use Rattle.std.specs.Prelude.{◌≡◌};
 ghost use Rattle.buffer.specs.Buffer.{stored};
 ghost use Rattle.leaves.specs.Leaves.{node_words, leaf_kind, leaf_class, leaf_ends, leaf_words, plain_words, leaf_bar};

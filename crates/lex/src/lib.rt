@@ -1,4 +1,6 @@
 // One read at a place of a text, for a caller that steps over the text and keeps the place itself.
+#![tactic(auto)]
+
 ghost use Rattle.std.specs.Prelude.{◌≡◌, ◌+◌, ◌≤◌, min};
 ghost use Rattle.lex.specs.Lex.{spanned_at, queue_at, lexed_at};
 
@@ -7,7 +9,7 @@ use lexer::{Listing, list_reads};
 use tokens::token::Token;
 
 // A token with its span.
-#[derive(Drop)]
+#[derive(Clone, Copy)]
 pub struct Spanned {
     pub token: Token,
     pub start: usize,
@@ -15,7 +17,7 @@ pub struct Spanned {
 }
 
 // The tokens that wait: how many, and those.
-#[derive(Drop)]
+#[derive(Clone, Copy)]
 pub struct Queue {
     pub count: usize,
     pub first: Spanned,
@@ -23,7 +25,7 @@ pub struct Queue {
     pub third: Spanned,
 }
 
-#[derive(Drop)]
+#[derive(Clone, Copy)]
 pub enum Lexing {
     // The first token, those that wait, the next place, and the row of the first: those that wait are not looked up.
     Tokens {

@@ -8,7 +8,7 @@ ghost use Rattle.lexer.specs.Coded.{row_in};
 use crate::spellings::{KINDS, ROW};
 
 // The row of the spelling table by which a token was read; only a token of rule 2 has one.
-#[derive(Drop)]
+#[derive(Clone, Copy)]
 pub enum TokenRow {
     Row(usize),
     NoRow,

@@ -1,4 +1,6 @@
 // The reading of tokens: the spelling table, the lookup, the rules, and the reads of a text one after the other.
+#![tactic(auto)]
+
 pub mod found;
 mod list;
 pub mod prefix_map;
@@ -15,7 +17,7 @@ use refusals::text::{Checked, check_text};
 
 // How many tokens are listed, how many of them are other than Space, the place behind them, and the row of the last read's first
 // token, none where nothing is read; or the number of the refusal.
-#[derive(Drop)]
+#[derive(Clone, Copy)]
 pub enum Listing {
     Tokens {
         all: usize,

@@ -11,7 +11,7 @@ use crate::spellings::{
 use tokens::token::Token;
 
 // The length of the spelling, its token, and its row, counted from 0 in the table sorted by bytes.
-#[derive(Drop)]
+#[derive(Clone, Copy)]
 pub enum Longest {
     Spelling {
         len: usize,

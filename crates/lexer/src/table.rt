@@ -5,7 +5,7 @@ ghost use Rattle.lexer.specs.Coded.{listed, with_found};
 
 // How many tokens are listed, how many of them are Spaces, the place behind them, and the word of what was found at the last read
 // (crate::found).
-#[derive(Drop)]
+#[derive(Clone, Copy)]
 pub(crate) struct Listed {
     pub all: usize,
     pub spaces: usize,

@@ -35,7 +35,7 @@ tokens-accepted size from long after (t ∷ ts) rest h b s =
     rw (le-ltb 23 (number_of t.token) (number_small t.token), tokens_refusal)
     (rw (le-ltb size (t.span.start + t.span.len) (between_le _ _ ts b.1))
     (rw (apart long after (eqb (number_of t.token) 23) h s.0)
-    (tokens-accepted size _ (long_space t.span.len (number_of t.token)) _ ts rest (long-space _ _) b.1 s.1)))
+    (tokens-accepted size (t.span.start + t.span.len) (long_space t.span.len (number_of t.token)) (eqb (number_of t.token) 23) ts rest (long-space _ _) b.1 s.1)))
   where
     apart : (long after c : Bool) → (long ≡ true → after ≡ true) → (after && c) ≡ false → (long && c) ≡ false
     apart false after c h s = refl

@@ -25,12 +25,12 @@ module _ (rule5 : List ℕ → ℕ → Read) (text : List ℕ) where
 
 pub between_le : (from to : ℕ) (ts : List Lexeme) → Between from to ts → from ≤ to
 between_le from to [] p = p
-between_le from to (t ∷ ts) p = omega (arith, between_le _ to ts p.1)
+between_le from to (t ∷ ts) p = omega (arith, between_le (t.span.start + t.span.len) to ts p.1)
 
 -- from any token on
 between-part : (from to : ℕ) (ts us : List Lexeme) → Between from to (ts ++ us) → (at : ℕ) × Between at to us
 between-part from to [] us p = (from, p)
-between-part from to (t ∷ ts) us p = between-part _ to ts us p.1
+between-part from to (t ∷ ts) us p = between-part (t.span.start + t.span.len) to ts us p.1
 
 between-later : (from to end : ℕ) (us : List Lexeme) → from ≤ to → Between to end us → Between from end us
 between-later from to end [] h q = omega arith
@@ -39,7 +39,7 @@ between-later from to end (u ∷ us) h q = (omega arith, q.1)
 between-append : (from to end : ℕ) (ts us : List Lexeme) → Between from to ts → Between to end us
     → Between from end (ts ++ us)
 between-append from to end [] us p q = between-later from to end us p q
-between-append from to end (t ∷ ts) us p q = (p.0, between-append _ to end ts us p.1 q)
+between-append from to end (t ∷ ts) us p q = (p.0, between-append (t.span.start + t.span.len) to end ts us p.1 q)
 
 module _ {rule5 : List ℕ → ℕ → Read} (sound : Sound rule5) (text : List ℕ) where
   pub fuel : (f g at : ℕ) → length text ≤ at + f → length text ≤ at + g

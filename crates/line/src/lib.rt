@@ -1,4 +1,6 @@
 // One line of the printed tree, from the words of its node.
+#![tactic(auto)]
+
 ghost use Rattle.std.specs.Prelude.{get_or};
 ghost use Rattle.tree.specs.Walk.{lines_of};
 ghost use Rattle.writer.specs.Put.{Put};

@@ -1,4 +1,6 @@
 // Refusals 1 to 6: whether a token list that a caller made is turned back.
+#![tactic(auto)]
+
 ghost use Rattle.std.specs.Prelude.{◌≡◌, false, ◌+◌, ◌*◌, ◌≤◌, length};
 ghost use Rattle.tokens.specs.Refusals.{tokens_refusal};
 ghost use Rattle.tokens.specs.Table.{token_list};
@@ -8,7 +10,7 @@ use refusals::text;
 use refusals::text::check_text;
 use tokens::kinds::SPACE;
 
-#[derive(Drop)]
+#[derive(Clone, Copy)]
 pub enum Checked {
     // How many tokens are other than Space.
     Accepted { others: usize },

@@ -107,7 +107,7 @@ pub fn is_over(tok: &[u32], work: &[u32], n: usize, depth: usize, stop: bool, i:
 }
 
 // How an item begins: it is one leaf, none begins, or the readers have to see.
-#[derive(Drop)]
+#[derive(Clone, Copy)]
 pub enum Look {
     Plain,
     Over,

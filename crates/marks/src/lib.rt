@@ -1,4 +1,6 @@
 // The marks of an entry: what was tried there and failed.
+#![tactic(auto)]
+
 ghost use Rattle.std.specs.Prelude.{◌≡◌};
 ghost use Rattle.records.specs.Record.{marks_of, with_marks};
 ghost use Rattle.marks.specs.Marks.{is_marked, with_mark, open_mark};

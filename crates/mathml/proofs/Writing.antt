@@ -1,5 +1,5 @@
 -- A node written front to back: what opens it, its children one after the other, each behind what stands before it, what closes it.
-use Prim.Native.Nat.{ℕ, suc, ◌+◌, ◌-◌, ◌≤◌, ◌<◌}
+use Prim.Native.Nat.{ℕ, suc, ◌+◌, ◌≤◌, ◌<◌}
 use native.Mathlib.Omega.{arith}
 use native.Mathlib.Numerals.{add-one}
 use mathlib.Core.Path.{◌≡◌, refl, sym, ap, ◌∙◌}
@@ -25,7 +25,7 @@ use Rattle.tree.proofs.Heads.{head_at_lem}
 use Rattle.mathml_rules.specs.declared.Mode.{Mode}
 use Rattle.mathml_rules.specs.declared.Mode.TheVariants as mode
 use Rattle.mathml_rules.specs.Pieces.{Piece, written}
-use Rattle.mathml_rules.specs.Mathml.{child, handed, out, outs}
+use Rattle.mathml_rules.specs.Mathml.{handed, out, outs}
 use Rattle.mathml_rules.specs.Parts.{opening, closing, before, woven, swaps, between, cols_of, cells_left, Whole, Wholes}
 use Rattle.mathml_rules.proofs.Parts.{in_parts}
 use Rattle.mathml_heads.proofs.Runs.{then-written, pieces_as}

@@ -1,4 +1,6 @@
 // MathML of a text: docs/MATHML.md.
+#![tactic(auto)]
+
 mod node;
 mod part;
 mod pass;
@@ -18,7 +20,7 @@ use pass::pass_row;
 use place::inner_place;
 
 // What the call answers.
-#[derive(Drop)]
+#[derive(Clone, Copy)]
 pub enum Marked {
     // How many bytes the MathML has, takes, and whether the answer is blank.
     Whole { len: usize, takes: u64, blank: bool },
@@ -27,7 +29,7 @@ pub enum Marked {
 }
 
 // What is said of a tree: how many bytes its MathML has, or the refusal's number.
-#[derive(Drop)]
+#[derive(Clone, Copy)]
 enum Written {
     Whole(usize),
     Refused(u8),

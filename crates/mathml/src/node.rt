@@ -8,7 +8,7 @@ use crate::place::is_leaf;
 use mathml_rules::Mode;
 
 // Where the words read and the bytes put end.
-#[derive(Drop)]
+#[derive(Clone, Copy)]
 pub(crate) struct Reached {
     pub at: usize,
     pub end: usize,

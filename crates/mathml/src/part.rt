@@ -16,7 +16,7 @@ use mathml_rules::Mode;
 use tree::kinds::NODE_SIGNED;
 use tree::walk::{Step, node_at, past};
 
-#[derive(Drop)]
+#[derive(Clone, Copy)]
 pub(crate) struct Part {
     // whether a child follows: its place, whether it is an item, its mode, and the cells left in its row behind it
     pub more: bool,

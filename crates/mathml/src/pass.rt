@@ -6,7 +6,7 @@ use crate::place::inner_place;
 use mathml_heads::refusal::is_refused;
 use tree::walk::{Step, node_at, past};
 
-#[derive(Drop)]
+#[derive(Clone, Copy)]
 pub(crate) struct Passed {
     // where their words end
     pub at: usize,

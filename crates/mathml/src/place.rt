@@ -8,7 +8,7 @@ use tree::kinds::{NODE_SIGNED, NODE_SIMPLE};
 use tree::walk::{own_words, word};
 
 // A place of a row of items, or of nodes that are none.
-#[derive(Drop)]
+#[derive(Clone, Copy)]
 pub(crate) struct Place {
     pub at: usize,
     pub items: bool,

@@ -58,7 +58,7 @@ module _ (m : Mode) (left right : List ℕ) where
   pub left-long : (length left ≡ 1 → ⊥) → false ≡ dropped m left right
   unfolding dropped pair
   left-long h =
-      elim m [
+      elim m as (λ k. false ≡ dropped k left right) [
         | mode.Keep ↦ refl
         | mode.Argument ↦ rw (not_one left 40 h, not_one left 123 h)
         | mode.Text ↦ rw (not_one left 40 h, not_one left 123 h, not_one left 91 h)
@@ -70,7 +70,7 @@ module _ (m : Mode) (left right : List ℕ) where
       let a = and-false (same left (bytes "(")) in
       let b = and-false (same left (bytes "{")) in
       let c = and-false (same left (bytes "[")) in
-      elim m [
+      elim m as (λ k. false ≡ dropped k left right) [
         | mode.Keep ↦ refl
         | mode.Argument ↦ rw (not_one right 41 h, not_one right 125 h, a, b)
         | mode.Text ↦ rw (not_one right 41 h, not_one right 125 h, not_one right 93 h, a, b, c)

@@ -63,7 +63,7 @@ const MBOX: u64 = 521924973;
 const NO_ELEMENT: usize = 0;
 
 // Commands with the same element and the same marks are one.
-#[derive(Drop)]
+#[derive(Clone, Copy)]
 enum Command {
     Unknown,
     Sqrt,

@@ -12,7 +12,7 @@ use Rattle.tokens.proofs.Cases.{by_test, by_option, clash}
 use Rattle.tree.specs.Tree.{Head, Atom, Node, Nodes, end, ◌▸◌, ◌⧺◌, count, leaf}
 use Rattle.reading.specs.Stop.{Stop}
 use Rattle.reading.specs.Entries.{Entry, is}
-use Rattle.reading.specs.Reading.{State, M, return, ◌>>=◌, if◌then◌else◌, here, current, closed, Mark, open_mark, matrix_mark, slot, Try, made, lost, nought, Readers, advance, failed, give_up, attempt, argument, next_script, next_script_func, next_intermediate, intermediates, Row, Rows, next_matrix_row, row_cells, more_rows, next_matrix_rows, makes_matrix, matrix_body, try_matrix, next_open_group, bar_body, next_open_close_group, next_bracket, begun, next_simple, step, level, parse, start, parse_entries, last_of, prefixes, spaced, any, marks_script, heads, begins, is_at, is_bar, unscripted}
+use Rattle.reading.specs.Reading.{State, M, return, ◌>>=◌, when◌then◌else◌, here, current, closed, Mark, open_mark, matrix_mark, slot, Try, made, lost, nought, Readers, advance, failed, give_up, attempt, argument, next_script, next_script_func, next_intermediate, intermediates, Row, Rows, next_matrix_row, row_cells, more_rows, next_matrix_rows, makes_matrix, matrix_body, try_matrix, next_open_group, bar_body, next_open_close_group, next_bracket, begun, next_simple, step, level, parse, start, parse_entries, last_of, prefixes, spaced, any, marks_script, heads, begins, is_at, is_bar, unscripted}
 use Rattle.bounds.proofs.Columns.{rows_of}
 use Rattle.mathml_length.proofs.Costs.{script_cost, cost, costs, costs-join}
 use Rattle.mathml_length.proofs.Prices.{price_of, pays, paid, paid-next, worth}
@@ -45,8 +45,8 @@ module _ (text : List ℕ) (es : List Entry) (rem : Bool) where
   spare {m} h le = record { run = λ s e. omega (arith, h.run s e, le (m s).0) }
 
   by_cases : {A : Type 0} {p c : ℕ} (x : Bool) {m n : M A} {d : A → ℕ} → (x ≡ true → Pays p c m d) → (x ≡ false → Pays p c n d) →
-      Pays p c (if x then m else n) d
-  unfolding if◌then◌else◌
+      Pays p c (when x then m else n) d
+  unfolding when◌then◌else◌
   by_cases true h k = h refl
   by_cases false h k = k refl
 
@@ -101,7 +101,7 @@ module _ (text : List ℕ) (es : List Entry) (rem : Bool) where
 
   attempt-pays : {p c : ℕ} (m : Mark) (i : ℕ) {body : M Try} → Pays p c body (try_cost c) →
       Pays p c (attempt text es rem m i body) (or_else c)
-  unfolding attempt failed ◌>>=◌ current if◌then◌else◌ return give_up
+  unfolding attempt failed ◌>>=◌ current when◌then◌else◌ return give_up
   attempt-pays {p} {c} m i {body} h = record { run = λ s e. known s e (rem && get_or s.marks (slot m i) false) }
     where
       settle : State → Try → M (Option Node)
@@ -113,7 +113,7 @@ module _ (text : List ℕ) (es : List Entry) (rem : Bool) where
       done s e nought q = omega (arith, h.run s e, ap (try_cost c) q)
 
       known : (s : State) → s.pos ≡ p → (x : Bool) →
-          Covers p c (or_else c) ((if x then return none else (body >>= settle s)) s)
+          Covers p c (or_else c) ((when x then return none else (body >>= settle s)) s)
       known s e true = rw e (omega arith)
       known s e false = done s e (body s).0 refl
 
@@ -182,68 +182,68 @@ module _ (text : List ℕ) (es : List Entry) (rem : Bool) where
     argument-pays : (p : ℕ) → Pays p 13 (argument text es rem R) (cost text)
     unfolding argument cost
     argument-pays p =
-        bind (paying.simple p Stop.none true) (omega arith) λ q a. elim a [
+        bind (paying.simple p Stop.none true) (omega arith) (λ q. elim [
           | none ↦ ret _ (omega arith)
           | some x ↦ ret _ (omega arith)
-        ]
+        ])
 
     next_script-pays : (p : ℕ) → Pays p 0 (next_script text es rem R) (λ q. script_cost q.0 + costs text q.1)
     unfolding next_script cost
     next_script-pays p =
-        taking marks_script λ t. elim t [
+        taking marks_script (elim [
           | none ↦ λ h. ret _ (omega arith)
           | some e ↦ λ h.
               let w = marks-worth e h.1 in
               by_cases (is token.Super e) (λ y. bind (argument-pays _) (omega arith) λ r a. ret _ (omega arith))
-              (λ y. bind (argument-pays _) (omega arith) λ r a. taking (is token.Super) λ u. elim u [
+              (λ y. bind (argument-pays _) (omega arith) λ r a. taking (is token.Super) (elim [
                 | none ↦ λ k. ret _ (omega arith)
                 | some e' ↦ λ k.
                     let v = worth text token.Super e' k.1 in
                     bind (argument-pays _) (omega arith) λ r' b. ret _ (omega arith)
-              ])
-        ]
+              ]))
+        ])
 
     next_script_func-pays : (p : ℕ) (stop : Stop) (sg : Bool) → Pays p 0 (next_script_func text es rem R stop sg) (found p)
     unfolding next_script_func cost
     next_script_func-pays p stop sg =
-        taking (heads sg) λ t. elim t [
-          | none ↦ λ h. bind (paying.simple p stop sg) (omega arith) λ q a. elim a [
+        taking (heads sg) (elim [
+          | none ↦ λ h. bind (paying.simple p stop sg) (omega arith) (λ q. elim [
             | none ↦ ret _ (omega arith)
             | some x ↦ bind (next_script-pays q) (omega arith) λ r y. ret _ (omega arith)
-          ]
+          ])
           | some e ↦ λ h.
               let g = gap_is p e h.0 in
               by_cases (is token.Function e)
               (λ y.
               let w = worth text token.Function e y in
               bind (next_script-pays _) (omega arith) λ q z.
-              bind (paying.script_func q Stop.none true) (omega arith) λ r a. elim a [
+              bind (paying.script_func q Stop.none true) (omega arith) (λ r. elim [
                 | none ↦ ret _ (omega (arith, costs-join text z.1 (unscripted (leaf Head.missing) ▸ end)))
                 | some x ↦ ret _ (omega (arith, costs-join text z.1 (x ▸ end)))
-              ])
+              ]))
               (λ y.
               let w = worth text token.Sign e (heads-sign sg e h.1 y) in
-              bind (paying.script_func _ stop true) (omega arith) λ q a. elim a [
+              bind (paying.script_func _ stop true) (omega arith) (λ q. elim [
                 | none ↦ ret _ (omega arith)
                 | some x ↦ ret _ (omega arith)
-              ])
-        ]
+              ]))
+        ])
 
     next_intermediate-pays : (p : ℕ) (stop : Stop) (sg : Bool) → Pays p 0 (next_intermediate text es rem R stop sg) (found p)
     unfolding next_intermediate cost
     next_intermediate-pays p stop sg =
-        bind (paying.script_func p stop sg) (omega arith) λ q a. elim a [
+        bind (paying.script_func p stop sg) (omega arith) (λ q. elim [
           | none ↦ ret _ (omega arith)
-          | some x ↦ taking (is token.Frac) λ t. elim t [
+          | some x ↦ taking (is token.Frac) (elim [
             | none ↦ λ h. ret _ (omega arith)
             | some e ↦ λ h.
                 let w = worth text token.Frac e h.1 in
-                bind (paying.script_func _ Stop.none true) (omega arith) λ r b. elim b [
+                bind (paying.script_func _ Stop.none true) (omega arith) (λ r. elim [
                   | none ↦ ret _ (omega arith)
                   | some z ↦ ret _ (omega arith)
-                ]
-          ]
-        ]
+                ])
+          ])
+        ])
 
     intermediates-pays : (f p : ℕ) (until : Option Entry) (stop : Stop) (before : Option Node) →
         Pays p 0 (intermediates text es rem R f until stop before) (costs text)
@@ -251,57 +251,57 @@ module _ (text : List ℕ) (es : List Entry) (rem : Bool) where
     intermediates-pays zero p until stop before = ret _ (omega arith)
     intermediates-pays (suc f) p until stop before =
         placed λ q e. by_cases _ (λ y. ret _ (omega arith))
-        (λ y. bind (next_intermediate-pays p stop (prefixes before)) (omega arith) λ r a. elim a [
+        (λ y. bind (next_intermediate-pays p stop (prefixes before)) (omega arith) (λ r. elim [
           | none ↦ ret _ (omega arith)
           | some x ↦ bind (intermediates-pays f r until stop (some x)) (omega arith) λ r' l.
               ret _ (omega (arith, spaced-cost before q x l, ap gap e))
-        ])
+        ]))
 
     -- a cell's Sep or bracket has paid for the cell, the tags of a row and an entry of the attribute columnlines
     row_cells-pays : (f p : ℕ) → Pays p 0 (row_cells text es rem R f) (perhaps (λ (m : Nodes × Entry). full_cost m.0))
     unfolding row_cells cost
     row_cells-pays zero p = ret _ (omega arith)
     row_cells-pays (suc f) p =
-        bind (intermediates-pays _ p none Stop.sep none) (omega arith) λ q l. taking any λ t. elim t [
+        bind (intermediates-pays _ p none Stop.sep none) (omega arith) λ q l. taking any (elim [
           | none ↦ λ h. ret _ (omega arith)
           | some e ↦ λ h. by_cases (is token.Sep e)
               (λ y.
               let w = worth text token.Sep e y in
-              bind (row_cells-pays f _) (omega arith) λ r a. elim a [ none ↦ ret _ (omega arith) | some m ↦ ret _ (omega arith) ])
+              bind (row_cells-pays f _) (omega arith) (λ r. elim [ none ↦ ret _ (omega arith) | some m ↦ ret _ (omega arith) ]))
               (λ y. by_cases (is token.CloseBracket e)
               (λ z. let w = worth text token.CloseBracket e z in ret _ (omega arith)) (λ z. ret _ (omega arith)))
-        ]
+        ])
 
     -- a row's opening bracket, for the attribute's name
     next_matrix_row-pays : (p : ℕ) → Pays p 0 (next_matrix_row text es rem R) (perhaps (λ (r : Row). 8 + full_cost r.cells))
     unfolding next_matrix_row
     next_matrix_row-pays p =
-        placed λ i at. taking any λ t. elim t [
+        placed λ i at. taking any (elim [
           | none ↦ λ h. ret _ (omega arith)
           | some o ↦ λ h. by_cases (is token.OpenBracket o)
               (λ y.
               let w = worth text token.OpenBracket o y in
-              bind (row_cells-pays _ _) (omega arith) λ q a. elim a [
+              bind (row_cells-pays _ _) (omega arith) (λ q. elim [
                 | none ↦ ret _ (omega arith)
                 | some m ↦ noted i _ (omega arith)
-              ])
+              ]))
               (λ y. ret _ (omega arith))
-        ]
+        ])
 
     more_rows-pays : (f p : ℕ) (h : Row) → Pays p 0 (more_rows text es rem R f h) (perhaps (rows_cost text))
     unfolding more_rows
     more_rows-pays zero p h = ret _ (omega arith)
     more_rows-pays (suc f) p h =
         placed λ i at. by_cases _
-        (λ y. taking any λ t k. bind (next_matrix_row-pays _) (omega arith) λ q a. elim a [
+        (λ y. taking any λ t k. bind (next_matrix_row-pays _) (omega arith) (λ q. elim [
           | none ↦ ret _ (omega arith)
           | some r ↦ by_cases _
-              (λ z. bind (more_rows-pays f q h) (omega arith) λ r' l. elim l [
+              (λ z. bind (more_rows-pays f q h) (omega arith) (λ r'. elim [
                 | none ↦ ret _ (omega arith)
                 | some m ↦ ret _ (omega arith)
-              ])
+              ]))
               (λ z. ret _ (omega arith))
-        ])
+        ]))
         (λ y. ret _ (omega arith))
 
     next_matrix_rows-pays : (p : ℕ) →
@@ -309,15 +309,15 @@ module _ (text : List ℕ) (es : List Entry) (rem : Bool) where
         (perhaps (λ (r : Rows). 8 + 6 * count r.head.cells + rows_cost text (rows_of r)))
     unfolding next_matrix_rows
     next_matrix_rows-pays p =
-        bind (next_matrix_row-pays p) (omega arith) λ q a. elim a [
+        bind (next_matrix_row-pays p) (omega arith) (λ q. elim [
           | none ↦ ret _ (omega arith)
           | some h ↦ by_cases _
-              (λ y. bind (more_rows-pays _ q h) (omega arith) λ r l. elim l [
+              (λ y. bind (more_rows-pays _ q h) (omega arith) (λ r. elim [
                 | none ↦ ret _ (omega arith)
                 | some m ↦ ret _ (omega arith)
-              ])
+              ]))
               (λ y. ret _ (omega arith))
-        ]
+        ])
 
     -- What the bracket o opens: it has paid for its own tags and marks, and its closer for the closer's mark.
     module _ (o : Entry) (i : ℕ) where
@@ -327,41 +327,41 @@ module _ (text : List ℕ) (es : List Entry) (rem : Bool) where
       matrix_body-pays : (p : ℕ) → Pays p opener (matrix_body text es rem R o i) (try_cost opener)
       unfolding matrix_body
       matrix_body-pays p =
-          bind (next_matrix_rows-pays p) (omega arith) λ q a. elim a [
+          bind (next_matrix_rows-pays p) (omega arith) (λ q. elim [
             | none ↦ ret _ (omega arith)
             | some r ↦ placed λ j at. by_cases (makes_matrix text es o i r j)
-                (λ y. taking any λ t. elim t [
+                (λ y. taking any (elim [
                   | none ↦ λ h. ret _ (omega arith)
                   | some c ↦ λ h.
                       let w = closer-worth o i r j y c (rw at h.0) in
                       noted i _ (omega (arith, matrix-cost text es r o.span c.span))
-                ])
+                ]))
                 (λ y. ret _ (omega arith))
-          ]
+          ])
 
       bar_body-pays : (p : ℕ) (stop : Stop) → Pays p opener (bar_body text es rem R o i stop) (try_cost opener)
       unfolding bar_body cost
       bar_body-pays p stop =
-          bind (next_intermediate-pays p stop true) (omega arith) λ q a. elim a [
+          bind (next_intermediate-pays p stop true) (omega arith) (λ q. elim [
             | none ↦ ret _ (omega arith)
             | some x ↦ bind (intermediates-pays _ q (some o) stop (some x)) (omega arith) λ r l.
                 placed λ j at. by_cases (is_at text es (is_bar text es o) j)
-                (λ y. taking any λ t. elim t [
+                (λ y. taking any (elim [
                   | none ↦ λ h. ret _ (omega arith)
                   | some c ↦ λ h.
                       let w = worth text token.OpenCloseBracket c (bar-at text es o j y c (rw at h.0)) in
                       noted i _ (omega arith)
-                ])
+                ]))
                 (λ y. ret _ (omega arith))
-          ]
+          ])
 
       next_open_group-pays : (p : ℕ) → Pays p opener (next_open_group text es rem R o i) (cost text)
       unfolding next_open_group cost
       next_open_group-pays p =
-          bind (intermediates-pays _ p none Stop.none none) (omega arith) λ q l. taking (is token.CloseBracket) λ t. elim t [
+          bind (intermediates-pays _ p none Stop.none none) (omega arith) λ q l. taking (is token.CloseBracket) (elim [
             | none ↦ λ h. ret _ (omega arith)
             | some c ↦ λ h. let w = worth text token.CloseBracket c h.1 in noted i _ (omega arith)
-          ]
+          ])
 
       try_matrix-pays : (p : ℕ) → Pays p opener (try_matrix text es rem R o i) (or_else opener)
       unfolding try_matrix
@@ -370,21 +370,21 @@ module _ (text : List ℕ) (es : List Entry) (rem : Bool) where
       next_bracket-pays : (p : ℕ) → Pays p opener (next_bracket text es rem R o i) (cost text)
       unfolding next_bracket
       next_bracket-pays p =
-          bind (try_matrix-pays p) (omega arith) λ q m. elim m [
+          bind (try_matrix-pays p) (omega arith) (λ q. elim [
             | some x ↦ ret _ (omega arith)
             | none ↦ spare (next_open_group-pays q) (λ x. omega arith)
-          ]
+          ])
 
       next_open_close_group-pays : (p : ℕ) (stop : Stop) → Pays p opener (next_open_close_group text es rem R o i stop) (cost text)
       unfolding next_open_close_group cost
       next_open_close_group-pays p stop =
-          bind (try_matrix-pays p) (omega arith) λ q m. elim m [
+          bind (try_matrix-pays p) (omega arith) (λ q. elim [
             | some x ↦ ret _ (omega arith)
-            | none ↦ bind (attempt-pays (open_mark stop) i (bar_body-pays q stop)) (omega arith) λ r g. elim g [
+            | none ↦ bind (attempt-pays (open_mark stop) i (bar_body-pays q stop)) (omega arith) (λ r. elim [
               | none ↦ ret _ (omega arith)
               | some x ↦ ret _ (omega arith)
-            ]
-          ]
+            ])
+          ])
 
     -- what a token begins, by its price
     begun-pays : (k : Token) (e : Entry) (i p : ℕ) (stop : Stop) (sg : Bool) →
@@ -396,10 +396,10 @@ module _ (text : List ℕ) (es : List Entry) (rem : Bool) where
     begun-pays token.Operator e i p stop sg = ret _ (omega arith)
     begun-pays (token.Symbol c) e i p stop sg = ret _ (omega arith)
     begun-pays token.Sign e i p stop true =
-        bind (paying.simple p stop true) (omega arith) λ q a. elim a [
+        bind (paying.simple p stop true) (omega arith) (λ q. elim [
           | none ↦ ret _ (omega arith)
           | some x ↦ ret _ (omega arith)
-        ]
+        ])
     begun-pays token.Sign e i p stop false = ret _ (omega arith)
     begun-pays token.Unary e i p stop sg = bind (argument-pays p) (omega arith) λ q a. ret _ (omega arith)
     begun-pays token.Function e i p stop sg = bind (argument-pays p) (omega arith) λ q a. ret _ (omega arith)
@@ -418,12 +418,12 @@ module _ (text : List ℕ) (es : List Entry) (rem : Bool) where
     next_simple-pays : (p : ℕ) (stop : Stop) (sg : Bool) → Pays p 0 (next_simple text es rem R stop sg) (found p)
     unfolding next_simple
     next_simple-pays p stop sg =
-        placed λ i at. taking (begins stop) λ t. elim t [
+        placed λ i at. taking (begins stop) (elim [
           | none ↦ λ h. ret _ (omega arith)
           | some e ↦ λ h.
               let g = gap_is p e h.0 in
-              spare (begun-pays e.token e i _ stop sg) (λ a. elim a [ none ↦ omega arith | some x ↦ omega arith ])
-        ]
+              spare (begun-pays e.token e i _ stop sg) ((elim [ none ↦ omega arith | some x ↦ omega arith ]))
+        ])
 
     step-pays : Paying (step text es rem R)
     unfolding step
@@ -438,17 +438,19 @@ module _ (text : List ℕ) (es : List Entry) (rem : Bool) where
   parse-pays : (f wraps p : ℕ) (inters : Nodes) → Pays p (costs text inters) (parse text es rem f wraps inters) (costs text)
   unfolding parse cost
   parse-pays zero wraps p inters = ret _ (omega arith)
-  parse-pays (suc f) wraps p inters =
+  parse-pays (suc f) zero p inters =
       bind (intermediates-pays (level text es rem 256) (level-pays 256) _ p none Stop.none (last_of inters)) (omega arith) λ q l.
-      taking (is token.CloseBracket) λ t. elim t [
+      taking (is token.CloseBracket) (elim [
         | none ↦ λ h. ret _ (omega (arith, costs-join text inters l))
-        | some c ↦ λ h. elim wraps [
-          | zero ↦ spare (parse-pays f zero _ (inters ⧺ l)) (λ x. omega (arith, costs-join text inters l))
-          | suc w ↦
-              let v = worth text token.CloseBracket c h.1 in
-              spare (parse-pays f w _ _) (λ x. omega (arith, costs-join text inters l))
-        ]
-      ]
+        | some c ↦ λ h. spare (parse-pays f zero _ (inters ⧺ l)) (λ x. omega (arith, costs-join text inters l))
+      ])
+  parse-pays (suc f) (suc w) p inters =
+      bind (intermediates-pays (level text es rem 256) (level-pays 256) _ p none Stop.none (last_of inters)) (omega arith) λ q l.
+      taking (is token.CloseBracket) (elim [
+        | none ↦ λ h. ret _ (omega (arith, costs-join text inters l))
+        | some c ↦ λ h. let v = worth text token.CloseBracket c h.1 in
+            spare (parse-pays f w _ _) (λ x. omega (arith, costs-join text inters l))
+      ])
 
 -- The tree costs no more than the entries up to some place pay.
 pub tree-paid : (text : List ℕ) (es : List Entry) (rem : Bool) →

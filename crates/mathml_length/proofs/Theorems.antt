@@ -12,7 +12,7 @@ use Rattle.lexing.specs.Rules as rules
 use Rattle.lexing.specs.Rules.{tokens}
 use Rattle.tree.specs.Tree.{nowhere}
 use Rattle.reading.specs.Entries.{is, entries}
-use Rattle.reading.specs.Reading.{read_text, heads, return, ◌>>=◌, if◌then◌else◌, here, advance, next_script, next_script_func, next_intermediate, spaced, at_open_close, intermediates, next_simple, step, level, last_of, parse, parse_entries, reading_by}
+use Rattle.reading.specs.Reading.{read_text, heads, return, ◌>>=◌, when◌then◌else◌, here, advance, next_script, next_script_func, next_intermediate, spaced, at_open_close, intermediates, next_simple, step, level, last_of, parse, parse_entries, reading_by}
 use Rattle.mathml_rules.specs.Utf8.{encoded, utf8}
 use Rattle.mathml_rules.specs.Elements.{elements, element_of}
 use Rattle.mathml_rules.specs.Pieces.{escapes, escaped_by, esc, bytes_of, written, within}
@@ -36,5 +36,5 @@ length-within text =
 -- the empty text, and `f`: a function of one byte without its argument
 pub length-reached :
     (length (mathml_of [] (read_text []).tree) ≡ 72) × (length (mathml_of (bytes "f") (read_text (bytes "f")).tree) ≡ 120)
-unfolding encoded utf8 elements element_of escapes escaped_by esc bytes_of written within own together S arguments A join outs root mathml_of rows longest.longest_of longest.longest_at rules.run rules.run_end rules.blank rules.blanks_at same rules.is_text_command rules.spelling_at rules.read_at rules.tokens_from rules.tokens_by is heads entries return ◌>>=◌ if◌then◌else◌ here advance next_script next_script_func next_intermediate spaced at_open_close intermediates next_simple step level last_of parse parse_entries reading_by
+unfolding encoded utf8 elements element_of escapes escaped_by esc bytes_of written within own together S arguments A join outs root mathml_of rows longest.longest_of longest.longest_at rules.run rules.run_end rules.blank rules.blanks_at same rules.is_text_command rules.spelling_at rules.read_at rules.tokens_from rules.tokens_by is heads entries return ◌>>=◌ when◌then◌else◌ here advance next_script next_script_func next_intermediate spaced at_open_close intermediates next_simple step level last_of parse parse_entries reading_by
 length-reached = (refl, refl)

@@ -11,7 +11,7 @@ use Rattle.lexing.specs.Longest as longest
 use Rattle.lexing.specs.Rules as rules
 use Rattle.tree.specs.Tree.{Nodes}
 use Rattle.reading.specs.Entries.{is, entries, close_after, has_sep}
-use Rattle.reading.specs.Reading.{read_text, stops, any, marks_script, heads, begins, slot, return, ◌>>=◌, if◌then◌else◌, here, current, closed, prefixes, text_of, is_byte, same_text, is_at, close_of, is_bar, closes, could_be_matrix, advance, failed, give_up, attempt, is_bar_symbol, is_unscripted, is_column_line, line_cells, both_lines, line_cols, kept_cols, column_lines, keep_cells, join_rows, row_brackets, alike, split_column_lines, argument, next_script, next_script_func, next_intermediate, spaced, at_open_close, intermediates, row_cells, next_matrix_row, more_rows, next_matrix_rows, makes_matrix, matrix_body, try_matrix, next_open_group, bar_body, next_open_close_group, next_bracket, begun, next_simple, step, level, last_of, parse, parse_entries, reading_by, ends_operand, atom_ends, look}
+use Rattle.reading.specs.Reading.{read_text, stops, any, marks_script, heads, begins, slot, return, ◌>>=◌, when◌then◌else◌, here, current, closed, prefixes, text_of, is_byte, same_text, is_at, close_of, is_bar, closes, could_be_matrix, advance, failed, give_up, attempt, is_bar_symbol, is_unscripted, is_column_line, line_cells, both_lines, line_cols, kept_cols, column_lines, keep_cells, join_rows, row_brackets, alike, split_column_lines, argument, next_script, next_script_func, next_intermediate, spaced, at_open_close, intermediates, row_cells, next_matrix_row, more_rows, next_matrix_rows, makes_matrix, matrix_body, try_matrix, next_open_group, bar_body, next_open_close_group, next_bracket, begun, next_simple, step, level, last_of, parse, parse_entries, reading_by, ends_operand, atom_ends, look}
 use Rattle.mathml_rules.specs.Utf8.{encoded, utf8}
 use Rattle.mathml_rules.specs.Forms.{forms, shown_by, shown}
 use Rattle.mathml_rules.specs.Elements.{elements, element_of}
@@ -83,5 +83,5 @@ examples =
     []
 
 pub examples-marked : map read examples ≡ map said examples
-unfolding read examples marked encoded utf8 forms shown_by shown elements element_of escapes escaped_by esc bytes_of written within unaries mark unary_by unary exchanging binary_by binary own together symbol_element atom S arguments A B pair dropped group has line_entry line_entries columnlines table_rows table text_mode simple_mode func_mode handed join outs root mathml_of one_of refused_binaries fonts twice refused_lines control controls refused_prefix refused_head refusal11 rows longest.begins longest.longest_of longest.longest_at rules.run rules.run_end rules.blank rules.digit rules.letter rules.other rules.blanks_at rules.closer rules.literal_at rules.command_at same rules.is_text_command rules.spelling_at rules.number_end rules.past_point rules.number_at rules.quotation_at rules.byte_at rules.read_at rules.tokens_from rules.tokens_by is stops any marks_script heads begins entries close_after has_sep slot return ◌>>=◌ if◌then◌else◌ here current closed prefixes text_of is_byte same_text is_at close_of is_bar closes could_be_matrix advance failed give_up attempt is_bar_symbol is_unscripted is_column_line line_cells both_lines line_cols kept_cols column_lines keep_cells join_rows row_brackets alike split_column_lines argument next_script next_script_func next_intermediate spaced at_open_close intermediates row_cells next_matrix_row more_rows next_matrix_rows makes_matrix matrix_body try_matrix next_open_group bar_body next_open_close_group next_bracket begun next_simple step level last_of parse parse_entries reading_by ends_operand atom_ends look
+unfolding read examples marked encoded utf8 forms shown_by shown elements element_of escapes escaped_by esc bytes_of written within unaries mark unary_by unary exchanging binary_by binary own together symbol_element atom S arguments A B pair dropped group has line_entry line_entries columnlines table_rows table text_mode simple_mode func_mode handed join outs root mathml_of one_of refused_binaries fonts twice refused_lines control controls refused_prefix refused_head refusal11 rows longest.begins longest.longest_of longest.longest_at rules.run rules.run_end rules.blank rules.digit rules.letter rules.other rules.blanks_at rules.closer rules.literal_at rules.command_at same rules.is_text_command rules.spelling_at rules.number_end rules.past_point rules.number_at rules.quotation_at rules.byte_at rules.read_at rules.tokens_from rules.tokens_by is stops any marks_script heads begins entries close_after has_sep slot return ◌>>=◌ when◌then◌else◌ here current closed prefixes text_of is_byte same_text is_at close_of is_bar closes could_be_matrix advance failed give_up attempt is_bar_symbol is_unscripted is_column_line line_cells both_lines line_cols kept_cols column_lines keep_cells join_rows row_brackets alike split_column_lines argument next_script next_script_func next_intermediate spaced at_open_close intermediates row_cells next_matrix_row more_rows next_matrix_rows makes_matrix matrix_body try_matrix next_open_group bar_body next_open_close_group next_bracket begun next_simple step level last_of parse parse_entries reading_by ends_operand atom_ends look
 examples-marked = refl

@@ -1,4 +1,6 @@
 // Nodes of the tree with nodes below them, and the Space between items: all the words of a node, or none.
+#![tactic(auto)]
+
 ghost use Rattle.std.specs.Prelude.{◌≡◌, [], ◌∷◌};
 ghost use Rattle.records.specs.Record.{start_of, len_of};
 ghost use Rattle.buffer.specs.Buffer.{stored};

@@ -71,7 +71,7 @@ chain-of {x₀} {x} {e} {E} (columns.Cells.cell {l = l} {m = m} {n = n} c) p h =
     let w4 : get_or x (e + 4) 0 ≡ length (encode_items l) = word_at 4 p2 h (omega (arith, length-append (cell_words l) (encodes m))) in
     let q : Wrote x (e + length (cell_words l)) x E (encodes m) = after (cell_words l) p2 h in
     let z : e + length (cell_words l) ≡ e + (6 + get_or x (e + 4) 0) = omega (arith, w4) in
-    ap (λ (k : ℕ). cells_end x k n) (sym z) ∙ chain-of c q h
+    ap (λ (k : ℕ). cells_end x k n) (sym z) ∙ chain-of {x₀ = x} c q h
 
 cells-append : {j k : ℕ} {l m : Nodes} → columns.Cells j l → columns.Cells k m → columns.Cells (j + k) (l ⧺ m)
 cells-append {k = k} {m = m} columns.Cells.none d = let z : k ≡ 0 + k = omega arith in subst (λ (i : ℕ). columns.Cells i m) z d

@@ -6,7 +6,7 @@ use Rattle.tokens.specs.declared.token.Token.TheVariants as token
 use Rattle.tree.specs.Tree.{Nodes, end, count}
 use Rattle.tree.specs.Words.{encodes}
 use Rattle.reading.specs.Entries.{Entry, is}
-use Rattle.reading.specs.Reading.{State, M, return, ◌>>=◌, if◌then◌else◌, here, is_at, any, advance, Row, Rows, row_brackets, alike}
+use Rattle.reading.specs.Reading.{State, M, return, ◌>>=◌, when◌then◌else◌, here, is_at, any, advance, Row, Rows, row_brackets, alike}
 use Rattle.parse.specs.declared.cursor.Cursor.{Cursor}
 use Rattle.parse.specs.declared.cursor.Close.{Close}
 use Rattle.parse.specs.declared.cursor.Close.TheVariants as close
@@ -27,10 +27,10 @@ unfoldable pub why_more : ℕ → Input → ℕ → Row → M Why
 why_more d I zero h = return why.Broken
 why_more d I (suc f) h =
     here >>= λ p.
-    if is_at I.text I.es (is token.Sep) p
+    when is_at I.text I.es (is token.Sep) p
     then (advance I.text I.es any >>= λ t. row_at d I >>= λ q. elim q [
       | none ↦ return why.Broken
-      | some r ↦ if alike I.text I.es h r then why_more d I f h else return why.Differs
+      | some r ↦ when alike I.text I.es h r then why_more d I f h else return why.Differs
     ])
     else return why.Done
 
@@ -42,7 +42,7 @@ unfoldable pub why_rows_at : ℕ → Input → M Why
 why_rows_at d I =
     row_at d I >>= λ q. elim q [
       | none ↦ return why.Broken
-      | some h ↦ if row_brackets I.text I.es h then why_more_at d h I else return why.Differs
+      | some h ↦ when row_brackets I.text I.es h then why_more_at d h I else return why.Differs
     ]
 
 -- Rows not read to their end: where the code stands, and what it leaves of the work words.

@@ -6,7 +6,7 @@ ghost use Rattle.parse.specs.declared.cursor.Step.TheVariants.{Found};
 use lookahead::takes::{count_look, count_take};
 
 // The position, the depth of the readers, and the takes so far, counted round 2^32.
-#[derive(Drop)]
+#[derive(Clone, Copy)]
 pub(crate) struct Cursor {
     pub pos: u16,
     pub depth: u16,
@@ -93,14 +93,14 @@ impl Cursor {
 }
 
 // A node was read, up to the word `end`, and whether it ends an operand; or none was there.
-#[derive(Drop)]
+#[derive(Clone, Copy)]
 pub(crate) enum Step {
     Found(Cursor, usize, bool),
     Nothing(Cursor),
 }
 
 // A node: the words end at `end`.
-#[derive(Drop)]
+#[derive(Clone, Copy)]
 pub(crate) struct Part {
     pub cur: Cursor,
     pub end: usize,
@@ -128,7 +128,7 @@ pub(crate) fn found(g: Part, depth: u16) -> Step
 }
 
 // A script's number and its arguments.
-#[derive(Drop)]
+#[derive(Clone, Copy)]
 pub(crate) struct Scripted {
     pub cur: Cursor,
     pub end: usize,
@@ -136,7 +136,7 @@ pub(crate) struct Scripted {
 }
 
 // Items: how many, and whether a sign behind them prefixes.
-#[derive(Drop)]
+#[derive(Clone, Copy)]
 pub(crate) struct Items {
     pub cur: Cursor,
     pub end: usize,
@@ -145,21 +145,21 @@ pub(crate) struct Items {
 }
 
 // The Space before an item: the end of its words, and 1 if it is kept.
-#[derive(Drop)]
+#[derive(Clone, Copy)]
 pub(crate) struct Gap {
     pub end: usize,
     pub items: u32,
 }
 
 // How a row ended: at the closing bracket of that entry, or broken off.
-#[derive(Drop)]
+#[derive(Clone, Copy)]
 pub(crate) enum Close {
     At(usize),
     Broken,
 }
 
 // A row's cells.
-#[derive(Drop)]
+#[derive(Clone, Copy)]
 pub(crate) struct Cells {
     pub cur: Cursor,
     pub end: usize,
@@ -168,7 +168,7 @@ pub(crate) struct Cells {
 }
 
 // Why the rows ended: all are read, one differs from the first, or one is broken off.
-#[derive(Drop)]
+#[derive(Clone, Copy)]
 pub(crate) enum Why {
     Done,
     Differs,
@@ -176,7 +176,7 @@ pub(crate) enum Why {
 }
 
 // Rows: their cells, the columns, the first row's opening bracket.
-#[derive(Drop)]
+#[derive(Clone, Copy)]
 pub(crate) struct Rows {
     pub cur: Cursor,
     pub end: usize,

@@ -1,4 +1,6 @@
 // The parser of asciimath-parser over a token list: parse.rs, and its calls on a text and on a token list.
+#![tactic(auto)]
+
 mod cursor;
 mod plain;
 mod readers;
@@ -19,7 +21,7 @@ use tokenizer::{TokenizedUnder, tokenize_under};
 use top::build_tree;
 
 // What the reading of a text answers.
-#[derive(Drop)]
+#[derive(Clone, Copy)]
 pub enum Parsed {
     // Tokens with Space, takes, the root's items, and whether it has none.
     Read {
@@ -33,7 +35,7 @@ pub enum Parsed {
 }
 
 // What the reading of a token list answers.
-#[derive(Drop)]
+#[derive(Clone, Copy)]
 pub enum ParsedTokens {
     Read { takes: u64, items: u32, blank: bool },
     Refused(u8),

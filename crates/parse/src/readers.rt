@@ -26,7 +26,7 @@ use tokens::kinds::{
 use tree::kinds::{NODE_BINARY, NODE_CELL, NODE_MISSING, NODE_SIMPLE};
 
 // A simple expression, or Missing.
-#[cycle(arg_bars_begun_binary_bracket_extend_headed_more_rows_next_intermediate_next_row_next_rows_next_script_next_script_func_next_simple_open_group_operand_other_row_cells_term_try_matrix_unary)]
+#[cycle(readers)]
 fn arg(
     text: &[u8],
     tok: &[u32],
@@ -58,7 +58,7 @@ fn arg(
 }
 
 // A scripted part, or Missing.
-#[cycle(arg_bars_begun_binary_bracket_extend_headed_more_rows_next_intermediate_next_row_next_rows_next_script_next_script_func_next_simple_open_group_operand_other_row_cells_term_try_matrix_unary)]
+#[cycle(readers)]
 fn operand(
     text: &[u8],
     tok: &[u32],
@@ -91,7 +91,7 @@ fn operand(
 }
 
 // The scripts at the cursor.
-#[cycle(arg_bars_begun_binary_bracket_extend_headed_more_rows_next_intermediate_next_row_next_rows_next_script_next_script_func_next_simple_open_group_operand_other_row_cells_term_try_matrix_unary)]
+#[cycle(readers)]
 fn next_script(
     text: &[u8],
     tok: &[u32],
@@ -131,7 +131,7 @@ fn next_script(
 }
 
 // A scripted part, which a function or a prefixing sign can head.
-#[cycle(arg_bars_begun_binary_bracket_extend_headed_more_rows_next_intermediate_next_row_next_rows_next_script_next_script_func_next_simple_open_group_operand_other_row_cells_term_try_matrix_unary)]
+#[cycle(readers)]
 fn next_script_func(
     text: &[u8],
     tok: &[u32],
@@ -160,7 +160,7 @@ fn next_script_func(
 }
 
 // A term: a simple expression with its scripts.
-#[cycle(arg_bars_begun_binary_bracket_extend_headed_more_rows_next_intermediate_next_row_next_rows_next_script_next_script_func_next_simple_open_group_operand_other_row_cells_term_try_matrix_unary)]
+#[cycle(readers)]
 fn term(
     text: &[u8],
     tok: &[u32],
@@ -193,7 +193,7 @@ fn term(
 }
 
 // What the function or the sign at i heads.
-#[cycle(arg_bars_begun_binary_bracket_extend_headed_more_rows_next_intermediate_next_row_next_rows_next_script_next_script_func_next_simple_open_group_operand_other_row_cells_term_try_matrix_unary)]
+#[cycle(readers)]
 fn headed(
     text: &[u8],
     tok: &[u32],
@@ -224,7 +224,7 @@ fn headed(
 }
 
 // One item: a scripted part, or a fraction of two.
-#[cycle(arg_bars_begun_binary_bracket_extend_headed_more_rows_next_intermediate_next_row_next_rows_next_script_next_script_func_next_simple_open_group_operand_other_row_cells_term_try_matrix_unary)]
+#[cycle(readers)]
 fn next_intermediate(
     text: &[u8],
     tok: &[u32],
@@ -257,7 +257,7 @@ fn next_intermediate(
 }
 
 // The items from the cursor on, up to a bar behind an item like that at `until`, if an entry is there. `first0`: none stands before them.
-#[cycle(arg_bars_begun_binary_bracket_extend_headed_more_rows_next_intermediate_next_row_next_rows_next_script_next_script_func_next_simple_open_group_operand_other_row_cells_term_try_matrix_unary)]
+#[cycle(readers)]
 pub(crate) fn extend(
     text: &[u8],
     tok: &[u32],
@@ -323,7 +323,7 @@ pub(crate) fn extend(
 }
 
 // The cells behind a row's bracket, up to its closing bracket.
-#[cycle(arg_bars_begun_binary_bracket_extend_headed_more_rows_next_intermediate_next_row_next_rows_next_script_next_script_func_next_simple_open_group_operand_other_row_cells_term_try_matrix_unary)]
+#[cycle(readers)]
 fn row_cells(
     text: &[u8],
     tok: &[u32],
@@ -372,7 +372,7 @@ fn row_cells(
 }
 
 // A matrix row; a token that opens none is taken too.
-#[cycle(arg_bars_begun_binary_bracket_extend_headed_more_rows_next_intermediate_next_row_next_rows_next_script_next_script_func_next_simple_open_group_operand_other_row_cells_term_try_matrix_unary)]
+#[cycle(readers)]
 fn next_row(
     text: &[u8],
     tok: &[u32],
@@ -399,7 +399,7 @@ fn next_row(
 }
 
 // The rows behind the first one, which opens at `left` and is of `cols` cells between round brackets, or else square ones.
-#[cycle(arg_bars_begun_binary_bracket_extend_headed_more_rows_next_intermediate_next_row_next_rows_next_script_next_script_func_next_simple_open_group_operand_other_row_cells_term_try_matrix_unary)]
+#[cycle(readers)]
 fn more_rows(
     text: &[u8],
     tok: &[u32],
@@ -433,7 +433,8 @@ fn more_rows(
                 }
                 Close::At(q) => {
                     cells += count;
-                    if count != cols {
+                    let differs = count != cols;
+                    if differs {
                         break 'rows Why::Differs;
                     }
                     if is_pair(text, tok, work, round, p + 1, q) {} else {
@@ -456,7 +457,7 @@ fn more_rows(
 }
 
 // The rows of a matrix, up to its closing bracket.
-#[cycle(arg_bars_begun_binary_bracket_extend_headed_more_rows_next_intermediate_next_row_next_rows_next_script_next_script_func_next_simple_open_group_operand_other_row_cells_term_try_matrix_unary)]
+#[cycle(readers)]
 fn next_rows(
     text: &[u8],
     tok: &[u32],
@@ -496,7 +497,7 @@ fn next_rows(
 }
 
 // The matrix that the bracket at i opens, or nothing: a failed attempt is marked and given back.
-#[cycle(arg_bars_begun_binary_bracket_extend_headed_more_rows_next_intermediate_next_row_next_rows_next_script_next_script_func_next_simple_open_group_operand_other_row_cells_term_try_matrix_unary)]
+#[cycle(readers)]
 fn try_matrix(
     text: &[u8],
     tok: &[u32],
@@ -535,7 +536,7 @@ fn try_matrix(
 }
 
 // The group that the bracket at i opens.
-#[cycle(arg_bars_begun_binary_bracket_extend_headed_more_rows_next_intermediate_next_row_next_rows_next_script_next_script_func_next_simple_open_group_operand_other_row_cells_term_try_matrix_unary)]
+#[cycle(readers)]
 fn open_group(
     text: &[u8],
     tok: &[u32],
@@ -563,7 +564,7 @@ fn open_group(
 }
 
 // The matrix or the group that the bracket of kind k at i opens, or a bar alone.
-#[cycle(arg_bars_begun_binary_bracket_extend_headed_more_rows_next_intermediate_next_row_next_rows_next_script_next_script_func_next_simple_open_group_operand_other_row_cells_term_try_matrix_unary)]
+#[cycle(readers)]
 fn bracket(
     text: &[u8],
     tok: &[u32],
@@ -597,7 +598,7 @@ fn bracket(
 }
 
 // The group between the bar at i and another like it, or the bar alone: a failed attempt is marked and given back.
-#[cycle(arg_bars_begun_binary_bracket_extend_headed_more_rows_next_intermediate_next_row_next_rows_next_script_next_script_func_next_simple_open_group_operand_other_row_cells_term_try_matrix_unary)]
+#[cycle(readers)]
 fn bars(
     text: &[u8],
     tok: &[u32],
@@ -638,7 +639,7 @@ fn bars(
 }
 
 // The node of kind `kind` that the entry i prefixes, with one argument.
-#[cycle(arg_bars_begun_binary_bracket_extend_headed_more_rows_next_intermediate_next_row_next_rows_next_script_next_script_func_next_simple_open_group_operand_other_row_cells_term_try_matrix_unary)]
+#[cycle(readers)]
 fn unary(
     text: &[u8],
     tok: &[u32],
@@ -661,7 +662,7 @@ fn unary(
 }
 
 // The binary operation at i, with its two arguments.
-#[cycle(arg_bars_begun_binary_bracket_extend_headed_more_rows_next_intermediate_next_row_next_rows_next_script_next_script_func_next_simple_open_group_operand_other_row_cells_term_try_matrix_unary)]
+#[cycle(readers)]
 fn binary(
     text: &[u8],
     tok: &[u32],
@@ -683,7 +684,7 @@ fn binary(
 }
 
 // What the entry i of another kind k, just taken, begins: an operation or a leaf.
-#[cycle(arg_bars_begun_binary_bracket_extend_headed_more_rows_next_intermediate_next_row_next_rows_next_script_next_script_func_next_simple_open_group_operand_other_row_cells_term_try_matrix_unary)]
+#[cycle(readers)]
 fn other(
     text: &[u8],
     tok: &[u32],
@@ -716,7 +717,7 @@ fn other(
 }
 
 // What the entry i, just taken, begins.
-#[cycle(arg_bars_begun_binary_bracket_extend_headed_more_rows_next_intermediate_next_row_next_rows_next_script_next_script_func_next_simple_open_group_operand_other_row_cells_term_try_matrix_unary)]
+#[cycle(readers)]
 fn begun(
     text: &[u8],
     tok: &[u32],
@@ -743,7 +744,7 @@ fn begun(
 }
 
 // A simple expression. `sign`: a sign here prefixes what follows it.
-#[cycle(arg_bars_begun_binary_bracket_extend_headed_more_rows_next_intermediate_next_row_next_rows_next_script_next_script_func_next_simple_open_group_operand_other_row_cells_term_try_matrix_unary)]
+#[cycle(readers)]
 fn next_simple(
     text: &[u8],
     tok: &[u32],

@@ -17,7 +17,7 @@ use stores::{set_close, set_sep};
 use tokens::kinds::CLOSE_BRACKET;
 use tree::kinds::{NODE_GROUP, NODE_SIMPLE};
 
-#[derive(Drop)]
+#[derive(Clone, Copy)]
 pub(crate) struct Reading {
     pub takes: u32,
     pub end: usize,
@@ -25,7 +25,7 @@ pub(crate) struct Reading {
 }
 
 // Items, and the unmatched closing brackets so far: how many, and the last.
-#[derive(Drop)]
+#[derive(Clone, Copy)]
 pub(crate) struct Wrapped {
     pub cur: Cursor,
     pub end: usize,

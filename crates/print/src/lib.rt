@@ -1,4 +1,6 @@
 // The printed tree of document 01: the call that reads a text and prints its tree.
+#![tactic(auto)]
+
 ghost use Rattle.std.specs.Prelude.{◌≡◌};
 ghost use Rattle.print.specs.Call.{answer_of, printed_text};
 
@@ -6,7 +8,7 @@ use parse::{Parsed, parse};
 use printer::{Fitted, print_tree};
 
 // What the call answers.
-#[derive(Drop)]
+#[derive(Clone, Copy)]
 pub enum Printed {
     // How many bytes the print has, takes, and whether the root has no items.
     Whole { len: usize, takes: u64, blank: bool },

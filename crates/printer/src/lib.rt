@@ -1,4 +1,6 @@
 // The printed tree of document 01, from the words of a tree.
+#![tactic(auto)]
+
 mod row;
 
 ghost use Rattle.std.specs.Prelude.{◌≡◌};
@@ -10,7 +12,7 @@ use row::put_row;
 use writer::{put_bytes, put_number};
 
 // What the call answers.
-#[derive(Drop)]
+#[derive(Clone, Copy)]
 pub enum Fitted {
     // How many bytes the print has.
     Whole(usize),

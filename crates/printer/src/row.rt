@@ -6,7 +6,7 @@ use line::put_line;
 use tree::walk::{Step, node_at, past};
 
 // Where the words read and the bytes put end.
-#[derive(Drop)]
+#[derive(Clone, Copy)]
 pub(crate) struct Reached {
     pub at: usize,
     pub end: usize,

@@ -1,4 +1,6 @@
 // The program: reads a text from standard input and prints its tree.
+#![tactic(auto)]
+
 ghost use Rattle.std.specs.Prelude.{◌≡◌, ◌≤◌, ◌<◌, length};
 ghost use Rattle.read.specs.Reply.{Written, print_room, reply_to};
 
@@ -28,12 +30,12 @@ fn reply(text: &[u8], out: &mut [u8]) -> usize
 }
 
 // One byte more than the most tells a text that is too long.
-fn main() {
+fn main(rt: HostRuntime) {
     let mut input = [0u8; MOST + 1];
-    let Input::Bytes(n) = read_input(&mut input) else {
+    let Input::Bytes(n) = read_input(&rt, &mut input) else {
         return;
     };
-    let mut out = io::large_buffer();
+    let mut out = [0u8; 65536];
     let len = reply(&input[..n], &mut out);
-    write_answer(&out, len);
+    write_answer(&rt, &out, len);
 }

@@ -1,5 +1,7 @@
 // The program of `./read --brackets`: reads a text from standard input and writes it with a line below it, in which each bracket and its
 // partner have the same letter.
+#![tactic(auto)]
+
 ghost use Rattle.std.specs.Prelude.{◌*◌, ◌≤◌, ◌<◌, length};
 ghost use Rattle.read_brackets.specs.Place.{PlaceOf};
 
@@ -120,12 +122,12 @@ fn reply(text: &[u8], out: &mut [u8]) -> usize {
 }
 
 // One byte more than the most tells a text that is too long.
-fn main() {
+fn main(rt: HostRuntime) {
     let mut input = [0u8; MOST + 1];
-    let Input::Bytes(n) = read_input(&mut input) else {
+    let Input::Bytes(n) = read_input(&rt, &mut input) else {
         return;
     };
     let mut out = [0u8; 2 * (MOST + 1)];
     let len = reply(&input[..n], &mut out);
-    write_answer(&out, len);
+    write_answer(&rt, &out, len);
 }

@@ -1,4 +1,6 @@
 // The program of `./read --mathml`: reads a text from standard input and writes its MathML, and a newline.
+#![tactic(auto)]
+
 use mathml::Marked;
 use read_input::{Input, MOST, read_input};
 use read_output::{put_refusal, write_answer};
@@ -23,12 +25,12 @@ fn reply(text: &[u8], out: &mut [u8]) -> usize {
 }
 
 // One byte more than the most tells a text that is too long.
-fn main() {
+fn main(rt: HostRuntime) {
     let mut input = [0u8; MOST + 1];
-    let Input::Bytes(n) = read_input(&mut input) else {
+    let Input::Bytes(n) = read_input(&rt, &mut input) else {
         return;
     };
-    let mut out = io::large_buffer();
+    let mut out = [0u8; 65536];
     let len = reply(&input[..n], &mut out);
-    write_answer(&out, len);
+    write_answer(&rt, &out, len);
 }

@@ -1,8 +1,9 @@
 // What the programs of `./read` write: the line of a refusal, and an answer to standard output.
+#![tactic(auto)]
+
 ghost use Rattle.writer.specs.Put.{Put};
 ghost use Rattle.read_output.specs.Line.{refusal};
 
-use libc::STDOUT_FILENO;
 use writer::{put_bytes, put_number};
 
 // The line of a refusal, first in `out`; its length.
@@ -15,13 +16,13 @@ pub fn put_refusal(out: &mut [u8], number: u8) -> usize
 
 // Writes the first `len` bytes, as many of them as there are, to standard output. Where that fails a line on standard error says why. It
 // answers nothing and changes nothing that it is lent; what reaches a descriptor no contract can name, and it is tried.
-pub fn write_answer(bytes: &[u8], len: usize) {
-    let whole = if len < bytes.len() {
-        io::write_all(STDOUT_FILENO, &bytes[..len])
+pub fn write_answer(rt: &(impl Print + Eprint), bytes: &[u8], len: usize) {
+    let written = if len < bytes.len() {
+        rt.write_all(&bytes[..len])
     } else {
-        io::write_all(STDOUT_FILENO, bytes)
+        rt.write_all(bytes)
     };
-    if !whole {
-        os::fail(b"read: can't write the answer");
+    if let Err(error) = written {
+        let _ = eprintln!(rt; "read: can't write the answer: {error}");
     }
 }

@@ -62,10 +62,10 @@ unfoldable pub ◌>>=◌ : {A B : Type 0} → M A → (A → M B) → M B
 ◌>>=◌ m f s = let r = m s in f r.0 r.1
 
 infixl 10 ◌>>=◌
-infix 5 if◌then◌else◌
-unfoldable pub if◌then◌else◌ : {A : Type 0} → Bool → M A → M A → M A
-if true then m else n = m
-if false then m else n = n
+infix 5 when◌then◌else◌
+unfoldable pub when◌then◌else◌ : {A : Type 0} → Bool → M A → M A → M A
+when true then m else n = m
+when false then m else n = n
 
 -- the position
 unfoldable pub here : M ℕ
@@ -388,7 +388,7 @@ module _ (text : List ℕ) (es : List Entry) where
     attempt m i body =
         current >>= λ o.
         failed m i >>= λ known.
-        if known then return none
+        when known then return none
         else body >>= λ t. elim t [
           | made x ↦ return (some x)
           | lost ↦ give_up m i o
@@ -407,7 +407,7 @@ module _ (text : List ℕ) (es : List Entry) where
           advance marks_script >>= λ t. elim t [
             | none ↦ return (Script.none, end)
             | some e ↦
-                if is token.Super e then (argument >>= λ a. return (Script.super, a ▸ end))
+                when is token.Super e then (argument >>= λ a. return (Script.super, a ▸ end))
                 else argument >>= λ a. advance (is token.Super) >>= λ u. elim u [
                   | none ↦ return (Script.sub, a ▸ end)
                   | some e' ↦ argument >>= λ b. return (Script.subsuper, a ▸ b ▸ end)
@@ -423,7 +423,7 @@ module _ (text : List ℕ) (es : List Entry) where
               | some x ↦ next_script >>= λ q. return (some (node (Head.simple q.0) (x ▸ q.1)))
             ]
             | some e ↦
-                if is token.Function e
+                when is token.Function e
                 then (next_script >>= λ q. R.script_func Stop.none true >>= λ a.
                 return (some (node (Head.func e.span q.0) (q.1 ⧺ (or_missing_part a ▸ end)))))
                 else R.script_func stop true >>= λ a.
@@ -447,7 +447,7 @@ module _ (text : List ℕ) (es : List Entry) where
       intermediates zero until stop before = return end
       intermediates (suc f) until stop before =
           here >>= λ p.
-          if at_open_close until p then return end
+          when at_open_close until p then return end
           else next_intermediate stop (prefixes before) >>= λ a. elim a [
             | none ↦ return end
             | some x ↦ intermediates f until stop (some x) >>= λ l. return (spaced before (entry_at p) x l)
@@ -465,12 +465,12 @@ module _ (text : List ℕ) (es : List Entry) where
           advance any >>= λ t. elim t [
             | none ↦ return none
             | some e ↦
-                if is token.Sep e
+                when is token.Sep e
                 then (row_cells f >>= λ q. elim q [
                   | none ↦ return none
                   | some m ↦ return (some (node Head.cell l ▸ m.0, m.1))
                 ])
-                else if is token.CloseBracket e then return (some (node Head.cell l ▸ end, e))
+                else when is token.CloseBracket e then return (some (node Head.cell l ▸ end, e))
                 else return none
           ]
 
@@ -480,7 +480,7 @@ module _ (text : List ℕ) (es : List Entry) where
           here >>= λ i. advance any >>= λ t. elim t [
             | none ↦ return none
             | some o ↦
-                if is token.OpenBracket o
+                when is token.OpenBracket o
                 then (row_cells fuel >>= λ q. elim q [
                   | none ↦ return none
                   | some m ↦ closed i (some (record { left = o; right = m.1; cells = m.0 }))
@@ -494,11 +494,11 @@ module _ (text : List ℕ) (es : List Entry) where
       more_rows zero h = return none
       more_rows (suc f) h =
           here >>= λ p.
-          if is_at (is token.Sep) p
+          when is_at (is token.Sep) p
           then (advance any >>= λ t. next_matrix_row >>= λ q. elim q [
             | none ↦ return none
             | some r ↦
-                if alike h r
+                when alike h r
                 then (more_rows f h >>= λ l. elim l [
                   | none ↦ return none
                   | some m ↦ return (some (r.cells ∷ m))
@@ -513,7 +513,7 @@ module _ (text : List ℕ) (es : List Entry) where
           next_matrix_row >>= λ q. elim q [
             | none ↦ return none
             | some h ↦
-                if row_brackets h
+                when row_brackets h
                 then (more_rows fuel h >>= λ l. elim l [
                   | none ↦ return none
                   | some m ↦ return (some (record { head = h; others = m }))
@@ -528,7 +528,7 @@ module _ (text : List ℕ) (es : List Entry) where
             | none ↦ return lost
             | some r ↦
                 here >>= λ p.
-                if makes_matrix o i r p
+                when makes_matrix o i r p
                 then (advance any >>= λ t. elim t [
                   | none ↦ return lost
                   | some c ↦ closed i (made ((split_column_lines r).0 o.span c.span))
@@ -537,7 +537,7 @@ module _ (text : List ℕ) (es : List Entry) where
           ]
 
       unfoldable pub try_matrix : Entry → ℕ → M (Option Node)
-      try_matrix o i = if could_be_matrix o i then attempt matrix_mark i (matrix_body o i) else return none
+      try_matrix o i = when could_be_matrix o i then attempt matrix_mark i (matrix_body o i) else return none
 
       -- next_open_group
       unfoldable pub next_open_group : Entry → ℕ → M Node
@@ -556,7 +556,7 @@ module _ (text : List ℕ) (es : List Entry) where
             | some x ↦
                 intermediates fuel (some o) stop (some x) >>= λ l.
                 here >>= λ p.
-                if is_at (is_bar o) p
+                when is_at (is_bar o) p
                 then (advance any >>= λ t. elim t [
                   | none ↦ return lost
                   | some c ↦ closed i (made (node (Head.group o.span c.span) (x ▸ l)))

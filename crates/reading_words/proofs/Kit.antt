@@ -14,7 +14,7 @@ use Rattle.tokens.specs.declared.token.Token.{Token}
 use Rattle.tokens.specs.declared.token.Token.TheVariants as token
 use Rattle.tokens.specs.Kinds.{number_of}
 use Rattle.reading.specs.Entries.{Entry, is}
-use Rattle.reading.specs.Reading.{State, M, return, ◌>>=◌, if◌then◌else◌, here, current, closed, advance, heads, marks_script, begins, stops, level, next_simple, next_script_func, step, is_at}
+use Rattle.reading.specs.Reading.{State, M, return, ◌>>=◌, when◌then◌else◌, here, current, closed, advance, heads, marks_script, begins, stops, level, next_simple, next_script_func, step, is_at}
 use Rattle.lookahead.proofs.Testing.{test_below}
 use Rattle.records.specs.Record.{place_of, is_placed, kind_of, start_of, len_of, space_start, space_len, Kept}
 use Rattle.lookahead.specs.Tests.{test_at, is_kind, heads_kind, marks_kind, begins_kind}
@@ -47,12 +47,12 @@ pub at_here : (s : State) → here s ≡ (s.pos, s)
 unfolding here
 at_here s = refl
 
-pub if_true : {A : Type 0} {b : Bool} (m n : M A) (s : State) → b ≡ true → (if b then m else n) s ≡ m s
-unfolding if◌then◌else◌
+pub if_true : {A : Type 0} {b : Bool} (m n : M A) (s : State) → b ≡ true → (when b then m else n) s ≡ m s
+unfolding when◌then◌else◌
 if_true m n s h = rw h
 
-pub if_false : {A : Type 0} {b : Bool} (m n : M A) (s : State) → b ≡ false → (if b then m else n) s ≡ n s
-unfolding if◌then◌else◌
+pub if_false : {A : Type 0} {b : Bool} (m n : M A) (s : State) → b ≡ false → (when b then m else n) s ≡ n s
+unfolding when◌then◌else◌
 if_false m n s h = rw h
 
 abbrev pub tick : State → State

@@ -2,7 +2,7 @@
 use mathlib.Core.Path.{◌∙◌, ◌≡◌, ap, refl, sym}
 use Rattle.tree.specs.Tree.{Head, Node, Nodes, ◌▸◌, ◌⧺◌, count, end, node, nowhere}
 use Prim.Native.Nat.{◌+◌, ◌-◌, ◌<◌, ◌≤◌, suc, zero, ℕ}
-use Rattle.reading.specs.Reading.{M, Readers, State, Try, ◌>>=◌, advance, alike, any, at_open_close, bar_body, begun, closed, ends_first, ends_operand, here, if◌then◌else◌, intermediates, is_at, is_bar, is_byte, last_of, level, look, lost, made, more_rows, next_bracket, next_intermediate, next_matrix_row, next_open_close_group, next_script_func, nought, open_mark, parse, prefixes, return, row_brackets, row_cells, same_text, slot, spaced, text_of, try_matrix, unscripted}
+use Rattle.reading.specs.Reading.{M, Readers, State, Try, ◌>>=◌, advance, alike, any, at_open_close, bar_body, begun, closed, ends_first, ends_operand, here, when◌then◌else◌, intermediates, is_at, is_bar, is_byte, last_of, level, look, lost, made, more_rows, next_bracket, next_intermediate, next_matrix_row, next_open_close_group, next_script_func, nought, open_mark, parse, prefixes, return, row_brackets, row_cells, same_text, slot, spaced, text_of, try_matrix, unscripted}
 use mathlib.Core.Option.{Option, none, some}
 use Rattle.reading_words.specs.Meet.{Given, Input, Marks, Row, Stands, Until, bracket_at, intermediate_at, is_none, is_pair, items_at, items_from, last_after, readers, script_func_at, stop_of}
 use mathlib.Core.List.{List, [], ◌∷◌, ◌++◌, append_assoc}
@@ -266,7 +266,7 @@ abbrev pub bar_end : Input → ℕ → Entry → Nodes → M Try
 bar_end I i o end = return nought
 bar_end I i o (x ▸ l) =
     here >>= λ p.
-    if is_at I.text I.es (is_bar I.text I.es o) p
+    when is_at I.text I.es (is_bar I.text I.es o) p
     then (advance I.text I.es any >>= λ t. elim t [
       | none ↦ return lost
       | some c ↦ closed i (made (node (Head.group o.span c.span) (x ▸ l)))

@@ -8,7 +8,7 @@ use Rattle.tokens.specs.Kinds.{number_of}
 use Rattle.tree.specs.Tree.{Head, Prefix, Node, node, Nodes, end, ◌▸◌, ◌⧺◌, one, count}
 use Rattle.reading.specs.Stop.{Stop}
 use Rattle.reading.specs.Entries.{Entry, is, has_sep}
-use Rattle.reading.specs.Reading.{State, M, return, ◌>>=◌, if◌then◌else◌, Readers, Scripted, level, close_of, next_script, next_intermediate, intermediates, row_cells, next_matrix_row, more_rows, next_matrix_rows, next_open_close_group, next_bracket, attempt, open_mark, bar_body, or_missing_part, or_glyph, is_byte}
+use Rattle.reading.specs.Reading.{State, M, return, ◌>>=◌, when◌then◌else◌, Readers, Scripted, level, close_of, next_script, next_intermediate, intermediates, row_cells, next_matrix_row, more_rows, next_matrix_rows, next_open_close_group, next_bracket, attempt, open_mark, bar_body, or_missing_part, or_glyph, is_byte}
 use Rattle.reading.specs.Reading as reading
 use Rattle.records.specs.Record.{after_close, sep_of, marks_of, kind_of, start_of, len_of, space_start, space_len}
 use Rattle.tokens.specs.Refusals.{bit}
@@ -131,7 +131,7 @@ term_at d stop sg I =
 
 abbrev pub headed_at : ℕ → Bool → Input → Entry → M (Option Node)
 headed_at d stop I en =
-    if is token.Function en
+    when is token.Function en
     then (script_at d I >>= λ q. (readers d I).script_func Stop.none true >>= λ a.
     return (some (node (Head.func en.span q.0) (q.1 ⧺ (or_missing_part a ▸ end)))))
     else (readers d I).script_func (stop_of stop) true >>= λ a.

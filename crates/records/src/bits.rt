@@ -13,7 +13,7 @@ pub const CLOSER_SIZE: u32 = 8192;
 const BELOW_CLOSER: u32 = HALF_SIZE * MARKS_SIZE;
 
 // The low and the high 16 bits; or, for the high ones, the lowest three of them and the 13 above those.
-#[derive(Drop)]
+#[derive(Clone, Copy)]
 pub enum Bits {
     Low,
     High,

@@ -3,6 +3,8 @@ ghost use Rattle.std.specs.Prelude.{◌≡◌};
 ghost use Rattle.tokens.specs.Refusals.{ascii};
 ghost use Rattle.refusals.specs.TextChecks.{check_of, checked_text};
 
+const LAST_ASCII: u8 = 127;
+
 // Whether every byte is below 128. It looks at all of them, so that the compiler takes many at a time.
 fn is_ascii(text: &[u8]) -> bool
     ensures { result ≡ ascii text.now }
@@ -10,7 +12,7 @@ fn is_ascii(text: &[u8]) -> bool
     let mut ok = true;
     let mut i = 0;
     while i < text.len() {
-        if 127 < text[i] {
+        if LAST_ASCII < text[i] {
             ok = false;
         }
         i += 1;
@@ -18,7 +20,7 @@ fn is_ascii(text: &[u8]) -> bool
     ok
 }
 
-#[derive(Drop)]
+#[derive(Clone, Copy)]
 pub enum Checked {
     Accepted,
     // The refusal's number.

@@ -1,11 +1,13 @@
 // Refusals 8 and 9: buffers that are too short.
+#![tactic(auto)]
+
 ghost use Rattle.std.specs.Prelude.{◌≡◌};
 ghost use Rattle.room.specs.Room.{room_for, lacking_for, room_answer};
 
 use records::RECORD_WORDS;
 
 // Whether the buffers are long enough, or the number of the refusal.
-#[derive(Drop)]
+#[derive(Clone, Copy)]
 pub enum Room {
     Enough,
     Refused(u8),

@@ -1,4 +1,6 @@
 // The rows of a matrix: their brackets, by their texts, and the cells that are left of them.
+#![tactic(auto)]
+
 ghost use Rattle.std.specs.Prelude.{◌≡◌};
 ghost use Rattle.rows.specs.Rows.{round_at, pair_at, cells_left};
 

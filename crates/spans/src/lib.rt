@@ -1,4 +1,6 @@
 // The texts of entries, by their spans. A span that ends past the text ends with it.
+#![tactic(auto)]
+
 ghost use Rattle.std.specs.Prelude.{◌≡◌, [], ◌∷◌, ◌-◌, ◌≤◌, length};
 ghost use Rattle.tokens.specs.Bytes.{same};
 ghost use Rattle.spans.specs.Spans.{bytes_of, same_span, same_at, byte_at};

@@ -34,7 +34,7 @@ unfolding inside
 between-inside size from to [] h b = refl
 between-inside size from to (t ∷ ts) h b =
     rw (le-leb (t.span.start + t.span.len) size (omega (arith, between_le _ to ts b.1)), inside)
-    (between-inside size _ to ts h b.1)
+    (between-inside size (t.span.start + t.span.len) to ts h b.1)
 
 tail-inside : (size : ℕ) (t : Lexeme) (ts : List Lexeme) → inside size (t ∷ ts) ≡ true → inside size ts ≡ true
 unfolding inside

@@ -1,4 +1,6 @@
 // The tokenizer as a state that is lent and stepped, one token a step: the Rust's Tokenizer, with the text as an argument.
+#![tactic(auto)]
+
 ghost use Rattle.std.specs.Prelude.{◌≡◌, true, [], ◌+◌, ◌≤◌, ◌<◌, leb, length, drop};
 ghost use Rattle.std.proofs.Math.Option.{none};
 ghost use Rattle.tokens.specs.Refusals.{text_refusal};
@@ -10,13 +12,13 @@ use refusals::text::{Checked, check_text};
 use tokens::token::Token;
 
 // The place of the next read, and the tokens that wait before it.
-#[derive(Drop)]
+#[derive(Clone, Copy)]
 pub struct Tokenizer {
     pub place: usize,
     pub queued: Queue,
 }
 
-#[derive(Drop)]
+#[derive(Clone, Copy)]
 pub enum Stepped {
     Token(Spanned),
     End,
@@ -24,7 +26,7 @@ pub enum Stepped {
 }
 
 // An answer, and the state after it.
-#[derive(Drop)]
+#[derive(Clone, Copy)]
 struct Advance {
     answer: Stepped,
     state: Tokenizer,

@@ -117,6 +117,14 @@ bits-kept Marks Low w v b = omega arith
 bits-kept Marks Closer w v b = omega arith
 bits-kept Closer Low w v b = omega arith
 bits-kept Closer Marks w v b = omega arith
+bits-kept Low Low w v b = elim b [ ]
+bits-kept High High w v b = elim b [ ]
+bits-kept High Marks w v b = elim b [ ]
+bits-kept High Closer w v b = elim b [ ]
+bits-kept Marks High w v b = elim b [ ]
+bits-kept Marks Marks w v b = elim b [ ]
+bits-kept Closer High w v b = elim b [ ]
+bits-kept Closer Closer w v b = elim b [ ]
 
 module _ (k : ℕ) (h : Bits) (K : List ℕ) (i v : ℕ) where
   abbrev new : ℕ

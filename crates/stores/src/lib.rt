@@ -1,4 +1,6 @@
 // Stores into a record: where it is not whole, nothing is stored.
+#![tactic(auto)]
+
 ghost use Rattle.std.specs.Prelude.{◌≡◌, ◌<◌};
 ghost use Rattle.records.specs.Record.{with_record, with_field, with_close, with_sep, with_marks, with_closer};
 

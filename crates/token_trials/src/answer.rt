@@ -1,25 +1,23 @@
 // The answer to one text.
 use crate::reads::{print_rows, read_ends, read_refused};
 use crate::steps::{step_refused, steps_agree};
-use libc::STDOUT_FILENO;
+use std::io;
 use tokenizer::Tokenized;
 
 // The i-th word of a token list.
-fn print_word(i: usize, word: u32) {
+fn print_word(rt: &impl Print, i: usize, word: u32) -> io::Result<()> {
     if 0 < i {
-        let before = [if i % 3 == 0 { b' ' } else { b',' }];
-        io::write_all(STDOUT_FILENO, &before);
+        rt.print(if i % 3 == 0 { ' ' } else { ',' })?;
     }
-    io::print_decimal(STDOUT_FILENO, word as u64);
+    rt.print(word)
 }
 
 // The words of a token list, three to a token.
-fn print_tokens(list: &[u32]) {
-    let mut i = 0;
-    while i < list.len() {
-        print_word(i, list[i]);
-        i += 1;
+fn print_tokens(rt: &impl Print, list: &[u32]) -> io::Result<()> {
+    for (i, word) in list.iter().enumerate() {
+        print_word(rt, i, *word)?;
     }
+    Ok(())
 }
 
 // How many tokens the text has with this table, or 10000 and the number of the refusal.
@@ -63,45 +61,43 @@ fn is_refused_past(text: &[u8], number: usize) -> bool {
 }
 
 // The refusal; `step` first, if a read or a step is not refused so.
-fn print_refusal(text: &[u8], number: usize) {
+fn print_refusal(rt: &impl Print, text: &[u8], number: usize) -> io::Result<()> {
     if !is_refused(text, 0, number) || !is_refused_past(text, number) {
-        io::write_all(STDOUT_FILENO, b"step ");
+        print!(rt; "step ")?;
     }
-    io::write_all(STDOUT_FILENO, b"refused=");
-    io::print_decimal(STDOUT_FILENO, number as u64);
-    io::write_all(STDOUT_FILENO, b"\n");
+    println!(rt; "refused={number}")
 }
 
 // The tokens, and the rows of the reads; `step` first, if the steps do not answer the list, and `end`, if the text's end is not told from
 // the places past it.
-fn print_list(text: &[u8], list: &[u32]) {
+fn print_list(rt: &impl Print, text: &[u8], list: &[u32]) -> io::Result<()> {
     if !steps_agree(text, list) {
-        io::write_all(STDOUT_FILENO, b"step ");
+        print!(rt; "step ")?;
     }
     if !read_ends(text) || !is_refused_past(text, 5) {
-        io::write_all(STDOUT_FILENO, b"end ");
+        print!(rt; "end ")?;
     }
-    print_tokens(list);
-    print_rows(text, list);
+    print_tokens(rt, list)?;
+    print_rows(rt, text, list)
 }
 
 // The same for the list that the first words of the table are.
-fn print_first(text: &[u8], table: &[u32], words: usize) {
+fn print_first(rt: &impl Print, text: &[u8], table: &[u32], words: usize) -> io::Result<()> {
     if words <= table.len() {
-        print_list(text, &table[..words]);
+        print_list(rt, text, &table[..words])?;
     }
+    Ok(())
 }
 
-pub(crate) fn print_answer(text: &[u8]) {
+pub(crate) fn print_answer(rt: &impl Print, text: &[u8]) -> io::Result<()> {
     let mut table = [0u32; 12288];
     let n = tokens_in(text, &mut table);
     if 10000 <= n {
-        print_refusal(text, n - 10000);
-        return;
+        return print_refusal(rt, text, n - 10000);
     }
     let words = 3 * n;
     if !is_exact(text, &mut table, words) {
-        io::write_all(STDOUT_FILENO, b"table ");
+        print!(rt; "table ")?;
     }
-    print_first(text, &table, words);
+    print_first(rt, text, &table, words)
 }

@@ -1,5 +1,6 @@
 // Reading the lines of standard input.
-use libc::STDIN_FILENO;
+use std::io;
+use std::io::Bytes;
 
 // What is no digit.
 const NEWLINE: u8 = 16;
@@ -21,25 +22,27 @@ fn digit_of(b: u8) -> u8 {
     (b % 16 + b / 64 * 9) % 16
 }
 
-fn next_digit() -> u8 {
-    let mut one = [0u8; 1];
-    if io::read_full(STDIN_FILENO, &mut one) == 0 {
-        return END;
+fn next_digit(input: &mut Bytes<impl io::Read + Drop>) -> io::Result<u8> {
+    match input.next() {
+        Some(byte) => Ok(digit_of(byte?)),
+        None => Ok(END),
     }
-    digit_of(one[0])
 }
 
 // A text in hex digits; how many bytes it has.
-pub(crate) fn read_text(text: &mut [u8]) -> Read {
+pub(crate) fn read_text(
+    input: &mut Bytes<impl io::Read + Drop>,
+    text: &mut [u8],
+) -> io::Result<Read> {
     let mut len = 0;
-    let mut d = next_digit();
+    let mut d = next_digit(input)?;
     while len < text.len() && d < 16 {
-        text[len] = d % 16 * 16 + next_digit() % 16;
+        text[len] = d % 16 * 16 + next_digit(input)? % 16;
         len += 1;
-        d = next_digit();
+        d = next_digit(input)?;
     }
-    Read {
+    Ok(Read {
         len: len,
         behind: d,
-    }
+    })
 }

@@ -3,6 +3,8 @@
 // `Tokenizer`, the reads of `lex_at` and the lookup are held against them, and where one differs a word is printed in the line. The file
 // `stdout` beside src/ has the Rust's tokens of the texts of the file `stdin`, and their rows in the Rust's table. Its first lines are
 // document 01's 'Strings to try', in its order, and all 429 spellings are among the others.
+#![tactic(auto)]
+
 mod answer;
 mod input;
 mod reads;
@@ -11,25 +13,30 @@ mod steps;
 
 use answer::print_answer;
 use input::{END, read_text};
+use std::io;
+use std::io::{Bytes, Read};
 
 // One line; whether there was one.
-fn replay() -> bool {
+fn replay(rt: &impl Print, input: &mut Bytes<impl Read + Drop>) -> io::Result<bool> {
     let mut text = [0u8; 4097];
-    let t = read_text(&mut text);
+    let t = read_text(input, &mut text)?;
     let n = t.len;
     if t.behind == END {
-        return false;
+        return Ok(false);
     }
     if n <= 4097 {
-        print_answer(&text[..n]);
+        print_answer(rt, &text[..n])?;
     }
-    true
+    Ok(true)
 }
 
 // A proved loop has to end, and nothing says that the input does, so it counts its turns.
-fn main() {
-    let mut turns: usize = 100000;
-    while turns > 0 && replay() {
-        turns -= 1;
+fn main(rt: HostRuntime) -> io::Result<()> {
+    let mut input = rt.reader().bytes();
+    for _ in 0..100000 {
+        if !replay(&rt, &mut input)? {
+            break;
+        }
     }
+    Ok(())
 }

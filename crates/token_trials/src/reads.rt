@@ -5,7 +5,7 @@ use crate::same::{is_listed, is_same_token};
 use lex::{Lexing, Queue, Spanned, lex_at};
 use lexer::found::TokenRow;
 use lexer::prefix_map::{Longest, get_longest_prefix};
-use libc::STDOUT_FILENO;
+use std::io;
 
 // A place, and how many tokens of the list are read before it.
 #[derive(Drop)]
@@ -73,20 +73,24 @@ fn is_looked_up(text: &[u8], at: usize, first: Spanned, row: TokenRow) -> bool {
 }
 
 // A place and the row of the token that is read there; `lookup` first, if the lookup answers another.
-fn print_row(text: &[u8], at: usize, first: Spanned, row: TokenRow) {
+fn print_row(
+    rt: &impl Print,
+    text: &[u8],
+    at: usize,
+    first: Spanned,
+    row: TokenRow,
+) -> io::Result<()> {
     if !is_looked_up(text, at, first, row) {
-        io::write_all(STDOUT_FILENO, b" lookup");
+        print!(rt; " lookup")?;
     }
     if let TokenRow::Row(k) = row {
-        io::write_all(STDOUT_FILENO, b" ");
-        io::print_decimal(STDOUT_FILENO, at as u64);
-        io::write_all(STDOUT_FILENO, b":");
-        io::print_decimal(STDOUT_FILENO, k as u64);
+        print!(rt; " {at}:{k}")?;
     }
+    Ok(())
 }
 
 // One read: prints its row, if it has one, and answers the next place with the tokens of the list that are read before it.
-fn read_row(text: &[u8], list: &[u32], r: Reached) -> Reached {
+fn read_row(rt: &impl Print, text: &[u8], list: &[u32], r: Reached) -> io::Result<Reached> {
     let at = r.place;
     match lex_at(text, at) {
         Lexing::Tokens {
@@ -95,33 +99,34 @@ fn read_row(text: &[u8], list: &[u32], r: Reached) -> Reached {
             next,
             row,
         } => {
-            print_row(text, at, first, row);
-            Reached {
+            print_row(rt, text, at, first, row)?;
+            Ok(Reached {
                 place: next,
                 listed: past_read(list, r.listed, first, queued),
-            }
+            })
         }
-        Lexing::End => r,
-        Lexing::Refused(_) => r,
+        Lexing::End => Ok(r),
+        Lexing::Refused(_) => Ok(r),
     }
 }
 
 // The rows of the text's reads; then `read`, if these do not end with the text and the list. Each moves on, so as many as bytes are
 // enough.
-pub(crate) fn print_rows(text: &[u8], list: &[u32]) {
+pub(crate) fn print_rows(rt: &impl Print, text: &[u8], list: &[u32]) -> io::Result<()> {
     let mut r = Reached {
         place: 0,
         listed: 0,
     };
-    let mut turns = text.len();
-    while turns > 0 && r.place < text.len() {
-        r = read_row(text, list, r);
-        turns -= 1;
+    for _ in text {
+        if text.len() <= r.place {
+            break;
+        }
+        r = read_row(rt, text, list, r)?;
     }
     if r.place != text.len() || r.listed != list.len() / 3 {
-        io::write_all(STDOUT_FILENO, b" read");
+        print!(rt; " read")?;
     }
-    io::write_all(STDOUT_FILENO, b"\n");
+    println!(rt; "")
 }
 
 // Whether a read at the place is refused by the number.

@@ -1,4 +1,6 @@
 // The calls on a text: its tokens listed, listed if they are few, and counted.
+#![tactic(auto)]
+
 ghost use Rattle.std.specs.Prelude.{◌≡◌, ◌≤◌, length};
 ghost use Rattle.std.proofs.Math.Seq.{paste};
 ghost use Rattle.lexer.specs.Listing.{listed_reads};
@@ -9,7 +11,7 @@ use lexer::{Listing, list_reads};
 
 // How many tokens the text has, and how many of them are other than Space; the number of the refusal; or that there are too many
 // others, and how many.
-#[derive(Drop)]
+#[derive(Clone, Copy)]
 pub enum TokenizedUnder {
     Tokens { all: usize, others: usize },
     Refused(u8),
@@ -90,7 +92,7 @@ pub fn tokenize_under(text: &[u8], table: &mut [u32], room: usize) -> TokenizedU
 }
 
 // How many tokens the text has, or the number of the refusal.
-#[derive(Drop)]
+#[derive(Clone, Copy)]
 pub enum Tokenized {
     Tokens(usize),
     Refused(u8),
@@ -109,7 +111,7 @@ pub fn tokenize(text: &[u8], table: &mut [u32]) -> Tokenized
 }
 
 // How many tokens the text has, and how many of them are other than Space; or the number of the refusal.
-#[derive(Drop)]
+#[derive(Clone, Copy)]
 pub enum Counted {
     Tokens { all: usize, others: usize },
     Refused(u8),

@@ -8,7 +8,7 @@ use crate::kinds::{
 };
 
 // What a defined symbol is, which decides the space around it.
-#[derive(Drop)]
+#[derive(Clone, Copy)]
 pub enum SymbolClass {
     Glyph,
     Name,
@@ -20,7 +20,7 @@ pub enum SymbolClass {
     Separator,
 }
 
-#[derive(Drop)]
+#[derive(Clone, Copy)]
 pub enum Token {
     Frac,
     Super,

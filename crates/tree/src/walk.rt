@@ -7,7 +7,7 @@ use crate::kinds::{
     NODE_BINARY, NODE_CELL, NODE_FRAC, NODE_GROUP, NODE_MATRIX, NODE_SIGNED, NODE_SIMPLE,
 };
 
-#[derive(Drop)]
+#[derive(Clone, Copy)]
 pub struct Opened {
     // the node's kind; a fraction is 18
     pub kind: u32,
@@ -21,7 +21,7 @@ pub struct Opened {
     pub tail: usize,
 }
 
-#[derive(Drop)]
+#[derive(Clone, Copy)]
 pub enum Step {
     Node(Opened),
     // no whole node stands there

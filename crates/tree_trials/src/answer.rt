@@ -1,52 +1,50 @@
 // The answers to one text or one token list. A refusal is `refused=` and its number, and each answer ends in a line `--`.
 use crate::input::read_words;
 use closers::{Paired, PairedText};
-use libc::STDOUT_FILENO;
 use parse::ParsedTokens;
 use print::Printed;
+use std::io;
+use std::io::{Bytes, Read};
 
-fn print_number(name: &[u8], n: u64) {
-    io::write_all(STDOUT_FILENO, name);
-    io::print_decimal(STDOUT_FILENO, n);
+fn print_number(rt: &impl Print, name: &str, n: u64) -> io::Result<()> {
+    print!(rt; "{name}{n}")
 }
 
-fn print_refusal(number: u8) {
-    print_number(b"refused=", number as u64);
-    io::write_all(STDOUT_FILENO, b"\n");
+fn print_refusal(rt: &impl Print, number: u8) -> io::Result<()> {
+    print_number(rt, "refused=", number as u64)?;
+    println!(rt; "")
 }
 
-fn print_first(out: &[u8], len: usize) {
+fn print_first(rt: &impl Print, out: &[u8], len: usize) -> io::Result<()> {
     if len <= out.len() {
-        io::write_all(STDOUT_FILENO, &out[..len]);
+        rt.write_all(&out[..len])?;
     }
+    Ok(())
 }
 
-fn print_word(word: u32) {
-    io::print_decimal(STDOUT_FILENO, word as u64);
-    io::write_all(STDOUT_FILENO, b" ");
+fn print_word(rt: &impl Print, word: u32) -> io::Result<()> {
+    print!(rt; "{word} ")
 }
 
 // The first n words.
-fn print_first_words(words: &[u32], n: usize) {
-    let mut i = 0;
-    while i < words.len() && i < n {
-        print_word(words[i]);
-        i += 1;
+fn print_first_words(rt: &impl Print, words: &[u32], n: usize) -> io::Result<()> {
+    for word in words.iter().take(n) {
+        print_word(rt, *word)?;
     }
-    io::write_all(STDOUT_FILENO, b"\n");
+    println!(rt; "")
 }
 
-fn print_text_closers(text: &[u8]) {
+fn print_text_closers(rt: &impl Print, text: &[u8]) -> io::Result<()> {
     let mut table = [0u32; 3072];
     let mut out = [0u32; 1024];
     match closers::closers_text(text, &mut table, &mut out) {
-        PairedText::Found { tokens: _, others } => print_first_words(&out, others),
-        PairedText::Refused(number) => print_refusal(number),
+        PairedText::Found { tokens: _, others } => print_first_words(rt, &out, others),
+        PairedText::Refused(number) => print_refusal(rt, number),
     }
 }
 
 // A text of at most 1,023 bytes.
-pub(crate) fn print_text(text: &[u8]) {
+pub(crate) fn print_text(rt: &impl Print, text: &[u8]) -> io::Result<()> {
     let mut table = [0u32; 3072];
     let mut work = [0u32; 2048];
     let mut tree = [0u32; 32768];
@@ -56,10 +54,10 @@ pub(crate) fn print_text(text: &[u8]) {
             len,
             takes: _,
             blank: _,
-        } => print_first(&out, len),
-        Printed::Refused(number) => print_refusal(number),
+        } => print_first(rt, &out, len)?,
+        Printed::Refused(number) => print_refusal(rt, number)?,
     }
-    print_text_closers(text);
+    print_text_closers(rt, text)
 }
 
 // How many words stand before the zeros at the end.
@@ -74,23 +72,23 @@ fn words_before_zeros(tree: &[u32]) -> usize {
     0
 }
 
-fn print_tree(takes: u64, items: u32, tree: &[u32]) {
-    print_number(b"takes=", takes);
-    print_number(b" items=", items as u64);
-    io::write_all(STDOUT_FILENO, b"\n");
+fn print_tree(rt: &impl Print, takes: u64, items: u32, tree: &[u32]) -> io::Result<()> {
+    print_number(rt, "takes=", takes)?;
+    print_number(rt, " items=", items as u64)?;
+    println!(rt; "")?;
     let n = words_before_zeros(tree);
-    print_first_words(tree, n);
+    print_first_words(rt, tree, n)
 }
 
-fn print_list_closers(text: &[u8], table: &[u32]) {
+fn print_list_closers(rt: &impl Print, text: &[u8], table: &[u32]) -> io::Result<()> {
     let mut out = [0u32; 100];
     match closers::closers(text, table, table.len() / 3, &mut out) {
-        Paired::Found { others } => print_first_words(&out, others),
-        Paired::Refused(number) => print_refusal(number),
+        Paired::Found { others } => print_first_words(rt, &out, others),
+        Paired::Refused(number) => print_refusal(rt, number),
     }
 }
 
-fn print_list_by(text: &[u8], table: &[u32]) {
+fn print_list_by(rt: &impl Print, text: &[u8], table: &[u32]) -> io::Result<()> {
     let mut work = [0u32; 202];
     let mut tree = [0u32; 3232];
     match parse::parse_tokens(text, table, table.len() / 3, &mut work, &mut tree) {
@@ -98,17 +96,22 @@ fn print_list_by(text: &[u8], table: &[u32]) {
             takes,
             items,
             blank: _,
-        } => print_tree(takes, items, &tree),
-        ParsedTokens::Refused(number) => print_refusal(number),
+        } => print_tree(rt, takes, items, &tree)?,
+        ParsedTokens::Refused(number) => print_refusal(rt, number)?,
     }
-    print_list_closers(text, table);
+    print_list_closers(rt, text, table)
 }
 
 // A list of at most 100 tokens.
-pub(crate) fn print_list(text: &[u8]) {
+pub(crate) fn print_list(
+    rt: &impl Print,
+    input: &mut Bytes<impl Read + Drop>,
+    text: &[u8],
+) -> io::Result<()> {
     let mut table = [0u32; 300];
-    let n = read_words(&mut table);
+    let n = read_words(input, &mut table)?;
     if n <= 300 {
-        print_list_by(text, &table[..n]);
+        print_list_by(rt, text, &table[..n])?;
     }
+    Ok(())
 }

@@ -1,5 +1,6 @@
 // Reading the lines of standard input.
-use libc::STDIN_FILENO;
+use std::io;
+use std::io::Bytes;
 
 // What is no digit.
 pub(crate) const NEWLINE: u8 = 16;
@@ -27,47 +28,53 @@ fn digit_of(b: u8) -> u8 {
     }
 }
 
-fn next_digit() -> u8 {
-    let mut one = [0u8; 1];
-    if io::read_full(STDIN_FILENO, &mut one) == 0 {
-        return END;
+fn next_digit(input: &mut Bytes<impl io::Read + Drop>) -> io::Result<u8> {
+    match input.next() {
+        Some(byte) => Ok(digit_of(byte?)),
+        None => Ok(END),
     }
-    digit_of(one[0])
 }
 
 // A text in hex digits; how many bytes it has.
-pub(crate) fn read_text(text: &mut [u8]) -> Read {
+pub(crate) fn read_text(
+    input: &mut Bytes<impl io::Read + Drop>,
+    text: &mut [u8],
+) -> io::Result<Read> {
     let mut len = 0;
-    let mut d = next_digit();
+    let mut d = next_digit(input)?;
     while len < text.len() && d < 16 {
-        text[len] = d % 16 * 16 + next_digit() % 16;
+        text[len] = d % 16 * 16 + next_digit(input)? % 16;
         len += 1;
-        d = next_digit();
+        d = next_digit(input)?;
     }
-    Read { n: len, behind: d }
+    Ok(Read { n: len, behind: d })
 }
 
 // A number of at most nine digits.
-fn read_number() -> Read {
+fn read_number(input: &mut Bytes<impl io::Read + Drop>) -> io::Result<Read> {
     let mut n = 0;
-    let mut d = next_digit();
-    let mut turns: usize = 9;
-    while turns > 0 && d < 16 {
+    let mut d = next_digit(input)?;
+    for _ in 0..9 {
+        if 16 <= d {
+            break;
+        }
         n = n % 100000000 * 10 + (d % 16) as usize;
-        d = next_digit();
-        turns -= 1;
+        d = next_digit(input)?;
     }
-    Read { n: n, behind: d }
+    Ok(Read { n: n, behind: d })
 }
 
 // Numbers with a comma behind each; how many there are.
-pub(crate) fn read_words(table: &mut [u32]) -> usize {
+pub(crate) fn read_words(
+    input: &mut Bytes<impl io::Read + Drop>,
+    table: &mut [u32],
+) -> io::Result<usize> {
     let mut count = 0;
-    let mut number = read_number();
+    let mut number = read_number(input)?;
     while count < table.len() && number.behind == COMMA {
         table[count] = (number.n % 4294967296) as u32;
         count += 1;
-        number = read_number();
+        number = read_number(input)?;
     }
-    count
+    Ok(count)
 }

@@ -3,40 +3,51 @@
 // and the words of its tree without the zeros behind them; of both the closers of the tokens other than Space. The file `stdout` beside
 // src/ has the Rust's answers to the lines of the file `stdin`. Its first lines are document 01's 'Strings to try', the 18 texts and the
 // two token lists, in its order.
+#![tactic(auto)]
+
 mod answer;
 mod input;
 
 use answer::{print_list, print_text};
 use input::{COLON, END, read_text};
-use libc::STDOUT_FILENO;
+use std::io;
+use std::io::{Bytes, Read};
 
-fn print_answer(text: &[u8], behind: u8) {
+fn print_answer(
+    rt: &impl Print,
+    input: &mut Bytes<impl Read + Drop>,
+    text: &[u8],
+    behind: u8,
+) -> io::Result<()> {
     if behind == COLON {
-        print_list(text);
+        print_list(rt, input, text)?;
     } else {
-        print_text(text);
+        print_text(rt, text)?;
     }
-    io::write_all(STDOUT_FILENO, b"--\n");
+    println!(rt; "--")
 }
 
 // One line; whether there was one.
-fn replay() -> bool {
+fn replay(rt: &impl Print, input: &mut Bytes<impl Read + Drop>) -> io::Result<bool> {
     let mut text = [0u8; 4097];
-    let t = read_text(&mut text);
+    let t = read_text(input, &mut text)?;
     let n = t.n;
     if t.behind == END {
-        return false;
+        return Ok(false);
     }
     if n <= 4097 {
-        print_answer(&text[..n], t.behind);
+        print_answer(rt, input, &text[..n], t.behind)?;
     }
-    true
+    Ok(true)
 }
 
 // A proved loop has to end, and nothing says that the input does, so it counts its turns.
-fn main() {
-    let mut turns: usize = 100000;
-    while turns > 0 && replay() {
-        turns -= 1;
+fn main(rt: HostRuntime) -> io::Result<()> {
+    let mut input = rt.reader().bytes();
+    for _ in 0..100000 {
+        if !replay(&rt, &mut input)? {
+            break;
+        }
     }
+    Ok(())
 }

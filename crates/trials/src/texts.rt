@@ -8,7 +8,7 @@ use parse::Parsed;
 use print::Printed;
 use tokenizer::{Counted, Tokenized};
 
-#[derive(Drop)]
+#[derive(Clone, Copy)]
 pub(crate) enum Call {
     CountTokens,
     Tokenize,

@@ -1,5 +1,7 @@
 // Bytes and numbers at a place of a lent buffer. Each function answers the place behind what it put; the count goes on past the buffer's
 // end, so that the same calls with a short buffer find the length that is needed.
+#![tactic(auto)]
+
 ghost use Rattle.std.specs.Prelude.{◌+◌, ◌≤◌, min, ◌≡◌, [], ◌∷◌, ◌++◌, length};
 ghost use Rattle.writer.specs.Put.{Put, most};
 ghost use Rattle.writer.specs.Decimal.{decimal};

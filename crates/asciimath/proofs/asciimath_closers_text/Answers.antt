@@ -1,0 +1,12 @@
+use mathlib.Core.Path.{sym, ap}
+use mathlib.Core.List.{List}
+use Prim.Native.Nat.{ℕ}
+use Rattle.tokens.specs.Refusals.{Answer}
+use Rattle.asciimath_answers.proofs.Passing.{given-as}
+use Rattle.asciimath.proofs.asciimath_closers_text.Goals as goal
+
+pub returns : goal.returns
+returns c =
+    let e = c.closers_text-got.ensures in
+    let g = given-as (ap (λ (p : Answer × List ℕ × List ℕ). p.0) (sym e)) c.put_paired_text.ensures in
+    (g.code, ap (λ (p : Answer × List ℕ × List ℕ). p.1) e, ap (λ (p : Answer × List ℕ × List ℕ). p.2) e, g.values)

@@ -1,0 +1,10 @@
+-- A cell is moved if its column is kept.
+use mathlib.Core.Path.{◌∙◌}
+use borrow.Author.Tests.{eq-eqb, ne_eqb}
+use Rattle.columns.proofs.moves.keep_cell.Goals as goal
+
+pub returns-then-flag-eq0 : goal.returns-then-flag-eq0
+returns-then-flag-eq0 c = (record { value = simp (eq-eqb _ _ c.if-flag-eq0.true); tree_after = c.move_left.ensures ∙ simp (eq-eqb _ _ c.if-flag-eq0.true) })
+
+pub returns-else-flag-eq0 : goal.returns-else-flag-eq0
+returns-else-flag-eq0 c = (record { value = simp (ne_eqb _ _ c.if-flag-eq0.false); tree_after = simp (ne_eqb _ _ c.if-flag-eq0.false) })

@@ -1,0 +1,39 @@
+-- Read by read.
+use mathlib.Core.Path.{◌∙◌}
+use Prim.Native.Nat.{◌-◌}
+use native.Mathlib.Omega.{arith}
+use Rattle.lexer.specs.declared.Listing.TheVariants.{Tokens}
+use Rattle.lexer.proofs.Passes.{listing_start, listing_placed, listing_on, listing_next, listing_end}
+use Rattle.lexer.proofs.list.list_in.Goals as goal
+
+pub loop-p-init : goal.loop-p-init
+loop-p-init c =
+    let a = c.args in
+    listing_start a.stop a.text.now a.from a.table.now
+
+pub read_token-p-requires : goal.read_token-p-requires
+read_token-p-requires c = let a = c.args in
+    let l = c.loop-p in
+    (c.requires.0, listing_placed a.stop a.text.now a.from a.table.now l.p l.table l.invariant c.requires.2 c.requires.3 c.loop-p-test.true, c.requires.1)
+
+pub loop-p-smaller : goal.loop-p-smaller
+loop-p-smaller c = let a = c.args in
+    let l = c.loop-p in
+    omega (arith, listing_on a.stop a.text.now a.from a.table.now l.p l.table l.invariant c.requires.2 c.requires.3 c.loop-p-test.true c.read_token-p.result c.read_token-p.new.table c.read_token-p.ensures.0)
+
+pub loop-p-preserved : goal.loop-p-preserved
+loop-p-preserved c = let a = c.args in
+    let l = c.loop-p in
+    listing_next a.stop a.text.now a.from a.table.now l.p l.table l.invariant c.requires.2 c.requires.3 c.loop-p-test.true c.read_token-p.result c.read_token-p.new.table c.read_token-p.ensures.0 c.read_token-p.ensures.1 c.read_token-p.auto.table
+
+pub overflow_sub-result : goal.overflow_sub-result
+overflow_sub-result c = c.loop-p.invariant.few
+
+pub shape_of-table : goal.shape_of-table
+shape_of-table c = c.loop-p.invariant.size
+
+pub returns : goal.returns
+returns c = let a = c.args in
+    let l = c.loop-p in
+    (λ i. (Tokens l.p.all (l.p.all - l.p.spaces) l.p.next (c.row_in.ensures i), l.table))
+    ∙ listing_end a.stop a.text.now a.from a.table.now l.p l.table l.invariant (omega arith)

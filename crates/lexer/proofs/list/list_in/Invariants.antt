@@ -1,0 +1,13 @@
+-- Read by read.
+use mathlib.Core.Path.{◌∙◌}
+use Prim.Native.Nat.{◌-◌}
+use native.Mathlib.Omega.{arith}
+use lib.ListN.{length}
+use Rattle.lexer.proofs.Passes.{Listing}
+use Rattle.lexer.proofs.list.list_in.Given as goal
+
+abbrev pub invariant-loop-p : goal.invariant-loop-p
+invariant-loop-p l = Listing l.stop l.text l.from l.initial.table l.p l.table
+
+abbrev pub decreases-loop-p : goal.decreases-loop-p
+decreases-loop-p l = length l.text - l.p.next
