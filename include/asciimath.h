@@ -25,14 +25,14 @@
  * work and tree that it is lent. One letter takes 0.1 microseconds in buffers for its one byte and 5 in
  * buffers for 4,096 tokens, several times as much where those words are not in the cache. The table,
  * closers and output cost nothing more if they are longer. A table for as many tokens as the text has
- * bytes is quickest: a shorter one has the tokens counted first. (These times, and the stack below, are
- * of an archive that an older kit built, not measured again with today's.)
+ * bytes is quickest: a shorter one has the tokens counted first. (These times are of an archive that an
+ * older kit built, not measured again with today's.)
  *
  * ## Threads and stack
  *
  * The library has no state: any number of threads may call it, each with its own buffers. Depth of
- * recursion is limited whatever the text, and 256 KiB of stack are enough: 239,720 bytes at most were
- * measured, by any call, and 241,904 counted for a reading from the frames of the object code
+ * recursion is limited whatever the text, and 256 KiB of stack are enough: 178,232 bytes at most were
+ * measured, by any call, and 179,920 counted for a reading from the frames of the object code
  * (tools/robust). Neither is proved.
  *
  * ## Example

@@ -32,12 +32,12 @@ def frames(lines):
             call = None
         else:
             call = None
-            # a large frame is taken page by page, down to what %r11 says, and then the rest of it
+            # a large frame is taken step by step, down to what %r11 says, and then the rest of it
+            steps, pages = pages, None
             if m := re.search(r"\ssub\s+\$0x([0-9a-f]+),%r11", line):
                 pages = int(m[1], 16)
-            elif pages and re.search(r"\ssub\s+\$0x1000,%rsp", line):
-                height += pages
-                pages = None
+            elif steps and re.search(r"\ssub\s+\$0x[0-9a-f]+,%rsp", line):
+                height += steps
             elif m := re.search(r"\s(sub|add)\s+\$0x([0-9a-f]+),%rsp", line):
                 number = int(m[2], 16)
                 number -= 1 << 64 if number >> 63 else 0
