@@ -1,9 +1,9 @@
 #!/usr/bin/env python3
-"""Print the spelling table of the Rust original, as rows for specs or as constants for code.
+"""Print the spelling table of the Rust original, as rows for specs or as statics for code.
 
     make_spellings.py TOKENIZER_RS [--code]
 
-The constants: the bytes of all rows one after another; for each row 32 times its start and the
+The statics: the bytes of all rows one after another; for each row 32 times its start and the
 kind of its token, and behind the last 32 times the end; and for each byte value to 128, 64 times
 the rows that begin with a smaller byte, 32 more where the byte alone is a spelling, and the kind
 that the byte has by itself.
@@ -16,8 +16,8 @@ from spellings import TOKENS, antt_row, rows_of_rust
 
 
 def constant(name, kind, length, numbers):
-    lines = [f"pub(crate) const {length}: usize = {len(numbers)};"]
-    lines.append(f"pub(crate) const {name}: [{kind}; {length}] = [")
+    lines = [f"const {length}: usize = {len(numbers)};"]
+    lines.append(f"static {name}: [{kind}; {length}] = [")
     for at in range(0, len(numbers), 20):
         lines.append("    " + " ".join(f"{number}," for number in numbers[at : at + 20]))
     return "\n".join(lines + ["];"])

@@ -12,10 +12,7 @@ ghost use Rattle.lexing.specs.Longest.{longest_at};
 ghost use Rattle.lexer.specs.Lookup.{longest_answer};
 ghost use Rattle.asciimath_answers.specs.Exported.{code_of, values_in, looked_up};
 
-use asciimath_answers::{
-    put_counted, put_longest, put_marked, put_paired, put_paired_text, put_parsed,
-    put_parsed_tokens, put_printed, put_tokenized,
-};
+use asciimath_answers::give;
 use closers::{closers, closers_text};
 use lexer::prefix_map::get_longest_prefix;
 use mathml::mathml;
@@ -30,8 +27,7 @@ pub extern "C" fn asciimath_tokens(text: &[u8], table: &mut [u32], answer: &mut 
         × (table.new ≡ (tokenized text.now table.old).1)
         × (answer.new ≡ values_in (tokenized text.now table.old).0 answer.old) }
 {
-    let got = tokenize(text, table);
-    put_tokenized(answer, got)
+    give(answer, tokenize(text, table))
 }
 
 // Counts the text's tokens. Values: tokens, tokens other than Space.
@@ -40,8 +36,7 @@ pub extern "C" fn asciimath_count(text: &[u8], answer: &mut [u64]) -> u32
     ensures { (result ≡ code_of (counted text.now))
         × (answer.new ≡ values_in (counted text.now) answer.old) }
 {
-    let got = count_tokens(text);
-    put_counted(answer, got)
+    give(answer, count_tokens(text))
 }
 
 // The longest spelling that begins a text at a place. Values: its length, its kind and its row; or a length of 0 alone, if none does.
@@ -50,8 +45,7 @@ pub extern "C" fn asciimath_lookup(text: &[u8], at: usize, answer: &mut [u64]) -
     ensures { (result ≡ code_of (looked_up (longest_answer (longest_at text.now at))))
         × (answer.new ≡ values_in (looked_up (longest_answer (longest_at text.now at))) answer.old) }
 {
-    let got = get_longest_prefix(text, at);
-    put_longest(answer, got)
+    give(answer, Ok(get_longest_prefix(text, at)))
 }
 
 // Reads a text. Values: tokens, takes, items of the root, blank.
@@ -70,8 +64,7 @@ pub extern "C" fn asciimath_parse(
         × (answer.new
         ≡ values_in (parsed_text text.now table.old work.old tree.old).0 answer.old) }
 {
-    let got = parse(text, table, work, tree);
-    put_parsed(answer, got)
+    give(answer, parse(text, table, work, tree))
 }
 
 // Reads a list of `count` tokens over a text. Values: takes, items of the root, blank.
@@ -90,8 +83,7 @@ pub extern "C" fn asciimath_parse_tokens(
         × (answer.new
         ≡ values_in (parsed_tokens text.now table.now count work.old tree.old).0 answer.old) }
 {
-    let got = parse_tokens(text, table, count, work, tree);
-    put_parsed_tokens(answer, got)
+    give(answer, parse_tokens(text, table, count, work, tree))
 }
 
 // Reads a text and prints its tree. Values: the length of the print, takes, blank.
@@ -111,8 +103,7 @@ pub extern "C" fn asciimath_print(
         × (out.new ≡ (printed_text text.now table.old work.old tree.old out.old).4)
         × (answer.new ≡ values_in (printed_text text.now table.old work.old tree.old out.old).0 answer.old) }
 {
-    let got = print(text, table, work, tree, out);
-    put_printed(answer, got)
+    give(answer, print(text, table, work, tree, out))
 }
 
 // Reads a text and writes its MathML. Values: the length of the MathML, takes, blank.
@@ -132,8 +123,7 @@ pub extern "C" fn asciimath_mathml(
         × (out.new ≡ (marked_text text.now table.old work.old tree.old out.old).4)
         × (answer.new ≡ values_in (marked_text text.now table.old work.old tree.old out.old).0 answer.old) }
 {
-    let got = mathml(text, table, work, tree, out);
-    put_marked(answer, got)
+    give(answer, mathml(text, table, work, tree, out))
 }
 
 // The closers of a list of `count` tokens over a text. Values: tokens other than Space.
@@ -149,8 +139,7 @@ pub extern "C" fn asciimath_closers(
         × (out.new ≡ (closed_tokens text.now table.now count out.old).1)
         × (answer.new ≡ values_in (closed_tokens text.now table.now count out.old).0 answer.old) }
 {
-    let got = closers(text, table, count, out);
-    put_paired(answer, got)
+    give(answer, closers(text, table, count, out))
 }
 
 // The tokens of a text and their closers. Values: tokens, tokens other than Space.
@@ -166,6 +155,5 @@ pub extern "C" fn asciimath_closers_text(
         × (out.new ≡ (closed_text text.now table.old out.old).2)
         × (answer.new ≡ values_in (closed_text text.now table.old out.old).0 answer.old) }
 {
-    let got = closers_text(text, table, out);
-    put_paired_text(answer, got)
+    give(answer, closers_text(text, table, out))
 }

@@ -1,9 +1,8 @@
 -- The exported calls: an answer as a number and the words of the lent answer.
-use Rattle.std.specs.Prelude.{◌≡◌, List, [], ◌∷◌, ◌++◌, ℕ, length, take, drop}
+use Rattle.std.specs.Prelude.{◌≡◌, List, [], ◌∷◌, ◌++◌, ℕ, length, take, drop, Option, Some, None}
 use Rattle.tokens.specs.Kinds.{number_of}
 use Rattle.tokens.specs.Refusals.{Answer, accepted, refused}
 use Rattle.lexer.specs.declared.prefix_map.Longest.{Longest}
-use Rattle.lexer.specs.declared.prefix_map.Longest.TheVariants.{Spelling, Nothing}
 
 -- 0, or the number of the refusal
 unfoldable pub code_of : Answer → ℕ
@@ -21,7 +20,10 @@ pub record Given (a : Answer) (returned : ℕ) (before after : List ℕ) : Type 
   pub code : returned ≡ code_of a
   pub values : after ≡ values_in a before
 
--- The answer of the lookup: the spelling's length, the number of its kind and its row; where none fits, a length of 0 and no row.
-abbrev pub looked_up : Longest → Answer
-looked_up Nothing = accepted (0 ∷ [])
-looked_up (Spelling len token row) = accepted (len ∷ number_of token ∷ row ∷ [])
+-- The values of the lookup: the spelling's length, the number of its kind and its row; where none fits, a length of 0 and no row.
+abbrev pub lookup_values : Option Longest → List ℕ
+lookup_values None = 0 ∷ []
+lookup_values (Some found) = found.len ∷ number_of found.token ∷ found.row ∷ []
+
+abbrev pub looked_up : Option Longest → Answer
+looked_up found = accepted (lookup_values found)

@@ -11,9 +11,9 @@ module _ (X t K : List ℕ) (n i : ℕ) where
   unfolding attempts_from
   found_here h e = let z : n - i ≡ suc (n - (i + 1)) = omega arith in rw (z, e)
 
-  pub found-later : i < n → tries_at X t K n i ≡ false → attempts_from X t K n i (n - i) ≡ attempts_from X t K n (i + 1) (n - (i + 1))
+  pub found_later : i < n → tries_at X t K n i ≡ false → attempts_from X t K n i (n - i) ≡ attempts_from X t K n (i + 1) (n - (i + 1))
   unfolding attempts_from
-  found-later h e =
+  found_later h e =
       let z : n - i ≡ suc (n - (i + 1)) = omega arith in
       let w : i + 1 ≡ suc i = omega arith in
       rw (z, e, w)

@@ -8,6 +8,9 @@ use native.Mathlib.Omega.{arith}
 use lib.ListN.{length, drop, get_or}
 use lib.Seq.{ext_get_or}
 use borrow.Author.Tests.{lt-ltb, le-ltb}
+use Rattle.std.specs.Prelude.{Result, Ok, Err}
+use Rattle.refusals.specs.declared.refusal.Refusal.{Refusal}
+use Rattle.refusals.specs.Refusal.{refusal_number, numbered}
 use Rattle.tokens.specs.Table.{table_words, token_list, count_others}
 use Rattle.tokens.specs.Refusals.{Answer, accepted, refused, text_refusal, list_refusal}
 use Rattle.tokens.proofs.Cases.{apart}
@@ -50,14 +53,14 @@ words_are {n} {L} {c} w size most =
 -- what the pass over an accepted list answers, if it is asked for
 module _ (text table : List ℕ) (count : ℕ) (ok : list_refusal text count table ≡ none) (work : List ℕ)
     (room : record_words (count_others (token_list count table) + 1) ≤ length work)
-    (r : Pass) (L : List ℕ) (c : (r, L) ≡ paired_list text table count true work) where
-  pub not_refused : {A : Type 0} (k : ℕ) → r ≡ pass.Refused k → A
+    (r : Result Pass Refusal) (L : List ℕ) (c : (numbered r, L) ≡ paired_list text table count true work) where
+  pub not_refused : {A : Type 0} (k : Refusal) → r ≡ Err k → A
   not_refused = passed.not_refused text table count ok work room true r L c
 
-  pub not_plain : {A : Type 0} (m : ℕ) → r ≡ pass.Plain m → A
+  pub not_plain : {A : Type 0} (m : ℕ) → r ≡ Ok (pass.Plain m) → A
   not_plain m = passed.not_plain text table count ok work room true r L c m refl
 
-  module _ (n takes : ℕ) (q : r ≡ pass.Read n takes) where
+  module _ (n takes : ℕ) (q : r ≡ Ok (pass.Read n takes)) where
     n_is : n ≡ count_others (token_list count table)
     n_is = (passed.read_is text table count ok work room true r L c n takes q).0
 
@@ -137,24 +140,29 @@ module _ (text table out : List ℕ) where
     unfolding text_refusal_of
     table-long h = rw (ok, text_refusal_of, le-ltb (length table) (3 * length (tokens text)) h)
 
-  module _ (room : ℕ) (r : TokenizedUnder) (next : List ℕ) (c : (r, next) ≡ tokenized_under text table room) (b : room ≡ length out + 1) where
-    pub tokens-refused : (k : ℕ) → r ≡ under.Refused k → ◌≡◌ {A = Answer × List ℕ × List ℕ} (refused k, next, out) (closed_text text table out)
+  module _ (room : ℕ) (r : Result TokenizedUnder Refusal) (next : List ℕ) (c : (numbered r, next) ≡ tokenized_under text table room) (b : room ≡ length out + 1) where
+    by_number : {x : Result TokenizedUnder Refusal} → r ≡ x → numbered r ≡ numbered x
+    by_number = ap numbered
+
+    pub tokens-refused : (k : Refusal) → r ≡ Err k → ◌≡◌ {A = Answer × List ℕ × List ℕ} (refused (refusal_number k), next, out) (closed_text text table out)
     tokens-refused k q =
+        let f = by_number q in
         by_answer text table room r next c
-        (λ j e p n. let j-is : j ≡ k = cc in rw n (text-turned k (text-met k (e ∙ ap some j-is))))
-        (λ ok h p n. let k_is : 7 ≡ k = cc in rw (n, ← k_is) (text-turned 7 (table-short ok h)))
+        (λ j e p n. let j-is : j ≡ refusal_number k = cc in rw n (text-turned (refusal_number k) (text-met (refusal_number k) (e ∙ ap some j-is))))
+        (λ ok h p n. let k_is : 7 ≡ refusal_number k = cc in rw (n, ← k_is) (text-turned 7 (table-short ok h)))
         (λ ok h l p n. apart cc)
         (λ ok h l p n. apart cc)
 
-    pub tokens-many : (m : ℕ) → r ≡ under.Many m → ◌≡◌ {A = Answer × List ℕ × List ℕ} (refused 8, next, out) (closed_text text table out)
+    pub tokens-many : (m : ℕ) → r ≡ Ok (under.Many m) → ◌≡◌ {A = Answer × List ℕ × List ℕ} (refused 8, next, out) (closed_text text table out)
     tokens-many m q =
+        let f = by_number q in
         by_answer text table room r next c
         (λ j e p n. apart cc)
         (λ ok h p n. apart cc)
         (λ ok h l p n. rw n (text-turned 8 (table-long ok h ∙ few_words (omega (arith, b, l)))))
         (λ ok h l p n. apart cc)
 
-    module _ (m others : ℕ) (q : r ≡ under.Tokens m others) where
+    module _ (m others : ℕ) (q : r ≡ Ok (under.Tokens m others)) where
       abbrev facts : listed.Listed text table room r next c m others q
       facts = listed.facts text table room r next c m others q
 

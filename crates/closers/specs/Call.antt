@@ -1,24 +1,24 @@
 -- The bracket pass as calls: what they answer, and what they leave in the lent buffers.
-use Rattle.std.specs.Prelude.{true, false, List, [], ◌∷◌, ◌++◌, ℕ, ◌*◌, ltb, length, drop}
+use Rattle.std.specs.Prelude.{true, false, List, [], ◌∷◌, ◌++◌, ℕ, ◌*◌, ltb, length, drop, Result}
 use Rattle.std.proofs.Math.Option.{Option, none, some}
 use Rattle.tokens.specs.Lexeme.{Lexeme}
 use Rattle.tokens.specs.Table.{table_words, token_list, count_others}
 use Rattle.tokens.specs.Refusals.{Answer, accepted, refused, text_refusal, list_refusal}
 use Rattle.lexing.specs.Rules.{tokens}
 use Rattle.reading.specs.Reading.{closers_of}
-use Rattle.closers.specs.declared.Paired.{Paired}
-use Rattle.closers.specs.declared.Paired.TheVariants as list
+use Rattle.refusals.specs.declared.refusal.Refusal.{Refusal}
+use Rattle.refusals.specs.Refusal.{answered}
 use Rattle.closers.specs.declared.PairedText.{PairedText}
-use Rattle.closers.specs.declared.PairedText.TheVariants as text
 
 -- The code's answers in the words of document 01.
-abbrev pub answer_of : Paired → Answer
-answer_of (list.Found others) = accepted (others ∷ [])
-answer_of (list.Refused k) = refused k
+abbrev pub answer_of : Result ℕ Refusal → Answer
+answer_of r = answered (λ (others : ℕ). others ∷ []) r
 
-abbrev pub text_answer_of : PairedText → Answer
-text_answer_of (text.Found all others) = accepted (all ∷ others ∷ [])
-text_answer_of (text.Refused k) = refused k
+abbrev pub text_values : PairedText → List ℕ
+text_values found = found.tokens ∷ found.others ∷ []
+
+abbrev pub text_answer_of : Result PairedText Refusal → Answer
+text_answer_of r = answered text_values r
 
 -- "in a lent buffer of n words (a shorter one is 8 …)": of n tokens other than Space, the buffer having so many words
 unfoldable pub out_refusal : ℕ → ℕ → Option ℕ

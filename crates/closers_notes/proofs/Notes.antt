@@ -2,13 +2,11 @@
 use Prim.Native.Nat.{ℕ, zero, suc, ◌+◌, ◌-◌, ◌≤◌, ◌<◌}
 use mathlib.Core.Path.{◌≡◌, refl, sym, ap, ◌∙◌}
 use mathlib.Core.List.{List, ◌++◌}
-use mathlib.Core.Bool.{Bool, true, false}
 use native.Mathlib.Omega.{arith}
 use native.Mathlib.Decide.{ℕ_discrete}
-use lib.ListN.{length, get_or, drop, set, length-set, length-append, length-drop, get_or-append}
-use lib.Seq.{get_or-set_same, get_or-set_other, ext_get_or, get_or-append-add, get_or-drop}
-use lib.Dec.{ltb}
-use borrow.Author.Tests.{ltb-true, ltb-false, lt-ltb, le-ltb}
+use lib.ListN.{length, get_or, drop}
+use lib.Seq.{ext_get_or}
+use borrow.Author.Tests.{lt-ltb, le-ltb}
 use Rattle.records.specs.Record.{marks_of, closer_of, Whole, with_closer, Kept}
 use Rattle.stores.proofs.Stores.{kept_refl, kept_trans, closer-kept, closer-length, closer-same, closer-other, marks-of_closer}
 use Rattle.closers_notes.specs.Notes.{cleared, closer_words, with_closers}
@@ -54,26 +52,6 @@ cleared-inside (suc k) i K j a b w = go (ℕ_discrete j i) (λ l. cleared-inside
     go (yes e) later = rw e (cleared-below k (suc i) (with_closer K i 0) i (omega arith) ∙ closer-same K i 0 (omega arith) (omega arith))
     go (no d) later = later (omega (arith, d))
 
--- the closers of the first i of n entries are written into the words x, which are y now
-pub record Put (K : List ℕ) (n i : ℕ) (x y : List ℕ) : Type 0 where
-  pub long : length y ≡ length x
-  pub first : (j : ℕ) → j < i → get_or y j 0 ≡ n - closer_of K j
-  pub rest : (j : ℕ) → i ≤ j → get_or y j 0 ≡ get_or x j 0
-
-pub put-none : (K : List ℕ) (n : ℕ) (x : List ℕ) → Put K n 0 x x
-put-none K n x = record { long = refl; first = λ j h. absurd (omega arith); rest = λ j h. refl }
-
-pub put-more : {K : List ℕ} {n i : ℕ} {x y : List ℕ} → Put K n i x y → i < length x → Put K n (i + 1) x (set y i (n - closer_of K i))
-put-more {K} {n} {i} {x} {y} p l = record {
-  long = length-set y i (n - closer_of K i) ∙ p.long;
-  first = λ j h. go j h (ℕ_discrete j i);
-  rest = λ j h. get_or-set_other y i j (n - closer_of K i) 0 (λ z. omega arith) ∙ p.rest j (omega arith);
-}
-  where
-    go : (j : ℕ) → j < i + 1 → Dec (j ≡ i) → get_or (set y i (n - closer_of K i)) j 0 ≡ n - closer_of K j
-    go j h (yes e) = rw e (get_or-set_same y i (n - closer_of K i) 0 (omega (arith, p.long)))
-    go j h (no d) = get_or-set_other y i j (n - closer_of K i) 0 d ∙ p.first j (omega (arith, d))
-
 -- the words one by one
 pub length-words : (K : List ℕ) (n i k : ℕ) → length (closer_words K n i k) ≡ k
 unfolding closer_words
@@ -86,23 +64,10 @@ word-is K n i zero j h = absurd (omega arith)
 word-is K n i (suc k) zero h = let z : i + 0 ≡ i = omega arith in rw z
 word-is K n i (suc k) (suc j) h = let z : i + suc j ≡ suc i + j = omega arith in rw z (word-is K n (suc i) k j (omega arith))
 
-pub put_all : {K : List ℕ} {n : ℕ} {x y : List ℕ} → Put K n n x y → n ≤ length x → y ≡ closer_words K n 0 n ++ drop n x
-put_all {K} {n} {x} {y} p h = ext_get_or 0 y (closer_words K n 0 n ++ drop n x) total (λ j l. go j l (ltb j n) refl)
-  where
-    total : length y ≡ length (closer_words K n 0 n ++ drop n x)
-    total = omega (arith, p.long, length-append (closer_words K n 0 n) (drop n x), length-words K n 0 n, length-drop n x)
-
-    go : (j : ℕ) → j < length y → (r : Bool) → ltb j n ≡ r → get_or y j 0 ≡ get_or (closer_words K n 0 n ++ drop n x) j 0
-    go j l true e =
-        let b : j < n = ltb-true j n e in
-        let none : 0 + j ≡ j = omega arith in
-        p.first j b ∙ sym (get_or-append (closer_words K n 0 n) (drop n x) 0 j (omega (arith, length-words K n 0 n)) ∙ rw none at (word-is K n 0 n j b))
-    go j l false e =
-        let b : n ≤ j = ltb-false j n e in
-        let z : length (closer_words K n 0 n) + (j - n) ≡ j = omega (arith, length-words K n 0 n) in
-        let w : n + (j - n) ≡ j = omega arith in
-        p.rest j b
-        ∙ sym (rw z at (get_or-append-add (closer_words K n 0 n) (drop n x) (j - n) 0) ∙ rw w at (get_or-drop n x (j - n) 0))
+pub words_are : (K : List ℕ) (n : ℕ) (y : List ℕ) → length y ≡ n → ((j : ℕ) → j < n → get_or y j 0 ≡ n - closer_of K j) → y ≡ closer_words K n 0 n
+words_are K n y l h =
+    ext_get_or 0 y (closer_words K n 0 n) (l ∙ sym (length-words K n 0 n))
+    (λ j b. let none : 0 + j ≡ j = omega arith in h j (omega arith) ∙ sym (rw none at (word-is K n 0 n j (omega arith))))
 
 -- with room or without
 pub room-short : (K : List ℕ) (n : ℕ) (x : List ℕ) → length x < n → x ≡ with_closers K n x

@@ -10,29 +10,24 @@ use marks::mark_failed;
 use records::bits::CLOSER_SIZE;
 use stores::set_closer;
 
-// What is noted for no closer.
+// What is noted for no closer; kept: these are bits of a record's word (docs/LAYOUT.md).
 const NONE: u32 = 0;
 
 // Of n entries, the one at k is the closer of the one at i.
 pub fn note_closer(work: &mut [u32], i: usize, n: usize, k: usize)
     ensures { work.new ≡ with_closer work.old i (n - k) }
 {
-    if k < n {
-        // cut to the bits of a closer; up to 4,096 entries nothing is lost
-        set_closer(work, i, ((n - k) % (CLOSER_SIZE as usize)) as u32);
-    } else {
-        set_closer(work, i, NONE);
-    }
+    // cut to the bits of a closer; up to 4,096 entries nothing is lost
+    let before = n.saturating_sub(k) % CLOSER_SIZE as usize;
+    set_closer(work, i, before as u32);
 }
 
 // No entry from `from` up to `to` has a closer.
 fn clear_closers(work: &mut [u32], from: usize, to: usize)
     ensures { work.new ≡ cleared (to - from) from work.old }
 {
-    let mut i = from;
-    while i < to {
+    for i in from..to {
         set_closer(work, i, NONE);
-        i += 1;
     }
 }
 
@@ -48,8 +43,7 @@ pub fn give_up(work: &mut [u32], i: usize, mark: u32, from: usize, to: usize)
 fn closer_at(work: &[u32], i: usize, n: u32) -> u32
     ensures { result ≡ n - closer_of work.now i }
 {
-    let before = closer_of(work, i);
-    if before < n { n - before } else { 0 }
+    n.saturating_sub(closer_of(work, i))
 }
 
 // The closers of n entries, if `out` has words for them.
@@ -60,9 +54,7 @@ pub fn put_closers(work: &[u32], n: u32, out: &mut [u32])
     if out.len() < many {
         return;
     }
-    let mut i: usize = 0;
-    while i < many {
-        out[i] = closer_at(work, i, n);
-        i += 1;
+    for (i, word) in out[..many].iter_mut().enumerate() {
+        *word = closer_at(work, i, n);
     }
 }

@@ -8,8 +8,9 @@ use borrow.Author.Tests.{ltb-true, ne_eqb}
 use Rattle.records.specs.Record.{kind_of}
 use Rattle.lookahead.specs.Tests.{test_at, begins_kind, plain_at, over_at, opening, takes_one}
 use Rattle.reading_words.proofs.Plain.{both, never, plain-below, shallow, plain-kind, no_head, begins, follows, no_head_either}
-use Rattle.closers_pass.specs.declared.cursor.Cursor.{Cursor}
-use Rattle.closers_pass.specs.Meet.{Intermediate, onward, seen, inner, nothing_at, plain_part}
+use Rattle.reading_cursor.specs.declared.Cursor.{Cursor}
+use Rattle.closers_pass.specs.Meet.{Intermediate, nothing_at, plain_part}
+use Rattle.reading_cursor.specs.Moves.{onward, seen, inner}
 use Rattle.closers_pass.proofs.Simple.{simple-begun, simple-nothing, scripts-none, term_scripted, term_nothing, script-term, item-plain, item-nothing}
 use Rattle.closers_pass.proofs.Begins.{begun-leaf}
 

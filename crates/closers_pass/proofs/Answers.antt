@@ -1,4 +1,5 @@
 -- What the call's answer says of an accepted list with work words enough: what callers need to know of the pass.
+use Rattle.std.proofs.Common.{Result, Ok, Err}
 use Prim.Native.Nat.{ℕ, ◌+◌, ◌*◌, ◌≤◌}
 use mathlib.Core.Path.{◌≡◌, refl, sym, ap, ◌∙◌}
 use mathlib.Core.Bool.{Bool, true, false, cond, ◌||◌}
@@ -17,7 +18,8 @@ use Rattle.reading.specs.Entries.{entries}
 use Rattle.bounds.proofs.Theorems.{entries-count}
 use Rattle.closers_laws.proofs.Replay.{marks-long}
 use Rattle.records.specs.Record.{record_words, Kept}
-use Rattle.entries.specs.declared.Prepared.{Prepared}
+use Rattle.refusals.specs.declared.refusal.Refusal.{Refusal}
+use Rattle.refusals.specs.Refusal.{numbered}
 use Rattle.entries.specs.Prepared.{work_words}
 use Rattle.entries.proofs.Accepted.{prepared-is}
 use Rattle.entries.proofs.Answers.{made}
@@ -27,7 +29,7 @@ use Rattle.reading_words.proofs.Kit.{given-kept}
 use Rattle.reading_words.proofs.Records as records
 use Rattle.reading_words.proofs.Records.{input_of}
 use Rattle.closers_pass.specs.declared.top.Pass.{Pass}
-use Rattle.closers_pass.specs.declared.top.Pass.TheVariants.{Read, Plain, Refused}
+use Rattle.closers_pass.specs.declared.top.Pass.TheVariants.{Read, Plain}
 use Rattle.closers_pass.specs.Meet.{Noted}
 use Rattle.closers_pass.specs.Call.{noted, read_to, pass_over, paired_list}
 use Rattle.closers_pass.proofs.Records.{blank-records}
@@ -77,29 +79,32 @@ module _ (text table : List ℕ) (count : ℕ) (ok : list_refusal text count tab
     pub read-closers : Noted n read-words (read_to text ts).closers
     read-closers = record { words = λ i h. noted-closer n (read_to text ts).marks (read_to text ts).closers made-words n i h fit (omega (arith, few)) }
 
-    module _ (always : Bool) (r : Pass) (L : List ℕ) (c : (r, L) ≡ paired_list text table count always work) where
-      answered : ◌≡◌ {A = Pass × List ℕ} (r, L) (cond (always || has_attempts text table made-words n) (Read n (read_to text ts).takes, read-words) (Plain n, made-words))
+    module _ (always : Bool) (r : Result Pass Refusal) (L : List ℕ) (c : (numbered r, L) ≡ paired_list text table count always work) where
+      answered : ◌≡◌ {A = Result Pass ℕ × List ℕ} (numbered r, L) (cond (always || has_attempts text table made-words n) (Ok (Read n (read_to text ts).takes), read-words) (Ok (Plain n), made-words))
       unfolding paired_list pass_over
-      answered = c ∙ ap (λ (x : Prepared × List ℕ). pass_over text table ts always x.0 x.1) (prepared-is text table count work ok room)
+      answered = c ∙ ap (λ (x : Result ℕ ℕ × List ℕ). pass_over text table ts always x.0 x.1) (prepared-is text table count work ok room)
 
-      by_case : {A : Type 0} → (r ≡ Read n (read_to text ts).takes → L ≡ read-words → A) → (always ≡ false → r ≡ Plain n → L ≡ made-words → A) → A
+      by_case : {A : Type 0} → (numbered r ≡ Ok (Read n (read_to text ts).takes) → L ≡ read-words → A) → (always ≡ false → numbered r ≡ Ok (Plain n) → L ≡ made-words → A) → A
       by_case f g =
           by_test (always || has_attempts text table made-words n)
-          (λ e. let p = rw e at answered in f (ap (λ (x : Pass × List ℕ). x.0) p) (ap (λ (x : Pass × List ℕ). x.1) p))
-          (λ e. let p = rw e at answered in g (asked always _ e) (ap (λ (x : Pass × List ℕ). x.0) p) (ap (λ (x : Pass × List ℕ). x.1) p))
+          (λ e. let p = rw e at answered in f (ap (λ (x : Result Pass ℕ × List ℕ). x.0) p) (ap (λ (x : Result Pass ℕ × List ℕ). x.1) p))
+          (λ e. let p = rw e at answered in g (asked always _ e) (ap (λ (x : Result Pass ℕ × List ℕ). x.0) p) (ap (λ (x : Result Pass ℕ × List ℕ). x.1) p))
         where
           asked : (b a : Bool) → (b || a) ≡ false → b ≡ false
           asked true a e = e
           asked false a e = refl
 
-      pub not_refused : {A : Type 0} (k : ℕ) → r ≡ Refused k → A
-      not_refused k q = by_case (λ a b. apart cc) (λ z a b. apart cc)
+      by_number : {x : Result Pass Refusal} → r ≡ x → numbered r ≡ numbered x
+      by_number = ap numbered
 
-      pub not_plain : {A : Type 0} (m : ℕ) → always ≡ true → r ≡ Plain m → A
-      not_plain m y q = by_case (λ a b. apart cc) (λ z a b. apart cc)
+      pub not_refused : {A : Type 0} (k : Refusal) → r ≡ Err k → A
+      not_refused k q = let e = by_number q in by_case (λ a b. apart cc) (λ z a b. apart cc)
 
-      pub plain-is : (m : ℕ) → r ≡ Plain m → (m ≡ n) × (L ≡ made-words)
-      plain-is m q = by_case (λ a b. apart cc) (λ z a b. (cc, b))
+      pub not_plain : {A : Type 0} (m : ℕ) → always ≡ true → r ≡ Ok (Plain m) → A
+      not_plain m y q = let e = by_number q in by_case (λ a b. apart cc) (λ z a b. apart cc)
 
-      pub read_is : (m takes : ℕ) → r ≡ Read m takes → (m ≡ n) × (takes ≡ (read_to text ts).takes) × (L ≡ read-words)
-      read_is m takes q = by_case (λ a b. (cc, cc, b)) (λ z a b. apart cc)
+      pub plain-is : (m : ℕ) → r ≡ Ok (Plain m) → (m ≡ n) × (L ≡ made-words)
+      plain-is m q = let e = by_number q in by_case (λ a b. apart cc) (λ z a b. (cc, b))
+
+      pub read_is : (m takes : ℕ) → r ≡ Ok (Read m takes) → (m ≡ n) × (takes ≡ (read_to text ts).takes) × (L ≡ read-words)
+      read_is m takes q = let e = by_number q in by_case (λ a b. (cc, cc, b)) (λ z a b. apart cc)

@@ -11,8 +11,8 @@ use borrow.Author.Tests.{eqb-true, eq-eqb, ne_eqb}
 use Rattle.tokens.specs.declared.token.Token.TheVariants as token
 use Rattle.tokens.specs.Lexeme.{Span}
 use Rattle.tree.specs.Tree.{nowhere, Head, Node, node, Nodes, end, ◌▸◌, count}
-use Rattle.reading.specs.Entries.{Entry, is}
-use Rattle.reading.specs.Reading.{State, made, lost, nought, closed, any, open_mark, matrix_mark, slot, is_at, is_bar, makes_matrix, matrix_body, try_matrix, bar_body, next_open_group, next_open_close_group, next_bracket, glyph_of, ends_operand, look, atom_ends, is_bar_symbol, prefixes, Row, Rows, split_column_lines, line_cols, line_cells, kept_cols}
+use Rattle.reading.specs.Entries.{Entry}
+use Rattle.reading.specs.Reading.{State, made, lost, nought, any, open_mark, matrix_mark, slot, is_at, is_bar, makes_matrix, matrix_body, try_matrix, bar_body, next_open_group, next_open_close_group, next_bracket, glyph_of, ends_operand, look, atom_ends, is_bar_symbol, prefixes, Row, Rows, split_column_lines, line_cols, line_cells, kept_cols}
 use Rattle.closers_laws.proofs.Nested.{Fit, Pairing, level-good, intermediates-pairs, next_intermediate-pairs, next_matrix_rows-pairs}
 use Rattle.closers_laws.proofs.OneCell.{single, many}
 use Rattle.lookahead.specs.Tests.{test_at, is_kind}
@@ -20,8 +20,8 @@ use Rattle.lookahead.proofs.Testing.{test_below}
 use Rattle.brackets.specs.Brackets.{bar_at, could_be_matrix_at, set_at, makes_at}
 use Rattle.marks.specs.Marks.{is_marked}
 use Rattle.marks.specs.Marks as entry
-use Rattle.leaves.specs.Leaves.{leaf_ends, leaf_bar}
-use Rattle.closers_pass.specs.declared.cursor.Cursor.{Cursor}
+use Rattle.leaves.specs.Leaves.{leaf_bar}
+use Rattle.reading_cursor.specs.declared.Cursor.{Cursor}
 use Rattle.closers_pass.specs.declared.cursor.Part.{Part}
 use Rattle.closers_pass.specs.declared.cursor.Items.{Items}
 use Rattle.closers_pass.specs.declared.cursor.Tried.{Tried}
@@ -31,7 +31,8 @@ use Rattle.records.specs.Record.{record_words, with_closer, marks_of}
 use Rattle.closers_notes.specs.Notes.{gave_up}
 use Rattle.closers_notes.proofs.Notes.{cleared-kept}
 use Rattle.reading_words.specs.Meet.{Input, Given, readers, stop_of, intermediate_at, items_at, items_from, rows_at}
-use Rattle.closers_pass.specs.Meet.{At, Moves, Gives, is_some, is_more, Grouped, Bracketed, Intermediates, OpenGroup, Bracket, TryMatrix, Bars, onward, seen, rewound, operation_at}
+use Rattle.closers_pass.specs.Meet.{At, Moves, Gives, is_some, is_more, Grouped, Bracketed, Intermediates, OpenGroup, Bracket, TryMatrix, Bars, operation_at, leaf_at}
+use Rattle.reading_cursor.specs.Moves.{onward, seen, rewound}
 use Rattle.closers_pass.specs.Matrix.{Counts, Behind, MatrixRows}
 use Rattle.stores.proofs.Stores.{kept_refl, kept_trans, marks-kept, closer-kept}
 use Rattle.reading_words.proofs.Kit.{shut, ret-closed, bind, ret, at_here, if_true, if_false, tick, row_of, advance-took, same-is}
@@ -241,7 +242,7 @@ module _ {X t : List ℕ} {n : ℕ} {K L : List ℕ} (i : ℕ) {c : Cursor} {g :
   }
 
 -- a bar alone
-alone : {X t : List ℕ} {n : ℕ} {J : List ℕ} {I : Input} {i : ℕ} {en : Entry} (d : Cursor) → i < n → Given X t n J I → get_elem? I.es i ≡ some en → Bracketed X t n I (record { cur = d; some = true; ends = leaf_ends 22; bar = leaf_bar X t J i 22 }) (glyph_of en)
+alone : {X t : List ℕ} {n : ℕ} {J : List ℕ} {I : Input} {i : ℕ} {en : Entry} (d : Cursor) → i < n → Given X t n J I → get_elem? I.es i ≡ some en → Bracketed X t n I (leaf_at X t J i 22 d) (glyph_of en)
 unfolding ends_operand look atom_ends is_bar_symbol leaf_bar
 alone {I = I} {en = en} d inside g there = record { ends = refl; bar = sym (byte-at I.text I.es 124 en g.text (row_of g inside there)) }
 
@@ -255,7 +256,7 @@ more-some end h = let z : ◌≡◌ {A = ℕ} 0 1 = cc in absurd (omega arith)
 more-some (x ▸ l) h = record { head = x; rest = l; is = refl }
 
 module _ {X t : List ℕ} {n : ℕ} {K : List ℕ} (i : ℕ) (stop : Bool) {c : Cursor} (inside : i < n) (before : i < c.pos) (here-n : c.pos ≤ n) (few : n ≤ 4096) (fit : record_words n ≤ length K) where
-  pub bars-known : is_marked (marks_of K i) (entry.open_mark stop) ≡ true → Bars X t n K K i stop c (record { cur = c; some = true; ends = leaf_ends 22; bar = leaf_bar X t K i 22 })
+  pub bars-known : is_marked (marks_of K i) (entry.open_mark stop) ≡ true → Bars X t n K K i stop c (leaf_at X t K i 22 c)
   bars-known h = (
     refl,
     record {
@@ -265,7 +266,7 @@ module _ {X t : List ℕ} {n : ℕ} {K : List ℕ} (i : ℕ) (stop : Bool) {c : 
   )
 
   module _ {J : List ℕ} {g : Items} (h : is_marked (marks_of K i) (entry.open_mark stop) ≡ false) (p : Intermediates X t n K J i stop true true c g) where
-    pub bars-nought : g.some ≡ false → Bars X t n K J i stop c (record { cur = g.cur; some = true; ends = leaf_ends 22; bar = leaf_bar X t J i 22 })
+    pub bars-nought : g.some ≡ false → Bars X t n K J i stop c (leaf_at X t J i 22 (g.cur))
     unfolding prefixes
     bars-nought hc = (
       refl,
@@ -304,7 +305,7 @@ module _ {X t : List ℕ} {n : ℕ} {K : List ℕ} (i : ℕ) (stop : Bool) {c : 
             },
           )
 
-      pub bars-lost : {N : List ℕ} → bar_at X t J n i g.cur.pos ≡ false → N ≡ gave_up i (entry.open_mark stop) c.pos g.cur.pos J → Bars X t n K N i stop c (record { cur = rewound c.pos g.cur; some = true; ends = leaf_ends 22; bar = leaf_bar X t N i 22 })
+      pub bars-lost : {N : List ℕ} → bar_at X t J n i g.cur.pos ≡ false → N ≡ gave_up i (entry.open_mark stop) c.pos g.cur.pos J → Bars X t n K N i stop c (leaf_at X t N i 22 (rewound c.pos g.cur))
       unfolding prefixes
       bars-lost {N} hm gu₀ =
           let gu : N ≡ gave_up i (mark_number (open_mark (stop_of stop))) c.pos g.cur.pos J = subst (λ (m : ℕ). N ≡ gave_up i m c.pos g.cur.pos J) (sym (number-open stop)) gu₀ in (

@@ -18,10 +18,10 @@ use Rattle.lookahead.specs.Tests.{test_at, begins_kind, opening, prefix_stop, ta
 use Rattle.tree.specs.Words.{atom_kind}
 use Rattle.tokens.specs.Lexeme.{Span}
 use Rattle.leaves.specs.Leaves.{leaf_kind, leaf_ends, leaf_bar}
-use Rattle.closers_pass.specs.declared.cursor.Cursor.{Cursor}
+use Rattle.reading_cursor.specs.declared.Cursor.{Cursor}
 use Rattle.closers_pass.specs.declared.cursor.Part.{Part}
 use Rattle.reading_words.specs.Meet.{Input, readers, stop_of, simple_at}
-use Rattle.closers_pass.specs.Meet.{Simple, Begun, Bracket, operation_at}
+use Rattle.closers_pass.specs.Meet.{Simple, Begun, Bracket, operation_at, leaf_at}
 use Rattle.stores.proofs.Stores.{kept_refl, kept_trans}
 use Rattle.reading_words.proofs.Kit.{bind, ret, row_of, test-kind}
 use Rattle.reading_words.proofs.Sorts.{is-Sign, is-Function, is-Unary, is-Binary, is-Open_bracket, is-Open_close_bracket, leaf-of}
@@ -139,7 +139,7 @@ no_true b h k = let z : ◌≡◌ {A = ℕ} 0 1 = cc in omega arith
 
 module _ {X t : List ℕ} {n : ℕ} {K : List ℕ} (i : ℕ) (stop sg : Bool) {c : Cursor} (inside : i < n) where
   pub begun-leaf : {k : ℕ} → k ≡ kind_of t K i → opening k ≡ false → (k ≡ 19 → ⊥) → takes_one k sg ≡ false → test_at t K n (begins_kind stop) i ≡ true → c.pos ≤ n
-      → Begun X t n K K i stop sg c (record { cur = c; some = true; ends = leaf_ends k; bar = leaf_bar X t K i k })
+      → Begun X t n K K i stop sg c (leaf_at X t K i k c)
   unfolding ends_operand look leaf_bar
   begun-leaf {k} hk ho h4 ht hb hn = (
     refl,

@@ -1,4 +1,5 @@
 -- The call on a token list: its answer, case by case, from the records that `prepare` has made.
+use Rattle.std.proofs.Common.{Result, Ok, Err}
 use Prim.Native.Nat.{ℕ, ◌+◌, ◌-◌, ◌^◌, ◌≤◌, ◌<◌}
 use mathlib.Core.Path.{◌≡◌, sym, ap, ◌∙◌, subst}
 use mathlib.Core.Bool.{Bool, true, false, ◌||◌}
@@ -14,8 +15,8 @@ use Rattle.tree.specs.Tree.{nowhere}
 use Rattle.reading.specs.Entries.{entries}
 use Rattle.records.specs.Record.{record_words}
 use Rattle.records.proofs.Same.{Same, same-append}
-use Rattle.entries.specs.declared.Prepared.{Prepared}
-use Rattle.entries.specs.declared.Prepared.TheVariants as prepare
+use Rattle.refusals.specs.declared.refusal.Refusal.{Refusal}
+use Rattle.refusals.specs.Refusal.{refusal_number, numbered}
 use Rattle.entries.specs.Prepared.{work_words, prepared}
 use Rattle.entries.proofs.Answers.{Made, made}
 use Rattle.brackets.specs.Brackets.{has_attempts}
@@ -23,7 +24,7 @@ use Rattle.reading_words.specs.Meet.{Given}
 use Rattle.reading_words.proofs.Records as records
 use Rattle.reading_words.proofs.Records.{input_of, small-takes}
 use Rattle.closers_pass.specs.declared.top.Pass.{Pass}
-use Rattle.closers_pass.specs.declared.top.Pass.TheVariants.{Read, Plain, Refused}
+use Rattle.closers_pass.specs.declared.top.Pass.TheVariants.{Read, Plain}
 use Rattle.closers_pass.specs.Top.{Blank, Passed, Paired}
 use Rattle.closers_pass.specs.Call.{noted, read_to, pass_over, paired_list}
 use Rattle.closers_pass.proofs.Records.{blank-records}
@@ -32,18 +33,18 @@ use Rattle.closers_pass.proofs.Noting.{noted-is}
 mirror : {K L : List ℕ} {i j : ℕ} → Same K i L j → Same L j K i
 mirror s = record { place = sym s.place; close = sym s.close; sep = sym s.sep; marks = sym s.marks; closer = sym s.closer }
 
-module _ (text table : List ℕ) (count : ℕ) (always : Bool) (work : List ℕ) (r : Prepared) (K : List ℕ) (c : (r, K) ≡ prepared table count work) where
-  over : paired_list text table count always work ≡ pass_over text table (token_list count table) always r K
+module _ (text table : List ℕ) (count : ℕ) (always : Bool) (work : List ℕ) (r : Result ℕ Refusal) (K : List ℕ) (c : (numbered r, K) ≡ prepared table count work) where
+  over : paired_list text table count always work ≡ pass_over text table (token_list count table) always (numbered r) K
   unfolding paired_list
-  over = ap (λ (x : Prepared × List ℕ). pass_over text table (token_list count table) always x.0 x.1) (sym c)
+  over = ap (λ (x : Result ℕ ℕ × List ℕ). pass_over text table (token_list count table) always x.0 x.1) (sym c)
 
-  pub pass_refused : (k : ℕ) → r ≡ prepare.Refused k → ◌≡◌ {A = Pass × List ℕ} (Refused k, K) (paired_list text table count always work)
+  pub pass_refused : (k : Refusal) → r ≡ Err k → ◌≡◌ {A = Result Pass ℕ × List ℕ} (Err (refusal_number k), K) (paired_list text table count always work)
   unfolding pass_over
-  pass_refused k q = sym (over ∙ ap (λ (a : Prepared). pass_over text table (token_list count table) always a K) q)
+  pass_refused k q = sym (over ∙ ap (λ (a : Result ℕ Refusal). pass_over text table (token_list count table) always (numbered a) K) q)
 
-  module _ (n : ℕ) (q : r ≡ prepare.Entries n) where
+  module _ (n : ℕ) (q : r ≡ Ok n) where
     facts : Made table count work n K
-    facts = made table count work n K (sym (ap (λ (a : Prepared). (a, K)) q) ∙ c)
+    facts = made table count work n K (sym (ap (λ (a : Result ℕ Refusal). (numbered a, K)) q) ∙ c)
 
     pub few : n ≤ 4096
     few = omega (arith, facts.number, facts.few, others-few count table)
@@ -54,9 +55,9 @@ module _ (text table : List ℕ) (count : ℕ) (always : Bool) (work : List ℕ)
     pub lent_fits : record_words n ≤ length (take (record_words n) K)
     lent_fits = omega (arith, length-take-le (record_words n) K fit)
 
-    pub pass_plain : (w : Bool) → w ≡ (always || has_attempts text table K n) → w ≡ false → ◌≡◌ {A = Pass × List ℕ} (Plain n, K) (paired_list text table count always work)
+    pub pass_plain : (w : Bool) → w ≡ (always || has_attempts text table K n) → w ≡ false → ◌≡◌ {A = Result Pass ℕ × List ℕ} (Ok (Plain n), K) (paired_list text table count always work)
     unfolding pass_over
-    pass_plain w e z = sym (over ∙ ap (λ (a : Prepared). pass_over text table (token_list count table) always a K) q ∙ rw (sym e ∙ z))
+    pass_plain w e z = sym (over ∙ ap (λ (a : Result ℕ Refusal). pass_over text table (token_list count table) always (numbered a) K) q ∙ rw (sym e ∙ z))
 
     -- what the pass leaves of the records, which are lent to it alone, and the words behind them
     module _ (takes : ℕ) (P : List ℕ) (p : Paired text table n (take (record_words n) K) P takes) where
@@ -98,8 +99,8 @@ module _ (text table : List ℕ) (count : ℕ) (always : Bool) (work : List ℕ)
           rw z at (get_or-append-add P (drop (record_words n) K) (x - record_words n) 0) ∙ rw w at (get_or-drop (record_words n) K (x - record_words n) 0))
 
       pub pass_read : (w : Bool) → w ≡ (always || has_attempts text table K n) → w ≡ true → takes < 2 ^ 32
-          → ◌≡◌ {A = Pass × List ℕ} (Read n takes, P ++ drop (record_words n) K) (paired_list text table count always work)
+          → ◌≡◌ {A = Result Pass ℕ × List ℕ} (Ok (Read n takes), P ++ drop (record_words n) K) (paired_list text table count always work)
       unfolding pass_over
       pass_read w e z small =
           let k : takes ≡ (read_to text ts).takes = sym (mod-eq_of_lt small) ∙ passed.count ∙ small-takes text (entries nowhere ts) (records.few-entries text table count facts.few facts.words K _ facts.filled) in
-          rw (k, words_are) (sym (over ∙ ap (λ (a : Prepared). pass_over text table ts always a K) q ∙ rw (sym e ∙ z)))
+          rw (k, words_are) (sym (over ∙ ap (λ (a : Result ℕ Refusal). pass_over text table ts always (numbered a) K) q ∙ rw (sym e ∙ z)))

@@ -15,12 +15,15 @@ use Rattle.reading.specs.Entries.{Entry}
 use Rattle.reading.specs.Reading.{State, intermediates, row_cells, next_matrix_row, prefixes, is_column_line, kept_cols, line_cells}
 use Rattle.lookahead.specs.Tests.{test_at, is_kind}
 use Rattle.lookahead.proofs.Testing.{test_below}
-use Rattle.closers_pass.specs.declared.cursor.Cursor.{Cursor}
+use Rattle.reading_cursor.specs.declared.Cursor.{Cursor}
+use Rattle.std.proofs.Common.{Some, None}
+use Rattle.std.specs.Bool.{then_some}
 use Rattle.closers_pass.specs.declared.cursor.Items.{Items}
 use Rattle.closers_pass.specs.declared.cursor.Cells.{Cells}
 use Rattle.records.specs.Record.{record_words, with_closer}
 use Rattle.reading_words.specs.Meet.{Input, readers, cells_at, row_at}
-use Rattle.closers_pass.specs.Meet.{At, Moves, Each, Intermediates, onward, passing}
+use Rattle.closers_pass.specs.Meet.{At, Moves, Each, Intermediates}
+use Rattle.reading_cursor.specs.Moves.{onward, passing}
 use Rattle.closers_pass.specs.Matrix.{Counts, Fails, RowCells, MatrixRow}
 use Rattle.stores.proofs.Stores.{kept_refl, kept_trans, closer-kept}
 use Rattle.reading_words.proofs.Kit.{shut, ret-closed, bind, ret, at_here, if_false, tick, kind-is}
@@ -158,7 +161,7 @@ module _ {X t : List ℕ} {n : ℕ} {K : List ℕ} (c : Cursor) where
         })
 
     module _ (h : test_at t J n (is_kind 3) g.cur.pos ≡ false) where
-      shut-cells : test_at t J n (is_kind 21) g.cur.pos ≡ true → RowCells X t n K J c (record { cur = passing n g.cur; count = num + 1; kept = cond g.line kept (kept + 1); shut = true; right = g.cur.pos })
+      shut-cells : test_at t J n (is_kind 21) g.cur.pos ≡ true → RowCells X t n K J c (record { cur = passing n g.cur; count = num + 1; kept = cond g.line kept (kept + 1); close = Some g.cur.pos })
       shut-cells k =
           let b : g.cur.pos < n = test_below t J n (is_kind 21) g.cur.pos k in
           rw (passing-in n g.cur b) (
@@ -181,7 +184,7 @@ module _ {X t : List ℕ} {n : ℕ} {K : List ℕ} (c : Cursor) where
             ),
           )
 
-      broken-cells : test_at t J n (is_kind 21) g.cur.pos ≡ false → RowCells X t n K J c (record { cur = passing n g.cur; count = num + 1; kept = cond g.line kept (kept + 1); shut = false; right = g.cur.pos })
+      broken-cells : test_at t J n (is_kind 21) g.cur.pos ≡ false → RowCells X t n K J c (record { cur = passing n g.cur; count = num + 1; kept = cond g.line kept (kept + 1); close = None })
       broken-cells k = (
         record { within = passing-within n g.cur p.moves.within; on = omega (arith, i.moves.on, p.moves.on, passing-on n g.cur); depth = passing-depth n g.cur ∙ p.moves.depth ∙ i.moves.depth; kept = kept_trans i.moves.kept p.moves.kept },
         λ I s at.
@@ -207,14 +210,14 @@ module _ {X t : List ℕ} {n : ℕ} {K : List ℕ} (c : Cursor) where
                 at = q.at;
               })
 
-      pub cells-ended : (r : Bool) → r ≡ test_at t J n (is_kind 21) g.cur.pos → RowCells X t n K J c (record { cur = passing n g.cur; count = num + 1; kept = cond g.line kept (kept + 1); shut = r; right = g.cur.pos })
+      pub cells-ended : (r : Bool) → r ≡ test_at t J n (is_kind 21) g.cur.pos → RowCells X t n K J c (record { cur = passing n g.cur; count = num + 1; kept = cond g.line kept (kept + 1); close = then_some r g.cur.pos })
       cells-ended true e = shut-cells (sym e)
       cells-ended false e = broken-cells (sym e)
 
 -- a row: its bracket and its cells
 module _ (X t : List ℕ) (n : ℕ) (K : List ℕ) (c : Cursor) where
-  pub row-shut : {L J : List ℕ} (k j q : ℕ) (d : Cursor) → n ≤ 4096 → record_words n ≤ length K → test_at t K n (is_kind 20) c.pos ≡ true → RowCells X t n K L (onward c) (record { cur = d; count = k; kept = j; shut = true; right = q }) → J ≡ with_closer L c.pos (n - q)
-      → MatrixRow X t n K J c (record { cur = d; count = k; kept = j; shut = true; right = q })
+  pub row-shut : {L J : List ℕ} (k j q : ℕ) (d : Cursor) → n ≤ 4096 → record_words n ≤ length K → test_at t K n (is_kind 20) c.pos ≡ true → RowCells X t n K L (onward c) (record { cur = d; count = k; kept = j; close = Some q }) → J ≡ with_closer L c.pos (n - q)
+      → MatrixRow X t n K J c (record { cur = d; count = k; kept = j; close = Some q })
   row-shut {L} {J} k j q d few fit h p hj =
       let b : c.pos < n = test_below t K n (is_kind 20) c.pos h in (
         record { within = p.0.within; on = omega (arith, p.0.on); depth = p.0.depth; kept = kept_trans p.0.kept (rw hj (closer-kept L c.pos _)) },
@@ -236,9 +239,9 @@ module _ (X t : List ℕ) (n : ℕ) (K : List ℕ) (c : Cursor) where
         ),
       )
 
-  pub row-broken : {L : List ℕ} (k j q : ℕ) (d : Cursor) → test_at t K n (is_kind 20) c.pos ≡ true → RowCells X t n K L (onward c) (record { cur = d; count = k; kept = j; shut = false; right = q })
-      → MatrixRow X t n K L c (record { cur = d; count = k; kept = j; shut = false; right = q })
-  row-broken k j q d h p =
+  pub row-broken : {L : List ℕ} (k j : ℕ) (d : Cursor) → test_at t K n (is_kind 20) c.pos ≡ true → RowCells X t n K L (onward c) (record { cur = d; count = k; kept = j; close = None })
+      → MatrixRow X t n K L c (record { cur = d; count = k; kept = j; close = None })
+  row-broken k j d h p =
       let b : c.pos < n = test_below t K n (is_kind 20) c.pos h in (
         record { within = p.0.within; on = omega (arith, p.0.on); depth = p.0.depth; kept = p.0.kept },
         λ I s at.
@@ -252,13 +255,13 @@ module _ (X t : List ℕ) (n : ℕ) (K : List ℕ) (c : Cursor) where
       )
 
   -- by the flag
-  pub row-met : {L J : List ℕ} (g : Cells) → n ≤ 4096 → record_words n ≤ length K → test_at t K n (is_kind 20) c.pos ≡ true → RowCells X t n K L (onward c) g → g.shut ≡ true → J ≡ with_closer L c.pos (n - g.right) → MatrixRow X t n K J c g
-  row-met {L} {J} g few fit h p e hj = rw e (row-shut g.count g.kept g.right g.cur few fit h (rw e at p) hj)
+  pub row-met : {L J : List ℕ} (g : Cells) {q : ℕ} → n ≤ 4096 → record_words n ≤ length K → test_at t K n (is_kind 20) c.pos ≡ true → RowCells X t n K L (onward c) g → g.close ≡ Some q → J ≡ with_closer L c.pos (n - q) → MatrixRow X t n K J c g
+  row-met {L} {J} g {q} few fit h p e hj = rw e (row-shut g.count g.kept q g.cur few fit h (rw e at p) hj)
 
-  pub row-unmet : {L : List ℕ} (g : Cells) → test_at t K n (is_kind 20) c.pos ≡ true → RowCells X t n K L (onward c) g → g.shut ≡ false → MatrixRow X t n K L c g
-  row-unmet {L} g h p e = rw e (row-broken g.count g.kept g.right g.cur h (rw e at p))
+  pub row-unmet : {L : List ℕ} (g : Cells) → test_at t K n (is_kind 20) c.pos ≡ true → RowCells X t n K L (onward c) g → g.close ≡ None → MatrixRow X t n K L c g
+  row-unmet {L} g h p e = rw e (row-broken g.count g.kept g.cur h (rw e at p))
 
-  pub row-none : test_at t K n (is_kind 20) c.pos ≡ false → c.pos ≤ n → MatrixRow X t n K K c (record { cur = passing n c; count = 0; kept = 0; shut = false; right = 0 })
+  pub row-none : test_at t K n (is_kind 20) c.pos ≡ false → c.pos ≤ n → MatrixRow X t n K K c (record { cur = passing n c; count = 0; kept = 0; close = None })
   unfolding next_matrix_row
   row-none h k = (
     record { within = passing-within n c k; on = omega (arith, passing-on n c); depth = passing-depth n c; kept = kept_refl K },

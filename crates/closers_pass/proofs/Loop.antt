@@ -10,14 +10,16 @@ use Rattle.tree.specs.Tree.{Head, Atom, Node, node, Nodes, end, ◌▸◌, ◌�
 use Rattle.reading.specs.Entries.{Entry}
 use Rattle.reading.specs.Reading.{State, at_open_close, next_intermediate, prefixes, spaced, is_column_line}
 use Rattle.closers_pass.specs.declared.cursor.Part.{Part}
+use Rattle.closers_pass.specs.declared.cursor.Node as part
 use Rattle.closers_pass.specs.declared.cursor.Items.{Items}
 use Rattle.tokens.specs.Refusals.{bit}
 use Rattle.stores.proofs.Stores.{kept_refl, kept_trans}
 use Rattle.closers_pass.proofs.Simple.{got, lack, runs_as}
-use Rattle.closers_pass.specs.declared.cursor.Cursor.{Cursor}
+use Rattle.reading_cursor.specs.declared.Cursor.{Cursor}
 use Rattle.brackets.specs.Brackets.{bar_at}
 use Rattle.reading_words.specs.Meet.{Input, readers, Until, last_after, is_none, stop_of, items_at, items_from}
-use Rattle.closers_pass.specs.Meet.{At, Moves, Each, Gives, Listed, Intermediate, Intermediates, is_more, line_of, line_part, ends_of}
+use Rattle.std.proofs.Common.{Some, None}
+use Rattle.closers_pass.specs.Meet.{has, ends_in, bar_in, At, Moves, Each, Gives, Listed, Intermediate, Intermediates, is_more, line_of, line_part, ends_of}
 use Rattle.reading_words.proofs.Steps.{bar-kept, ended, ended_is, from_start, joined, last_more, nodes-nil, rejoin, turn-found, turn-met, turn-nothing}
 
 -- The Space kept before an item, as nodes, whatever follows.
@@ -106,10 +108,11 @@ module _ {X t : List ℕ} {n : ℕ} {K : List ℕ} (u : ℕ) (stop first₀ sign
 
   module _ {L J : List ℕ} {cur : Cursor} {first sm line sign : Bool} {g : Part} (i : Inv X t n K L u stop first₀ sign₀ c cur first sm line sign) (unmet : bar_at X t L n (cond first n u) cur.pos ≡ false)
       (p : Intermediate X t n L J stop sign cur g) where
-    pub along-more : g.some ≡ true → Inv X t n K J u stop first₀ sign₀ c g.cur false true (cond sm false g.bar) (not g.ends)
+    pub along-more : {x : part.Node} → g.node ≡ Some x → Inv X t n K J u stop first₀ sign₀ c g.cur false true (cond sm false x.bar) (not x.ends)
     unfolding prefixes
-    along-more h =
-        let w : bit g.some ≡ 1 = ap bit h in
+    along-more {x} e =
+        let h : has g.node ≡ true = ap has e in
+        let w : bit (has g.node) ≡ 1 = ap bit h in
         record {
           moves = record { within = p.moves.within; on = omega (arith, p.moves.on, i.moves.on); depth = p.moves.depth ∙ i.moves.depth; kept = kept_trans i.moves.kept p.moves.kept };
           later = λ h. refl;
@@ -134,15 +137,15 @@ module _ {X t : List ℕ} {n : ℕ} {K : List ℕ} (u : ℕ) (stop first₀ sign
                 enough = omega (arith, l1, a.enough, p.moves.on, p.moves.within);
                 at = q.at;
                 is_more' = more-snoc a.acc k.nodes z.node;
-                is_line = λ hn0. line-more I a.acc k.nodes z.node sm g.bar a.is_more' (q.besides.bar ∙ ap (line_of I) z.is) (λ e. k.first (ap is_none (before-start start a.before a.acc a.last e) ∙ hn0));
+                is_line = λ hn0. line-more I a.acc k.nodes z.node sm x.bar a.is_more' (sym (ap bar_in e) ∙ q.besides.bar ∙ ap (line_of I) z.is) (λ e. k.first (ap is_none (before-start start a.before a.acc a.last e) ∙ hn0));
                 is_first = refl;
-                is_sign = ap not (q.besides.ends ∙ ap ends_of z.is);
+                is_sign = ap not (sym (ap ends_in e) ∙ q.besides.ends ∙ ap ends_of z.is);
                 last = sym (last_more start a.acc k.nodes z.node);
               };
         }
 
-    pub along-nothing : g.some ≡ false → Intermediates X t n K J u stop first₀ sign₀ c (record { cur = g.cur; some = sm; line = line; sign = sign; met = false })
-    along-nothing h = record {
+    pub along-nothing : g.node ≡ None → Intermediates X t n K J u stop first₀ sign₀ c (record { cur = g.cur; some = sm; line = line; sign = sign; met = false })
+    along-nothing e = let h : has g.node ≡ false = ap has e in record {
       moves = record { within = p.moves.within; on = omega (arith, p.moves.on, i.moves.on); depth = p.moves.depth ∙ i.moves.depth; kept = kept_trans i.moves.kept p.moves.kept };
       met = λ hs. sym (ap (bar_at X t J n u) (p.stays h) ∙ bar-kept X t n u cur.pos p.moves.kept ∙ subst (λ (b : Bool). bar_at X t L n (cond b n u) cur.pos ≡ false) (i.later hs) unmet);
       means = λ I s at f hn until hu start hf hs.

@@ -16,11 +16,13 @@ use Rattle.reading.specs.Reading as reading
 use Rattle.lookahead.specs.Tests.{test_at, is_kind}
 use Rattle.lookahead.proofs.Testing.{test_below}
 use Rattle.rows.specs.Rows.{pair_at, round_at}
-use Rattle.closers_pass.specs.declared.cursor.Cursor.{Cursor}
+use Rattle.reading_cursor.specs.declared.Cursor.{Cursor}
+use Rattle.std.proofs.Common.{Some, None}
 use Rattle.closers_pass.specs.declared.cursor.Cells.{Cells}
 use Rattle.closers_pass.specs.declared.cursor.Others as code
 use Rattle.reading_words.specs.Meet.{Input, readers, First, more_at}
-use Rattle.closers_pass.specs.Meet.{At, Moves, Each, onward}
+use Rattle.closers_pass.specs.Meet.{At, Moves, Each}
+use Rattle.reading_cursor.specs.Moves.{onward}
 use Rattle.closers_pass.specs.Matrix.{Behind, MatrixRow, MoreRows, MatrixRows}
 use Rattle.stores.proofs.Stores.{kept_refl, kept_trans}
 use Rattle.reading_words.proofs.Kit.{bind, ret, if_true, if_false, tick}
@@ -79,7 +81,7 @@ module _ {X t : List ℕ} {n : ℕ} {K : List ℕ} (cols : ℕ) (round : Bool) (
       inside : cur.pos < n
       inside = test_below t L n (is_kind 3) cur.pos k
 
-      broken : MatrixRow X t n L J (onward cur) (record { cur = d; count = m; kept = j; shut = false; right = q }) → MoreRows X t n K J cols round c (record { cur = d; done = false; more = more })
+      broken : MatrixRow X t n L J (onward cur) (record { cur = d; count = m; kept = j; close = None }) → MoreRows X t n K J cols round c (record { cur = d; done = false; more = more })
       broken p = (
         record { within = p.0.within; on = omega (arith, p.0.on, i.moves.on); depth = p.0.depth ∙ i.moves.depth; kept = kept_trans i.moves.kept p.0.kept },
         λ I s at h fst.
@@ -93,7 +95,7 @@ module _ {X t : List ℕ} {n : ℕ} {K : List ℕ} (cols : ℕ) (round : Bool) (
             },
       )
 
-      module _ (p : MatrixRow X t n L J (onward cur) (record { cur = d; count = m; kept = j; shut = true; right = q })) where
+      module _ (p : MatrixRow X t n L J (onward cur) (record { cur = d; count = m; kept = j; close = Some q })) where
         alike-row : {I : Input} {s : State} {h : reading.Row} (row : reading.Row) → At X t n J d.pos d.takes I s → First I cols round h → get_elem? I.es (cur.pos + 1) ≡ some row.left → get_elem? I.es q ≡ some row.right → m ≡ count row.cells
             → alike I.text I.es h row ≡ cond (eqb cols m) (pair_at X t J round (cur.pos + 1) q) false
         alike-row {I} {s} {h} row a fst tl tr hm = alike-pair I round h row fst.pair fst.number hm ∙ ap (λ (b : Bool). cond (eqb cols m) b false) (pair_is round row a.given p.1.1 p.1.0.inside tl tr)
@@ -137,26 +139,26 @@ module _ {X t : List ℕ} {n : ℕ} {K : List ℕ} (cols : ℕ) (round : Bool) (
 
     -- by the flags
     module _ (J : List ℕ) (g : Cells) (k : test_at t L n (is_kind 3) cur.pos ≡ true) (p : MatrixRow X t n L J (onward cur) g) where
-      pub rows-broken : g.shut ≡ false → MoreRows X t n K J cols round c (record { cur = g.cur; done = false; more = more })
-      rows-broken e = broken J g.count g.kept g.right g.cur k (rw e at p)
+      pub rows-broken : g.close ≡ None → MoreRows X t n K J cols round c (record { cur = g.cur; done = false; more = more })
+      rows-broken e = broken J g.count g.kept 0 g.cur k (rw e at p)
 
-      pub rows-count : g.shut ≡ true → (g.count ≡ cols → ⊥) → MoreRows X t n K J cols round c (record { cur = g.cur; done = false; more = more })
-      rows-count e h = differ J g.count g.kept g.right g.cur k (rw e at p) (rw (ne_eqb cols g.count (λ z. h (sym z))))
+      pub rows-count : {q : ℕ} → g.close ≡ Some q → (g.count ≡ cols → ⊥) → MoreRows X t n K J cols round c (record { cur = g.cur; done = false; more = more })
+      rows-count {q} e h = differ J g.count g.kept q g.cur k (rw e at p) (rw (ne_eqb cols g.count (λ z. h (sym z))))
 
-      module _ (e : g.shut ≡ true) (h : g.count ≡ cols) where
-        pub rows-differ : pair_at X t J round (cur.pos + 1) g.right ≡ false → MoreRows X t n K J cols round c (record { cur = g.cur; done = false; more = more })
-        rows-differ df = differ J g.count g.kept g.right g.cur k (rw e at p) (rw (eq-eqb cols g.count (sym h)) df)
+      module _ {q : ℕ} (e : g.close ≡ Some q) (h : g.count ≡ cols) where
+        pub rows-differ : pair_at X t J round (cur.pos + 1) q ≡ false → MoreRows X t n K J cols round c (record { cur = g.cur; done = false; more = more })
+        rows-differ df = differ J g.count g.kept q g.cur k (rw e at p) (rw (eq-eqb cols g.count (sym h)) df)
 
-        pub rows_more : pair_at X t J round (cur.pos + 1) g.right ≡ true → Inv X t n K J cols round c g.cur true
-        rows_more df = same_row J g.count g.kept g.right g.cur k (rw e at p) (rw (eq-eqb cols g.count (sym h)) df)
+        pub rows_more : pair_at X t J round (cur.pos + 1) q ≡ true → Inv X t n K J cols round c g.cur true
+        rows_more df = same_row J g.count g.kept q g.cur k (rw e at p) (rw (eq-eqb cols g.count (sym h)) df)
 
 -- all rows
 module _ (X t : List ℕ) (n : ℕ) (K L : List ℕ) (c : Cursor) (m j q : ℕ) (d : Cursor) where
-  broken-first : MatrixRow X t n K L c (record { cur = d; count = m; kept = j; shut = false; right = q }) → MatrixRows X t n K L c (record { cur = d; done = false; more = false; cols = m; kept = j })
+  broken-first : MatrixRow X t n K L c (record { cur = d; count = m; kept = j; close = None }) → MatrixRows X t n K L c (record { cur = d; done = false; more = false; cols = m; kept = j })
   unfolding next_matrix_rows
   broken-first p = (p.0, λ I s at. let w = p.1 I s at in record { state = w.state; runs = bind _ _ s w.runs ∙ ret _ _; at = w.at })
 
-  module _ (p : MatrixRow X t n K L c (record { cur = d; count = m; kept = j; shut = true; right = q })) where
+  module _ (p : MatrixRow X t n K L c (record { cur = d; count = m; kept = j; close = Some q })) where
     differs_first : pair_at X t L (round_at X t L c.pos) c.pos q ≡ false → MatrixRows X t n K L c (record { cur = d; done = false; more = false; cols = m; kept = j })
     unfolding next_matrix_rows
     differs_first df = (
@@ -197,11 +199,11 @@ module _ (X t : List ℕ) (n : ℕ) (K L : List ℕ) (c : Cursor) (m j q : ℕ) 
       )
 
 module _ (X t : List ℕ) (n : ℕ) (K L : List ℕ) (c : Cursor) (g : Cells) (p : MatrixRow X t n K L c g) where
-  pub matrix-broken : g.shut ≡ false → MatrixRows X t n K L c (record { cur = g.cur; done = false; more = false; cols = g.count; kept = g.kept })
-  matrix-broken e = broken-first X t n K L c g.count g.kept g.right g.cur (rw e at p)
+  pub matrix-broken : g.close ≡ None → MatrixRows X t n K L c (record { cur = g.cur; done = false; more = false; cols = g.count; kept = g.kept })
+  matrix-broken e = broken-first X t n K L c g.count g.kept 0 g.cur (rw e at p)
 
-  pub matrix-differs : g.shut ≡ true → pair_at X t L (round_at X t L c.pos) c.pos g.right ≡ false → MatrixRows X t n K L c (record { cur = g.cur; done = false; more = false; cols = g.count; kept = g.kept })
-  matrix-differs e df = differs_first X t n K L c g.count g.kept g.right g.cur (rw e at p) df
+  pub matrix-differs : {q : ℕ} → g.close ≡ Some q → pair_at X t L (round_at X t L c.pos) c.pos q ≡ false → MatrixRows X t n K L c (record { cur = g.cur; done = false; more = false; cols = g.count; kept = g.kept })
+  matrix-differs {q} e df = differs_first X t n K L c g.count g.kept q g.cur (rw e at p) df
 
-  pub matrix-more : (J : List ℕ) (h : code.Others) → g.shut ≡ true → pair_at X t L (round_at X t L c.pos) c.pos g.right ≡ true → MoreRows X t n L J g.count (round_at X t L c.pos) g.cur h → MatrixRows X t n K J c (record { cur = h.cur; done = h.done; more = h.more; cols = g.count; kept = g.kept })
-  matrix-more J h e bk p2 = by_done X t n K L c g.count g.kept g.right g.cur (rw e at p) bk J h.cur h.more h.done p2
+  pub matrix-more : (J : List ℕ) (h : code.Others) {q : ℕ} → g.close ≡ Some q → pair_at X t L (round_at X t L c.pos) c.pos q ≡ true → MoreRows X t n L J g.count (round_at X t L c.pos) g.cur h → MatrixRows X t n K J c (record { cur = h.cur; done = h.done; more = h.more; cols = g.count; kept = g.kept })
+  matrix-more J h {q} e bk p2 = by_done X t n K L c g.count g.kept q g.cur (rw e at p) bk J h.cur h.more h.done p2

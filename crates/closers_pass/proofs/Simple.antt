@@ -12,12 +12,17 @@ use Rattle.reading.specs.Entries.{Entry}
 use Rattle.reading.specs.Reading.{State, M, argument, begun, next_simple, next_script, next_script_func, next_intermediate, or_missing, or_missing_part, ends_operand, ends_first, ends_second, look, is_unscripted}
 use Rattle.lookahead.specs.Tests.{test_at, is_kind, marks_kind, heads_kind, begins_kind}
 use Rattle.lookahead.proofs.Testing.{test_below}
-use Rattle.closers_pass.specs.declared.cursor.Cursor.{Cursor}
+use Rattle.reading_cursor.specs.declared.Cursor.{Cursor}
 use Rattle.closers_pass.specs.declared.cursor.Part.{Part}
+use Rattle.closers_pass.specs.declared.cursor.Node as part
 use Rattle.closers_pass.specs.declared.cursor.Scripted as code
 use Rattle.tokens.specs.Refusals.{bit}
 use Rattle.reading_words.specs.Meet.{Input, readers, stop_of}
-use Rattle.closers_pass.specs.Meet.{is_some, ends_of, bar_of, line_of, line_part, scripts, Simple, ScriptFunc, Term, Intermediate, Scripts, Headed, Begun, onward, seen, inner, at_depth, nothing_at, operation_at, part_at}
+use Rattle.std.specs.declared.option.Option as rust
+use Rattle.std.proofs.Common.{Some, None, not}
+use Rattle.std.specs.Option as option
+use Rattle.closers_pass.specs.Meet.{has, ends_in, bar_in, is_some, ends_of, bar_of, line_of, line_part, scripts, Simple, ScriptFunc, Term, Intermediate, Scripts, Headed, Begun, nothing_at, operation_at, part_at}
+use Rattle.reading_cursor.specs.Moves.{onward, seen, inner, at_depth}
 use Rattle.stores.proofs.Stores.{kept_refl, kept_trans}
 use Rattle.reading_words.proofs.Kit.{bind, ret, at_here, if_true, if_false, tick, row_of, same-is, same-marks, same-heads, same-begins, kind-is, level-simple, deep-simple, deep-script_func}
 use Rattle.closers_pass.proofs.Kit.{at_tick, took, passed}
@@ -42,6 +47,17 @@ no_false h = let z : ◌≡◌ {A = ℕ} 0 1 = cc in absurd (omega arith)
 
 pub runs_as : {A : Type 0} {r : A × State} {u : State} {a b : A} → r ≡ (a, u) → a ≡ b → r ≡ (b, u)
 runs_as {u = u} h k = h ∙ ap (λ x. (x, u)) k
+
+-- no node, or one, by the library's test
+module _ (o : rust.Option part.Node) where
+  by_test : has o ≡ option.is_some o
+  by_test = elim o as (λ o. has o ≡ option.is_some o) [ None ↦ refl | Some x ↦ refl ]
+
+  pub absent : {r : Bool} → option.is_some o ≡ not r → r ≡ true → has o ≡ false
+  absent e h = by_test ∙ e ∙ ap not h
+
+  pub present : {r : Bool} → option.is_some o ≡ not r → r ≡ false → has o ≡ true
+  present e h = by_test ∙ e ∙ ap not h
 
 -- too deep
 module _ {X t : List ℕ} {n : ℕ} {K : List ℕ} (stop sg : Bool) {c : Cursor} (h : 256 ≤ c.depth) (k : c.pos ≤ n) where
@@ -74,7 +90,7 @@ module _ {X t : List ℕ} {n : ℕ} {K : List ℕ} (stop sg : Bool) {c : Cursor}
   pub simple-begun : {L : List ℕ} {g : Part} → test_at t K n (begins_kind stop) c.pos ≡ true → Begun X t n K L c.pos stop sg (inner (onward c)) g → Simple X t n K L stop sg c (part_at c.depth g)
   unfolding next_simple
   simple-begun {L} {g} h p =
-      let z : bit g.some ≡ 1 = ap bit p.0 in
+      let z : bit (has g.node) ≡ 1 = ap bit p.0 in
       record {
         moves = record { within = p.1.moves.within; on = omega (arith, p.1.moves.on); depth = refl; kept = p.1.moves.kept };
         stays = λ f. no_false (sym p.0 ∙ f);
@@ -157,20 +173,22 @@ unscripted-is Script.super b = refl
 unscripted-is Script.subsuper b = refl
 
 module _ {X t : List ℕ} {n : ℕ} {K L : List ℕ} (stop sg : Bool) {c : Cursor} {g : Part} (p : Simple X t n K L stop sg c g) where
-  pub term_nothing : g.some ≡ false → Term X t n K L stop sg c g
-  term_nothing h = record {
+  pub term_nothing : g.node ≡ None → Term X t n K L stop sg c g
+  term_nothing e = record {
     moves = p.moves;
     stays = p.stays;
     means = λ I s at.
         let q = p.means I s at in
-        let z = lack q.answer (sym h ∙ q.besides.some) in
-        record { answer = none; state = q.state; runs = bind _ _ s (runs_as q.runs z) ∙ ret _ _; at = q.at; besides = record { some = h; ends = q.besides.ends ∙ ap ends_of z; bar = q.besides.bar ∙ ap (bar_of I) z } };
+        let z = lack q.answer (sym (ap has e) ∙ q.besides.some) in
+        record { answer = none; state = q.state; runs = bind _ _ s (runs_as q.runs z) ∙ ret _ _; at = q.at; besides = record { some = ap has e; ends = q.besides.ends ∙ ap ends_of z; bar = q.besides.bar ∙ ap (bar_of I) z } };
   }
 
-  pub term_scripted : {J : List ℕ} {m : code.Scripted} → g.some ≡ true → Scripts X t n L J g.cur m → Term X t n K J stop sg c (record { cur = m.cur; some = true; ends = g.ends; bar = cond m.some false g.bar })
+  pub term_scripted : {J : List ℕ} {m : code.Scripted} {x : part.Node} → g.node ≡ Some x → Scripts X t n L J g.cur m
+      → Term X t n K J stop sg c (record { cur = m.cur; node = Some (record { ends = x.ends; bar = cond m.some false x.bar }) })
   unfolding ends_operand look ends_first
-  term_scripted {J} {m} h p2 =
-      let w : bit g.some ≡ 1 = ap bit h in
+  term_scripted {J} {m} {x} e p2 =
+      let h : has g.node ≡ true = ap has e in
+      let w : bit (has g.node) ≡ 1 = ap bit h in
       record {
         moves = record { within = p2.moves.within; on = omega (arith, p.moves.on, p2.moves.on); depth = p2.moves.depth ∙ p.moves.depth; kept = kept_trans p.moves.kept p2.moves.kept };
         stays = λ f. no_false f;
@@ -183,7 +201,7 @@ module _ {X t : List ℕ} {n : ℕ} {K L : List ℕ} (stop sg : Bool) {c : Curso
               state = q2.state;
               runs = bind _ _ s (runs_as q.runs z.is) ∙ bind _ _ _ q2.runs ∙ ret _ _;
               at = q2.at;
-              besides = record { some = refl; ends = q.besides.ends ∙ ap ends_of z.is; bar = ap (λ (b : Bool). cond b false g.bar) q2.besides ∙ ap (cond (scripts q2.answer.0) false) (q.besides.bar ∙ ap (bar_of I) z.is) ∙ unscripted-is q2.answer.0 _ };
+              besides = record { some = refl; ends = sym (ap ends_in e) ∙ q.besides.ends ∙ ap ends_of z.is; bar = ap (λ (b : Bool). cond b false x.bar) q2.besides ∙ ap (cond (scripts q2.answer.0) false) (sym (ap bar_in e) ∙ q.besides.bar ∙ ap (bar_of I) z.is) ∙ unscripted-is q2.answer.0 _ };
             };
       }
 
@@ -255,7 +273,7 @@ ends-part none = refl
 ends-part (some x) = refl
 
 module _ {X t : List ℕ} {n : ℕ} {K L : List ℕ} (stop sg : Bool) {c : Cursor} {g : Part} (p : ScriptFunc X t n K L stop sg c g) where
-  pub item-nothing : g.some ≡ false → Intermediate X t n K L stop sg c g
+  pub item-nothing : has g.node ≡ false → Intermediate X t n K L stop sg c g
   unfolding next_intermediate
   item-nothing h = record {
     moves = p.moves;
@@ -266,25 +284,25 @@ module _ {X t : List ℕ} {n : ℕ} {K L : List ℕ} (stop sg : Bool) {c : Curso
         record { answer = none; state = q.state; runs = bind _ _ s (runs_as q.runs z) ∙ ret _ _; at = q.at; besides = record { some = h; ends = q.besides.ends ∙ ap ends_of z; bar = q.besides.bar ∙ ap (line_of I) z } };
   }
 
-  module _ (h : g.some ≡ true) where
-    pub item-plain : test_at t L n (is_kind 0) g.cur.pos ≡ false → Intermediate X t n K L stop sg c (record { cur = seen n g.cur; some = true; ends = g.ends; bar = g.bar })
+  module _ (h : has g.node ≡ true) where
+    pub item-plain : test_at t L n (is_kind 0) g.cur.pos ≡ false → Intermediate X t n K L stop sg c (record { cur = seen n g.cur; node = g.node })
     unfolding next_intermediate
     item-plain k =
-        let w : bit g.some ≡ 1 = ap bit h in
+        let w : bit (has g.node) ≡ 1 = ap bit h in
         record {
           moves = record { within = p.moves.within; on = omega (arith, p.moves.on); depth = p.moves.depth; kept = p.moves.kept };
-          stays = λ f. no_false f;
+          stays = λ f. no_false (sym h ∙ f);
           means = λ I s at.
               let q = p.means I s at in
               let z = got q.answer (sym h ∙ q.besides.some) in
               let r = passed (is_kind 0) q.at (same-is token.Frac) k in
-              record { answer = some z.node; state = r.state; runs = bind _ _ s (runs_as q.runs z.is) ∙ bind _ _ _ r.runs ∙ ret _ _; at = r.at; besides = record { some = refl; ends = q.besides.ends ∙ ap ends_of z.is; bar = q.besides.bar ∙ ap (line_of I) z.is } };
+              record { answer = some z.node; state = r.state; runs = bind _ _ s (runs_as q.runs z.is) ∙ bind _ _ _ r.runs ∙ ret _ _; at = r.at; besides = record { some = h; ends = q.besides.ends ∙ ap ends_of z.is; bar = q.besides.bar ∙ ap (line_of I) z.is } };
         }
 
-    pub item-over : {J : List ℕ} {j : Part} → test_at t L n (is_kind 0) g.cur.pos ≡ true → ScriptFunc X t n L J false true (onward g.cur) j → Intermediate X t n K J stop sg c (record { cur = j.cur; some = true; ends = j.ends; bar = false })
+    pub item-over : {J : List ℕ} {j : Part} → test_at t L n (is_kind 0) g.cur.pos ≡ true → ScriptFunc X t n L J false true (onward g.cur) j → Intermediate X t n K J stop sg c (record { cur = j.cur; node = Some (record { ends = ends_in j.node; bar = false }) })
     unfolding next_intermediate ends_operand look ends_first ends_second is_unscripted
     item-over {J} {j} k p2 =
-        let w : bit g.some ≡ 1 = ap bit h in
+        let w : bit (has g.node) ≡ 1 = ap bit h in
         record {
           moves = record { within = p2.moves.within; on = omega (arith, p.moves.on, p2.moves.on); depth = p2.moves.depth ∙ p.moves.depth; kept = kept_trans p.moves.kept p2.moves.kept };
           stays = λ f. no_false f;

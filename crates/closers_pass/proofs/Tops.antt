@@ -12,11 +12,12 @@ use Rattle.reading.specs.Stop.{Stop}
 use Rattle.reading.specs.Reading.{State, intermediates, level, parse, parse_entries, last_of, unscripted, prefixes}
 use Rattle.lookahead.specs.Tests.{test_at, is_kind}
 use Rattle.lookahead.proofs.Testing.{test_below}
-use Rattle.closers_pass.specs.declared.cursor.Cursor.{Cursor}
+use Rattle.reading_cursor.specs.declared.Cursor.{Cursor}
 use Rattle.closers_pass.specs.declared.cursor.Items.{Items}
 use Rattle.records.specs.Record.{Kept}
 use Rattle.reading_words.specs.Meet.{Input, Given, is_none}
-use Rattle.closers_pass.specs.Meet.{At, Intermediates, onward, seen}
+use Rattle.closers_pass.specs.Meet.{At, Intermediates}
+use Rattle.reading_cursor.specs.Moves.{onward, seen}
 use Rattle.closers_pass.specs.Top.{Blank, Passed, Paired}
 use Rattle.stores.proofs.Stores.{kept_refl, kept_trans}
 use Rattle.reading_words.proofs.Kit.{tick, same-is}

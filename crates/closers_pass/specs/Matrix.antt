@@ -1,12 +1,13 @@
 -- The contracts of the readers of matrix rows.
-use Rattle.std.specs.Prelude.{ℕ, ◌+◌, ◌≤◌, ◌<◌, ◌≡◌, List, [], ◌∷◌, Bool, true, false}
+use Rattle.std.specs.Prelude.{Some, None, ℕ, ◌+◌, ◌≤◌, ◌<◌, ◌≡◌, List, [], ◌∷◌, Bool, true, false}
 use Rattle.std.proofs.Math.Option.{Option, none, some}
 use Rattle.std.proofs.Math.ListN.{get_elem?}
 use Rattle.tree.specs.Tree.{Nodes, count}
 use Rattle.reading.specs.Entries.{Entry}
 use Rattle.reading.specs.Reading.{State, M, Row, Rows, kept_cols, line_cells}
-use Rattle.closers_pass.specs.declared.cursor.Cursor.{Cursor}
+use Rattle.reading_cursor.specs.declared.Cursor.{Cursor}
 use Rattle.closers_pass.specs.declared.cursor.Cells.{Cells}
+use Rattle.std.specs.declared.option.Option as rust
 use Rattle.closers_pass.specs.declared.cursor.Others as code
 use Rattle.closers_pass.specs.declared.cursor.Rows as rows
 use Rattle.reading_words.specs.Meet.{Input, cells_at, row_at, more_at, rows_at, First}
@@ -45,12 +46,12 @@ module _ (X t : List ℕ) (n : ℕ) where
     pub inside : q < n
     pub last : d.pos ≡ q + 1
 
-  abbrev pub RowCells' : List ℕ → List ℕ → Cursor → ℕ → ℕ → ℕ → Cursor → Bool → Type 0
-  RowCells' K L c q k j d true = Ended k q d × Each X t n K c (λ I s. HasCells L (cells_at c.depth I) I s q k j d)
-  RowCells' K L c q k j d false = Each X t n K c (λ I s. Fails L (cells_at c.depth I) I s d)
+  abbrev pub RowCells' : List ℕ → List ℕ → Cursor → ℕ → ℕ → Cursor → rust.Option ℕ → Type 0
+  RowCells' K L c k j d (Some q) = Ended k q d × Each X t n K c (λ I s. HasCells L (cells_at c.depth I) I s q k j d)
+  RowCells' K L c k j d None = Each X t n K c (λ I s. Fails L (cells_at c.depth I) I s d)
 
   abbrev pub RowCells : List ℕ → List ℕ → Cursor → Cells → Type 0
-  RowCells K L c g = Moves 0 n K L c g.cur × RowCells' K L c g.right g.count g.kept g.cur g.shut
+  RowCells K L c g = Moves 0 n K L c g.cur × RowCells' K L c g.count g.kept g.cur g.close
 
   -- a row between the brackets p and q
   pub record HasRow (L : List ℕ) (m : M (Option Row)) (I : Input) (s : State) (p q k j : ℕ) (d : Cursor) : Type 0 where
@@ -62,12 +63,12 @@ module _ (X t : List ℕ) (n : ℕ) where
     pub right : get_elem? I.es q ≡ some row.right
     pub counts : Counts I k j row.cells
 
-  abbrev pub MatrixRow' : List ℕ → List ℕ → Cursor → ℕ → ℕ → ℕ → Cursor → Bool → Type 0
-  MatrixRow' K L c q k j d true = Ended k q d × (c.pos < n) × Each X t n K c (λ I s. HasRow L (row_at c.depth I) I s c.pos q k j d)
-  MatrixRow' K L c q k j d false = Each X t n K c (λ I s. Fails L (row_at c.depth I) I s d)
+  abbrev pub MatrixRow' : List ℕ → List ℕ → Cursor → ℕ → ℕ → Cursor → rust.Option ℕ → Type 0
+  MatrixRow' K L c k j d (Some q) = Ended k q d × (c.pos < n) × Each X t n K c (λ I s. HasRow L (row_at c.depth I) I s c.pos q k j d)
+  MatrixRow' K L c k j d None = Each X t n K c (λ I s. Fails L (row_at c.depth I) I s d)
 
   abbrev pub MatrixRow : List ℕ → List ℕ → Cursor → Cells → Type 0
-  MatrixRow K L c g = Moves 0 n K L c g.cur × MatrixRow' K L c g.right g.count g.kept g.cur g.shut
+  MatrixRow K L c g = Moves 0 n K L c g.cur × MatrixRow' K L c g.count g.kept g.cur g.close
 
   -- the rows behind the first
   pub record HasRows (L : List ℕ) (m : M (Option (List Nodes))) (I : Input) (s : State) (more : Bool) (d : Cursor) : Type 0 where

@@ -1,18 +1,20 @@
 -- What the readers' contracts say: what a call needs, and how its answer meets the definition's reading. X is the text, t the words
 -- of the token table, n the number of entries; K and L are the work words before and after.
-use Rattle.std.specs.Prelude.{ℕ, ◌+◌, ◌-◌, ◌%◌, ◌≤◌, ◌<◌, ◌^◌, ◌≡◌, List, Bool, true, false, cond, ◌&&◌, length, get_or, eqb, ltb}
+use Rattle.std.specs.Prelude.{Some, None, ℕ, ◌+◌, ◌-◌, ◌%◌, ◌≤◌, ◌<◌, ◌^◌, ◌≡◌, List, Bool, true, false, ◌&&◌, length, get_or, eqb}
 use Rattle.std.proofs.Math.Option.{Option, none, some}
 use Rattle.std.proofs.Math.ListN.{get_elem?}
 use Rattle.tree.specs.Tree.{Script, Head, Node, node, Nodes, end, ◌▸◌}
 use Rattle.reading.specs.Entries.{Entry}
-use Rattle.reading.specs.Reading.{State, M, Scripted, next_open_group, try_matrix, begun, ends_operand, prefixes, is_bar_symbol, is_unscripted, is_column_line}
-use Rattle.closers_pass.specs.declared.cursor.Cursor.{Cursor}
+use Rattle.reading.specs.Reading.{State, M, next_open_group, try_matrix, begun, ends_operand, prefixes, is_bar_symbol, is_unscripted, is_column_line}
+use Rattle.reading_cursor.specs.declared.Cursor.{Cursor}
 use Rattle.closers_pass.specs.declared.cursor.Part.{Part}
+use Rattle.closers_pass.specs.declared.cursor.Node as part
+use Rattle.std.specs.declared.option.Option as rust
 use Rattle.closers_pass.specs.declared.cursor.Scripted as code
 use Rattle.closers_pass.specs.declared.cursor.Items.{Items}
 use Rattle.closers_pass.specs.declared.cursor.Tried.{Tried}
 use Rattle.records.specs.Record.{record_words, closer_of, kind_of, Kept}
-use Rattle.lookahead.specs.Takes.{taken, looked}
+use Rattle.reading_cursor.specs.Moves.{onward, seen, at_depth}
 use Rattle.leaves.specs.Leaves.{leaf_ends, leaf_bar}
 use Rattle.brackets.specs.Brackets.{bar_at}
 use Rattle.tokens.specs.Refusals.{bit}
@@ -50,7 +52,20 @@ pub record Moves (gain n : ℕ) (K L : List ℕ) (c d : Cursor) : Type 0 where
   pub depth : d.depth ≡ c.depth
   pub kept : Kept K L
 
--- What the answer's flags say: whether there is a node, whether it ends an operand, whether it is a lone symbol `|`; the same of a
+-- what an answer says of its node: whether there is one, whether it ends an operand, whether it is a bar by itself
+abbrev pub has : rust.Option part.Node → Bool
+has None = false
+has (Some x) = true
+
+abbrev pub ends_in : rust.Option part.Node → Bool
+ends_in None = false
+ends_in (Some x) = x.ends
+
+abbrev pub bar_in : rust.Option part.Node → Bool
+bar_in None = false
+bar_in (Some x) = x.bar
+
+-- What it should say: whether there is a node, whether it ends an operand, whether it is a lone symbol `|`; the same of a
 -- scripted part or an item.
 abbrev pub is_some : Option Node → Bool
 is_some none = false
@@ -73,9 +88,9 @@ line_of I none = false
 line_of I (some x) = line_part I x
 
 pub record Says (bars : Option Node → Bool) (g : Part) (a : Option Node) : Type 0 where
-  pub some : g.some ≡ is_some a
-  pub ends : g.ends ≡ ends_of a
-  pub bar : g.bar ≡ bars a
+  pub some : has g.node ≡ is_some a
+  pub ends : ends_in g.node ≡ ends_of a
+  pub bar : bar_in g.node ≡ bars a
 
 -- there is an item
 abbrev pub is_more : Nodes → Bool
@@ -108,8 +123,8 @@ module _ (X t : List ℕ) (n : ℕ) where
 
   -- A reader of a part: where it finds no node, it stays.
   pub record Found (K L : List ℕ) (m : Input → M (Option Node)) (bars : Input → Option Node → Bool) (c : Cursor) (g : Part) : Type 0 where
-    pub moves : Moves (bit g.some) n K L c g.cur
-    pub stays : g.some ≡ false → g.cur.pos ≡ c.pos
+    pub moves : Moves (bit (has g.node)) n K L c g.cur
+    pub stays : has g.node ≡ false → g.cur.pos ≡ c.pos
     pub means : Each K c (λ I s. Gives L (m I) (Says (bars I) g) I s g.cur)
 
   -- What the entry i begins, which the reader has just taken.
@@ -152,12 +167,12 @@ module _ (X t : List ℕ) (n : ℕ) where
   Headed K L i stop c d = Began K L i (headed_at c.depth stop) (λ I a. (true ≡ is_some a) × (true ≡ ends_of a) × (false ≡ line_of I a)) c d
 
   abbrev pub Begun : List ℕ → List ℕ → ℕ → Bool → Bool → Cursor → Part → Type 0
-  Begun K L i stop sg c g = (g.some ≡ true) × Began K L i (λ I en. begun I.text I.es true (readers c.depth I) en.token en i (stop_of stop) sg) (λ I. Says (bar_of I) g) c g.cur
+  Begun K L i stop sg c g = (has g.node ≡ true) × Began K L i (λ I en. begun I.text I.es true (readers c.depth I) en.token en i (stop_of stop) sg) (λ I. Says (bar_of I) g) c g.cur
 
   -- a group, a matrix or a bar
   pub record Bracketed (I : Input) (g : Part) (x : Node) : Type 0 where
-    pub ends : g.ends ≡ ends_operand x
-    pub bar : g.bar ≡ is_bar_symbol I.text I.es x
+    pub ends : ends_in g.node ≡ ends_operand x
+    pub bar : bar_in g.node ≡ is_bar_symbol I.text I.es x
 
   pub record Grouped (I : Input) (x : Node) : Type 0 where
     pub ends : true ≡ ends_operand x
@@ -167,49 +182,28 @@ module _ (X t : List ℕ) (n : ℕ) where
   OpenGroup K L i c d = Began K L i (λ I en. next_open_group I.text I.es true (readers c.depth I) en i) Grouped c d
 
   abbrev pub Bracket : List ℕ → List ℕ → ℕ → ℕ → Bool → Cursor → Part → Type 0
-  Bracket K L i k stop c g = (g.some ≡ true) × Began K L i (bracket_at (eqb k 20) c.depth stop i) (λ I. Bracketed I g) c g.cur
+  Bracket K L i k stop c g = (has g.node ≡ true) × Began K L i (bracket_at (eqb k 20) c.depth stop i) (λ I. Bracketed I g) c g.cur
 
   abbrev pub TryMatrix : List ℕ → List ℕ → ℕ → Cursor → Tried → Type 0
   TryMatrix K L i c g = Began K L i (λ I en. try_matrix I.text I.es true (readers c.depth I) en i) (λ I a. (g.made ≡ is_some a) × ((x : Node) → a ≡ some x → Grouped I x)) c g.cur
 
   abbrev pub Bars : List ℕ → List ℕ → ℕ → Bool → Cursor → Part → Type 0
-  Bars K L i stop c g = (g.some ≡ true) × Began K L i (bars_at c.depth stop i) (λ I. Bracketed I g) c g.cur
-
--- The cursor's moves.
-abbrev pub onward : Cursor → Cursor
-onward c = record { pos = c.pos + 1; depth = c.depth; takes = taken c.takes }
-
-abbrev pub seen : ℕ → Cursor → Cursor
-seen n c = record { pos = c.pos; depth = c.depth; takes = looked n c.pos c.takes }
-
-unfoldable pub passing : ℕ → Cursor → Cursor
-passing n c = cond (ltb c.pos n) (onward c) c
-
-abbrev pub inner : Cursor → Cursor
-inner c = record { pos = c.pos; depth = c.depth + 1; takes = c.takes }
-
-abbrev pub at_depth : ℕ → Cursor → Cursor
-at_depth d c = record { pos = c.pos; depth = d; takes = c.takes }
-
-abbrev pub rewound : ℕ → Cursor → Cursor
-rewound p c = record { pos = p; depth = c.depth; takes = c.takes }
+  Bars K L i stop c g = (has g.node ≡ true) × Began K L i (bars_at c.depth stop i) (λ I. Bracketed I g) c g.cur
 
 -- Answers.
 abbrev pub nothing_at : Cursor → Part
-nothing_at c = record { cur = c; some = false; ends = false; bar = false }
+nothing_at c = record { cur = c; node = None }
 
 abbrev pub operation_at : Cursor → Part
-operation_at c = record { cur = c; some = true; ends = true; bar = false }
+operation_at c = record { cur = c; node = Some (record { ends = true; bar = false }) }
 
 abbrev pub part_at : ℕ → Part → Part
-part_at d g = record { cur = at_depth d g.cur; some = g.some; ends = g.ends; bar = g.bar }
+part_at d g = record { cur = at_depth d g.cur; node = g.node }
+
+-- the leaf of the entry i, of kind k
+abbrev pub leaf_at : List ℕ → List ℕ → List ℕ → ℕ → ℕ → Cursor → Part
+leaf_at X t K i k c = record { cur = c; node = Some (record { ends = leaf_ends k; bar = leaf_bar X t K i k }) }
 
 -- an item that is the leaf at the cursor alone
 abbrev pub plain_part : List ℕ → List ℕ → List ℕ → ℕ → Cursor → Part
-plain_part X t K n c =
-    record {
-      cur = seen n (seen n (onward (seen n c)));
-      some = true;
-      ends = leaf_ends (kind_of t K c.pos);
-      bar = leaf_bar X t K c.pos (kind_of t K c.pos);
-    }
+plain_part X t K n c = leaf_at X t K c.pos (kind_of t K c.pos) (seen n (seen n (onward (seen n c))))

@@ -1,118 +1,52 @@
-// Where a reader stands, and what readers answer.
-ghost use Rattle.std.specs.Prelude.{◌≡◌, true, false, ◌≤◌, ◌<◌};
-ghost use Rattle.closers_pass.specs.Meet.{onward, seen, passing, inner, at_depth, rewound, nothing_at, operation_at, part_at};
+// What readers answer.
+ghost use Rattle.std.specs.Prelude.{◌≡◌};
+ghost use Rattle.closers_pass.specs.Meet.{ends_in, nothing_at, operation_at, part_at};
 
-use lookahead::takes::{count_look, count_take};
+use reading_cursor::Cursor;
 
-// The position, the depth of the readers, and the takes so far, counted round 2^32.
+// A node that was read: whether it ends an operand, and whether it is a bar by itself.
 #[derive(Clone, Copy)]
-pub(crate) struct Cursor {
-    pub pos: u16,
-    pub depth: u16,
-    pub takes: u32,
-}
-
-impl Cursor {
-    // Past the next token.
-    pub(crate) fn next(self) -> Cursor
-        requires { self.pos < 4096 }
-        ensures { result ≡ onward self }
-    {
-        Cursor {
-            pos: self.pos + 1,
-            depth: self.depth,
-            takes: count_take(self.takes),
-        }
-    }
-
-    // A look at the next token, counted if there is one.
-    pub(crate) fn look(self, n: usize) -> Cursor
-        ensures { result ≡ seen n self }
-    {
-        Cursor {
-            pos: self.pos,
-            depth: self.depth,
-            takes: count_look(self.takes, n, self.pos as usize),
-        }
-    }
-
-    // Past the next token, if there is one.
-    pub(crate) fn over(self, n: usize) -> Cursor
-        requires { n ≤ 4096 }
-        ensures { result ≡ passing n self }
-    {
-        if (self.pos as usize) < n {
-            self.next()
-        } else {
-            self
-        }
-    }
-
-    // One reader deeper.
-    pub(crate) fn deeper(self) -> Cursor
-        requires { self.depth < 256 }
-        ensures { result ≡ inner self }
-    {
-        Cursor {
-            pos: self.pos,
-            depth: self.depth + 1,
-            takes: self.takes,
-        }
-    }
-
-    // Back in the reader of that depth.
-    pub(crate) fn at_depth(self, depth: u16) -> Cursor
-        ensures { result ≡ at_depth depth self }
-    {
-        Cursor {
-            pos: self.pos,
-            depth: depth,
-            takes: self.takes,
-        }
-    }
-
-    // Back at the position `pos`, the takes being kept.
-    pub(crate) fn rewind(self, pos: u16) -> Cursor
-        ensures { result ≡ rewound pos self }
-    {
-        Cursor {
-            pos: pos,
-            depth: self.depth,
-            takes: self.takes,
-        }
-    }
-}
-
-// Whether a node was read; if so, whether it ends an operand, and whether it is a bar by itself.
-#[derive(Clone, Copy)]
-pub(crate) struct Part {
-    pub cur: Cursor,
-    pub some: bool,
+pub(crate) struct Node {
     pub ends: bool,
     pub bar: bool,
 }
 
-// None was there.
-pub(crate) fn nothing(c: Cursor) -> Part
-    ensures { result ≡ nothing_at c }
-{
-    Part {
-        cur: c,
-        some: false,
-        ends: false,
-        bar: false,
+// The node at the cursor, if there was one.
+#[derive(Clone, Copy)]
+pub(crate) struct Part {
+    pub cur: Cursor,
+    pub node: Option<Node>,
+}
+
+impl Part {
+    // A node is there, and it ends an operand.
+    pub(crate) fn ends(self) -> bool
+        ensures { result ≡ ends_in self.node }
+    {
+        match self.node {
+            Some(node) => node.ends,
+            None => false,
+        }
     }
 }
 
+// None was there.
+pub(crate) fn nothing(cur: Cursor) -> Part
+    ensures { result ≡ nothing_at cur }
+{
+    Part { cur, node: None }
+}
+
 // An operation with its arguments, or a group.
-pub(crate) fn operation(c: Cursor) -> Part
-    ensures { result ≡ operation_at c }
+pub(crate) fn operation(cur: Cursor) -> Part
+    ensures { result ≡ operation_at cur }
 {
     Part {
-        cur: c,
-        some: true,
-        ends: true,
-        bar: false,
+        cur,
+        node: Some(Node {
+            ends: true,
+            bar: false,
+        }),
     }
 }
 
@@ -123,13 +57,12 @@ pub(crate) fn back(g: Part, depth: u16) -> Part
     let gc = g.cur;
     Part {
         cur: gc.at_depth(depth),
-        some: g.some,
-        ends: g.ends,
-        bar: g.bar,
+        ..g
     }
 }
 
 // Whether a script was there.
+// kept, here and below: a flag beside the cursor, no plainer as an Option, since the reading goes on from the cursor in either case
 #[derive(Clone, Copy)]
 pub(crate) struct Scripted {
     pub cur: Cursor,
@@ -147,14 +80,13 @@ pub(crate) struct Items {
     pub met: bool,
 }
 
-// A row's cells, and how many of them are no lines; whether the row ended at a closing bracket, and which.
+// A row's cells, and how many of them are no lines; the closing bracket at which the row ended, if it ended at one.
 #[derive(Clone, Copy)]
 pub(crate) struct Cells {
     pub cur: Cursor,
     pub count: usize,
     pub kept: usize,
-    pub shut: bool,
-    pub right: usize,
+    pub close: Option<usize>,
 }
 
 // The rows behind the first: whether all are read and alike, and whether there are some.

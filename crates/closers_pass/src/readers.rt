@@ -6,16 +6,16 @@ ghost use Rattle.closers_pass.specs.Meet.{Ready, Simple, ScriptFunc, Intermediat
 ghost use Rattle.closers_pass.specs.Matrix.{RowCells, MatrixRow, MoreRows, MatrixRows};
 
 use crate::cursor::{
-    Cells, Cursor, Items, Others, Part, Rows, Scripted, Tried, back, nothing, operation,
+    Cells, Items, Node, Others, Part, Rows, Scripted, Tried, back, nothing, operation,
 };
-use crate::tests::{choose, leaf, no_item, one_more, plain_item, unless};
+use crate::tests::{leaf, no_item, plain_item};
 use brackets::{bar_at, could_be_matrix, makes_matrix};
 use closers_notes::{give_up, note_closer};
 use lookahead::depth::too_deep;
-use lookahead::tests::{
-    Look, begins_at, first_look, heads_at, is_at, marks_at, opens, prefix_stop, takes_one,
-};
+use lookahead::list::{List, choose};
+use lookahead::tests::{Look, opens, prefix_stop, takes_one};
 use marks::{MATRIX_MARK, failed_at, open_mark};
+use reading_cursor::Cursor;
 use records::record::kind_at;
 use rows::{cells_left, is_pair, is_round};
 use tokens::kinds::{
@@ -24,19 +24,19 @@ use tokens::kinds::{
 
 // The scripts at the cursor.
 #[cycle(readers)]
-fn next_script(text: &[u8], tok: &[u32], n: usize, work: &mut [u32], c: Cursor) -> Scripted
-    requires { Ready n work.old c }
-    ensures { Scripts text.now tok.now n work.old work.new c result }
+fn next_script(list: &List<'_>, work: &mut [u32], c: Cursor) -> Scripted
+    requires { Ready list.now.n work.old c }
+    ensures { Scripts list.now.text.now list.now.tok.now list.now.n work.old work.new c result }
 {
     let pos = c.pos as usize;
-    if !marks_at(tok, work, n, pos) {
+    if !list.marks_at(work, pos) {
         return Scripted {
-            cur: c.look(n),
+            cur: c.look(list.n),
             some: false,
         };
     }
-    let sup = is_at(tok, work, n, pos, SUPER);
-    let a = next_simple(text, tok, n, work, c.next(), false, true);
+    let sup = list.is_at(work, pos, SUPER);
+    let a = next_simple(list, work, c.next(), false, true);
     let ac = a.cur;
     if sup {
         return Scripted {
@@ -45,153 +45,113 @@ fn next_script(text: &[u8], tok: &[u32], n: usize, work: &mut [u32], c: Cursor) 
         };
     }
     let at = ac.pos as usize;
-    if is_at(tok, work, n, at, SUPER) {
-        let b = next_simple(text, tok, n, work, ac.next(), false, true);
-        let bc = b.cur;
+    if list.is_at(work, at, SUPER) {
+        let b = next_simple(list, work, ac.next(), false, true);
         return Scripted {
-            cur: bc,
+            cur: b.cur,
             some: true,
         };
     }
     Scripted {
-        cur: ac.look(n),
+        cur: ac.look(list.n),
         some: true,
     }
 }
 
 // A scripted part, which a function or a prefixing sign can head.
 #[cycle(readers)]
-fn next_script_func(
-    text: &[u8],
-    tok: &[u32],
-    n: usize,
-    work: &mut [u32],
-    c: Cursor,
-    stop: bool,
-    sign: bool,
-) -> Part
-    requires { Ready n work.old c }
-    ensures { ScriptFunc text.now tok.now n work.old work.new stop sign c result }
+fn next_script_func(list: &List<'_>, work: &mut [u32], c: Cursor, stop: bool, sign: bool) -> Part
+    requires { Ready list.now.n work.old c }
+    ensures { ScriptFunc list.now.text.now list.now.tok.now list.now.n work.old work.new stop sign c result }
 {
     let depth = c.depth;
     if too_deep(depth) {
         return nothing(c);
     }
     let pos = c.pos as usize;
-    if heads_at(tok, work, n, pos, sign) {
-        let d = headed(text, tok, n, work, c.next().deeper(), stop, pos);
+    if list.heads_at(work, pos, sign) {
+        let d = headed(list, work, c.next().deeper(), stop, pos);
         return operation(d.at_depth(depth));
     }
-    let s = term(text, tok, n, work, c.look(n).deeper(), stop, sign);
+    let s = term(list, work, c.look(list.n).deeper(), stop, sign);
     back(s, depth)
 }
 
 // A term: a simple expression with its scripts.
 #[cycle(readers)]
-fn term(
-    text: &[u8],
-    tok: &[u32],
-    n: usize,
-    work: &mut [u32],
-    c: Cursor,
-    stop: bool,
-    sign: bool,
-) -> Part
-    requires { Ready n work.old c }
-    ensures { Term text.now tok.now n work.old work.new stop sign c result }
+fn term(list: &List<'_>, work: &mut [u32], c: Cursor, stop: bool, sign: bool) -> Part
+    requires { Ready list.now.n work.old c }
+    ensures { Term list.now.text.now list.now.tok.now list.now.n work.old work.new stop sign c result }
 {
-    let s = next_simple(text, tok, n, work, c, stop, sign);
-    if !s.some {
+    let s = next_simple(list, work, c, stop, sign);
+    let Some(node) = s.node else {
         return s;
-    }
+    };
     let sc = s.cur;
     let at = sc.pos as usize;
     // as next_script would find it, without the call
-    if !marks_at(tok, work, n, at) {
+    if !list.marks_at(work, at) {
         return Part {
-            cur: sc.look(n),
-            some: true,
-            ends: s.ends,
-            bar: s.bar,
+            cur: sc.look(list.n),
+            ..s
         };
     }
-    let m = next_script(text, tok, n, work, sc);
-    let mc = m.cur;
+    let m = next_script(list, work, sc);
     Part {
-        cur: mc,
-        some: true,
-        ends: s.ends,
-        bar: unless(m.some, s.bar),
+        cur: m.cur,
+        node: Some(Node {
+            bar: !m.some && node.bar,
+            ..node
+        }),
     }
 }
 
 // What the function or the sign at i heads.
 #[cycle(readers)]
-fn headed(
-    text: &[u8],
-    tok: &[u32],
-    n: usize,
-    work: &mut [u32],
-    c: Cursor,
-    stop: bool,
-    i: usize,
-) -> Cursor
-    requires ready { Ready n work.old c }
-    requires i_lt_n { i < n }
-    ensures { Headed text.now tok.now n work.old work.new i stop c result }
+fn headed(list: &List<'_>, work: &mut [u32], c: Cursor, stop: bool, i: usize) -> Cursor
+    requires ready { Ready list.now.n work.old c }
+    requires i_lt_n { i < list.now.n }
+    ensures { Headed list.now.text.now list.now.tok.now list.now.n work.old work.new i stop c result }
 {
-    let func = is_at(tok, work, n, i, FUNCTION);
+    let func = list.is_at(work, i, FUNCTION);
     if func {
-        let m = next_script(text, tok, n, work, c);
-        let mc = m.cur;
-        let g = next_script_func(text, tok, n, work, mc, false, true);
-        let gc = g.cur;
-        return gc;
+        let m = next_script(list, work, c);
+        let g = next_script_func(list, work, m.cur, false, true);
+        return g.cur;
     }
-    let h = next_script_func(text, tok, n, work, c, stop, true);
-    let hc = h.cur;
-    hc
+    let h = next_script_func(list, work, c, stop, true);
+    h.cur
 }
 
 // One item: a scripted part, or a fraction of two.
 #[cycle(readers)]
-fn next_intermediate(
-    text: &[u8],
-    tok: &[u32],
-    n: usize,
-    work: &mut [u32],
-    c: Cursor,
-    stop: bool,
-    sign: bool,
-) -> Part
-    requires { Ready n work.old c }
-    ensures { Intermediate text.now tok.now n work.old work.new stop sign c result }
+fn next_intermediate(list: &List<'_>, work: &mut [u32], c: Cursor, stop: bool, sign: bool) -> Part
+    requires { Ready list.now.n work.old c }
+    ensures { Intermediate list.now.text.now list.now.tok.now list.now.n work.old work.new stop sign c result }
 {
-    match first_look(tok, work, n, c.depth as usize, stop, c.pos as usize) {
-        Look::Plain => plain_item(text, tok, work, n, c),
-        Look::Over => no_item(n, c),
+    match list.first_look(work, c.depth as usize, stop, c.pos as usize) {
+        Look::Plain => plain_item(list, work, c),
+        Look::Over => no_item(list.n, c),
         Look::Other => {
-            let a = next_script_func(text, tok, n, work, c, stop, sign);
-            if !a.some {
+            let a = next_script_func(list, work, c, stop, sign);
+            if a.node.is_none() {
                 return a;
             }
             let d = a.cur;
             let pos = d.pos as usize;
-            if is_at(tok, work, n, pos, FRAC) {
-                let g = next_script_func(text, tok, n, work, d.next(), false, true);
-                let gc = g.cur;
+            if list.is_at(work, pos, FRAC) {
+                let g = next_script_func(list, work, d.next(), false, true);
                 return Part {
-                    cur: gc,
-                    some: true,
-                    ends: g.ends,
-                    bar: false,
+                    cur: g.cur,
+                    node: Some(Node {
+                        ends: g.ends(),
+                        bar: false,
+                    }),
                 };
             }
             Part {
-                cur: d.look(n),
-                some: true,
-                ends: a.ends,
-                bar: a.bar,
+                cur: d.look(list.n),
+                ..a
             }
         }
     }
@@ -200,9 +160,7 @@ fn next_intermediate(
 // The items from the cursor on, up to a bar behind an item like that at `until`, if an entry is there. `first0`: none stands before them.
 #[cycle(readers)]
 pub(crate) fn extend(
-    text: &[u8],
-    tok: &[u32],
-    n: usize,
+    list: &List<'_>,
     work: &mut [u32],
     c: Cursor,
     until: usize,
@@ -210,8 +168,8 @@ pub(crate) fn extend(
     first0: bool,
     sign0: bool,
 ) -> Items
-    requires { Ready n work.old c }
-    ensures { Intermediates text.now tok.now n work.old work.new until stop first0 sign0 c result }
+    requires { Ready list.now.n work.old c }
+    ensures { Intermediates list.now.text.now list.now.tok.now list.now.n work.old work.new until stop first0 sign0 c result }
 {
     let mut cur = c;
     let mut first = first0;
@@ -220,166 +178,152 @@ pub(crate) fn extend(
     let mut sign = sign0;
     let met = 'items: loop {
         let pos = cur.pos as usize;
-        let bar = choose(first, n, until);
-        if bar_at(text, tok, work, n, bar, pos) {
+        let bar = choose(first, list.n, until);
+        if bar_at(list, work, bar, pos) {
             break 'items true;
         }
-        let g = next_intermediate(text, tok, n, work, cur, stop, sign);
+        let g = next_intermediate(list, work, cur, stop, sign);
         cur = g.cur;
-        if !g.some {
+        let Some(node) = g.node else {
             break 'items false;
-        }
-        line = unless(some, g.bar);
+        };
+        line = !some && node.bar;
         some = true;
         first = false;
-        sign = !g.ends;
+        sign = !node.ends;
     };
     Items {
-        cur: cur,
-        some: some,
-        line: line,
-        sign: sign,
-        met: met,
+        cur,
+        some,
+        line,
+        sign,
+        met,
     }
 }
 
 // The cells behind a row's bracket, up to its closing bracket.
 #[cycle(readers)]
-fn row_cells(text: &[u8], tok: &[u32], n: usize, work: &mut [u32], c: Cursor) -> Cells
-    requires { Ready n work.old c }
-    ensures { RowCells text.now tok.now n work.old work.new c result }
+fn row_cells(list: &List<'_>, work: &mut [u32], c: Cursor) -> Cells
+    requires { Ready list.now.n work.old c }
+    ensures { RowCells list.now.text.now list.now.tok.now list.now.n work.old work.new c result }
 {
     let mut cur = c;
     let mut count: usize = 0;
     let mut kept: usize = 0;
-    let mut right: usize = 0;
-    let shut = 'cells: loop {
-        let run = extend(text, tok, n, work, cur, n, true, true, true);
+    let close = 'cells: loop {
+        let run = extend(list, work, cur, list.n, true, true, true);
         let rc = run.cur;
         let p = rc.pos as usize;
         count += 1;
-        kept = one_more(run.line, kept);
-        right = p;
-        cur = rc.over(n);
-        if !is_at(tok, work, n, p, SEP) {
-            break 'cells is_at(tok, work, n, p, CLOSE_BRACKET);
+        if !run.line {
+            kept += 1;
+        }
+        cur = rc.over(list.n);
+        if !list.is_at(work, p, SEP) {
+            break 'cells list.is_at(work, p, CLOSE_BRACKET).then_some(p);
         }
     };
     Cells {
-        cur: cur,
-        count: count,
-        kept: kept,
-        shut: shut,
-        right: right,
+        cur,
+        count,
+        kept,
+        close,
     }
 }
 
 // A matrix row; a token that opens none is taken too.
 #[cycle(readers)]
-fn next_row(text: &[u8], tok: &[u32], n: usize, work: &mut [u32], c: Cursor) -> Cells
-    requires { Ready n work.old c }
-    ensures { MatrixRow text.now tok.now n work.old work.new c result }
+fn next_row(list: &List<'_>, work: &mut [u32], c: Cursor) -> Cells
+    requires { Ready list.now.n work.old c }
+    ensures { MatrixRow list.now.text.now list.now.tok.now list.now.n work.old work.new c result }
 {
     let pos = c.pos as usize;
-    if is_at(tok, work, n, pos, OPEN_BRACKET) {
-        let row = row_cells(text, tok, n, work, c.next());
-        if row.shut {
-            note_closer(work, pos, n, row.right);
+    if list.is_at(work, pos, OPEN_BRACKET) {
+        let row = row_cells(list, work, c.next());
+        if let Some(right) = row.close {
+            note_closer(work, pos, list.n, right);
         }
         return row;
     }
     Cells {
-        cur: c.over(n),
+        cur: c.over(list.n),
         count: 0,
         kept: 0,
-        shut: false,
-        right: 0,
+        close: None,
     }
 }
 
 // The rows behind the first one, which is of `cols` cells between round brackets, or else square ones.
 #[cycle(readers)]
-fn more_rows(
-    text: &[u8],
-    tok: &[u32],
-    n: usize,
-    work: &mut [u32],
-    c: Cursor,
-    cols: usize,
-    round: bool,
-) -> Others
-    requires { Ready n work.old c }
-    ensures { MoreRows text.now tok.now n work.old work.new cols round c result }
+fn more_rows(list: &List<'_>, work: &mut [u32], c: Cursor, cols: usize, round: bool) -> Others
+    requires { Ready list.now.n work.old c }
+    ensures { MoreRows list.now.text.now list.now.tok.now list.now.n work.old work.new cols round c result }
 {
     let mut cur = c;
     let mut more = false;
     let done = 'rows: loop {
         let p = cur.pos as usize;
-        if !is_at(tok, work, n, p, SEP) {
+        if !list.is_at(work, p, SEP) {
             break 'rows true;
         }
-        let row = next_row(text, tok, n, work, cur.next());
+        let row = next_row(list, work, cur.next());
         cur = row.cur;
-        if !row.shut {
+        let Some(right) = row.close else {
             break 'rows false;
-        }
+        };
         if row.count != cols {
             break 'rows false;
         }
-        if !is_pair(text, tok, work, round, p + 1, row.right) {
+        if !is_pair(list, work, round, p + 1, right) {
             break 'rows false;
         }
         more = true;
     };
-    Others {
-        cur: cur,
-        done: done,
-        more: more,
-    }
+    Others { cur, done, more }
 }
 
 // The rows of a matrix, up to its closing bracket.
 #[cycle(readers)]
-fn next_rows(text: &[u8], tok: &[u32], n: usize, work: &mut [u32], c: Cursor) -> Rows
-    requires { Ready n work.old c }
-    ensures { MatrixRows text.now tok.now n work.old work.new c result }
+fn next_rows(list: &List<'_>, work: &mut [u32], c: Cursor) -> Rows
+    requires { Ready list.now.n work.old c }
+    ensures { MatrixRows list.now.text.now list.now.tok.now list.now.n work.old work.new c result }
 {
     let left = c.pos as usize;
-    let row = next_row(text, tok, n, work, c);
+    let row = next_row(list, work, c);
     let cur = row.cur;
     let cols = row.count;
     let kept = row.kept;
-    if row.shut {
-        let round = is_round(text, tok, work, left);
-        if is_pair(text, tok, work, round, left, row.right) {
-            let g = more_rows(text, tok, n, work, cur, cols, round);
+    if let Some(right) = row.close {
+        let round = is_round(list, work, left);
+        if is_pair(list, work, round, left, right) {
+            let g = more_rows(list, work, cur, cols, round);
             let gc = g.cur;
             return Rows {
                 cur: gc,
                 done: g.done,
                 more: g.more,
-                cols: cols,
-                kept: kept,
+                cols,
+                kept,
             };
         }
     }
     Rows {
-        cur: cur,
+        cur,
         done: false,
         more: false,
-        cols: cols,
-        kept: kept,
+        cols,
+        kept,
     }
 }
 
 // The matrix that the bracket at i opens, or nothing: a failed attempt is marked and given back.
 #[cycle(readers)]
-fn try_matrix(text: &[u8], tok: &[u32], n: usize, work: &mut [u32], c: Cursor, i: usize) -> Tried
-    requires ready { Ready n work.old c }
+fn try_matrix(list: &List<'_>, work: &mut [u32], c: Cursor, i: usize) -> Tried
+    requires ready { Ready list.now.n work.old c }
     requires i_lt_pos { i < c.pos }
-    ensures { TryMatrix text.now tok.now n work.old work.new i c result }
+    ensures { TryMatrix list.now.text.now list.now.tok.now list.now.n work.old work.new i c result }
 {
-    if !could_be_matrix(text, tok, work, n, i) {
+    if !could_be_matrix(list, work, i) {
         return Tried {
             cur: c,
             made: false,
@@ -392,12 +336,12 @@ fn try_matrix(text: &[u8], tok: &[u32], n: usize, work: &mut [u32], c: Cursor, i
         };
     }
     let from = c.pos;
-    let rows = next_rows(text, tok, n, work, c);
+    let rows = next_rows(list, work, c);
     let cur = rows.cur;
     let p = cur.pos as usize;
     let cells = cells_left(rows.done, rows.more, rows.cols, rows.kept);
-    if makes_matrix(text, tok, work, n, i, from as usize, cells, p) {
-        note_closer(work, i, n, p);
+    if makes_matrix(list, work, i, from as usize, cells, p) {
+        note_closer(work, i, list.n, p);
         return Tried {
             cur: cur.next(),
             made: true,
@@ -412,88 +356,69 @@ fn try_matrix(text: &[u8], tok: &[u32], n: usize, work: &mut [u32], c: Cursor, i
 
 // The group that the bracket at i opens.
 #[cycle(readers)]
-fn open_group(text: &[u8], tok: &[u32], n: usize, work: &mut [u32], c: Cursor, i: usize) -> Cursor
-    requires ready { Ready n work.old c }
+fn open_group(list: &List<'_>, work: &mut [u32], c: Cursor, i: usize) -> Cursor
+    requires ready { Ready list.now.n work.old c }
     requires i_lt_pos { i < c.pos }
-    ensures { OpenGroup text.now tok.now n work.old work.new i c result }
+    ensures { OpenGroup list.now.text.now list.now.tok.now list.now.n work.old work.new i c result }
 {
-    let run = extend(text, tok, n, work, c, n, false, true, true);
+    let run = extend(list, work, c, list.n, false, true, true);
     let cur = run.cur;
     let at = cur.pos as usize;
-    if is_at(tok, work, n, at, CLOSE_BRACKET) {
-        note_closer(work, i, n, at);
+    if list.is_at(work, at, CLOSE_BRACKET) {
+        note_closer(work, i, list.n, at);
         return cur.next();
     }
-    cur.look(n)
+    cur.look(list.n)
 }
 
 // The matrix or the group that the bracket of kind k at i opens, or a bar alone.
 #[cycle(readers)]
-fn bracket(
-    text: &[u8],
-    tok: &[u32],
-    n: usize,
-    work: &mut [u32],
-    c: Cursor,
-    stop: bool,
-    i: usize,
-    k: u32,
-) -> Part
-    requires ready { Ready n work.old c }
+fn bracket(list: &List<'_>, work: &mut [u32], c: Cursor, stop: bool, i: usize, k: u32) -> Part
+    requires ready { Ready list.now.n work.old c }
     requires i_lt_pos { i < c.pos }
-    ensures { Bracket text.now tok.now n work.old work.new i k stop c result }
+    ensures { Bracket list.now.text.now list.now.tok.now list.now.n work.old work.new i k stop c result }
 {
-    let m = try_matrix(text, tok, n, work, c, i);
+    let m = try_matrix(list, work, c, i);
     let d = m.cur;
     if m.made {
         return operation(d);
     }
     if k == OPEN_BRACKET {
-        return operation(open_group(text, tok, n, work, d, i));
+        return operation(open_group(list, work, d, i));
     }
-    bars(text, tok, n, work, d, stop, i)
+    bars(list, work, d, stop, i)
 }
 
 // The group between the bar at i and another like it, or the bar alone: a failed attempt is marked and given back.
 #[cycle(readers)]
-fn bars(
-    text: &[u8],
-    tok: &[u32],
-    n: usize,
-    work: &mut [u32],
-    c: Cursor,
-    stop: bool,
-    i: usize,
-) -> Part
-    requires ready { Ready n work.old c }
+fn bars(list: &List<'_>, work: &mut [u32], c: Cursor, stop: bool, i: usize) -> Part
+    requires ready { Ready list.now.n work.old c }
     requires i_lt_pos { i < c.pos }
-    ensures { Bars text.now tok.now n work.old work.new i stop c result }
+    ensures { Bars list.now.text.now list.now.tok.now list.now.n work.old work.new i stop c result }
 {
     let from = c.pos;
     let mark = open_mark(stop);
     if failed_at(work, i, mark) {
-        return leaf(text, tok, work, c, i, OPEN_CLOSE_BRACKET);
+        return leaf(list, work, c, i, OPEN_CLOSE_BRACKET);
     }
-    let run = extend(text, tok, n, work, c, i, stop, true, true);
+    let run = extend(list, work, c, i, stop, true, true);
     let cur = run.cur;
     let at = cur.pos as usize;
     if !run.some {
-        return leaf(text, tok, work, cur, i, OPEN_CLOSE_BRACKET);
+        return leaf(list, work, cur, i, OPEN_CLOSE_BRACKET);
     }
     if run.met {
-        note_closer(work, i, n, at);
+        note_closer(work, i, list.n, at);
         return operation(cur.next());
     }
     give_up(work, i, mark, from as usize, at);
-    leaf(text, tok, work, cur.rewind(from), i, OPEN_CLOSE_BRACKET)
+    leaf(list, work, cur.rewind(from), i, OPEN_CLOSE_BRACKET)
 }
 
 // What the entry i of another kind k, just taken, begins: an operation or a leaf.
 #[cycle(readers)]
 fn other(
-    text: &[u8],
-    tok: &[u32],
-    n: usize,
+    list: &List<'_>,
     work: &mut [u32],
     c: Cursor,
     stop: bool,
@@ -501,75 +426,55 @@ fn other(
     i: usize,
     k: u32,
 ) -> Part
-    requires ready { Ready n work.old c }
-    requires i_value { test_at tok.now work.old n (begins_kind stop) i ≡ true }
+    requires ready { Ready list.now.n work.old c }
+    requires i_value { test_at list.now.tok.now work.old list.now.n (begins_kind stop) i ≡ true }
     requires i_lt_pos { i < c.pos }
-    requires k_value { k ≡ kind_of tok.now work.old i }
+    requires k_value { k ≡ kind_of list.now.tok.now work.old i }
     requires k_value_2 { opening k ≡ false }
-    ensures { Begun text.now tok.now n work.old work.new i stop sign c result }
+    ensures { Begun list.now.text.now list.now.tok.now list.now.n work.old work.new i stop sign c result }
 {
     if k == BINARY {
-        let g = next_simple(text, tok, n, work, c, false, true);
-        let gc = g.cur;
-        let h = next_simple(text, tok, n, work, gc, false, true);
-        let hc = h.cur;
-        return operation(hc);
+        let g = next_simple(list, work, c, false, true);
+        let h = next_simple(list, work, g.cur, false, true);
+        return operation(h.cur);
     }
     if takes_one(k, sign) {
-        let p = next_simple(text, tok, n, work, c, prefix_stop(k, stop), true);
-        let pc = p.cur;
-        return operation(pc);
+        let p = next_simple(list, work, c, prefix_stop(k, stop), true);
+        return operation(p.cur);
     }
-    leaf(text, tok, work, c, i, k)
+    leaf(list, work, c, i, k)
 }
 
 // What the entry i, just taken, begins.
 #[cycle(readers)]
-fn begun(
-    text: &[u8],
-    tok: &[u32],
-    n: usize,
-    work: &mut [u32],
-    c: Cursor,
-    stop: bool,
-    sign: bool,
-    i: usize,
-) -> Part
-    requires ready { Ready n work.old c }
-    requires i_value { test_at tok.now work.old n (begins_kind stop) i ≡ true }
+fn begun(list: &List<'_>, work: &mut [u32], c: Cursor, stop: bool, sign: bool, i: usize) -> Part
+    requires ready { Ready list.now.n work.old c }
+    requires i_value { test_at list.now.tok.now work.old list.now.n (begins_kind stop) i ≡ true }
     requires i_lt_pos { i < c.pos }
-    ensures { Begun text.now tok.now n work.old work.new i stop sign c result }
+    ensures { Begun list.now.text.now list.now.tok.now list.now.n work.old work.new i stop sign c result }
 {
-    let k = kind_at(tok, work, i);
+    let k = kind_at(list.tok, work, i);
     if opens(k) {
-        bracket(text, tok, n, work, c, stop, i, k)
+        bracket(list, work, c, stop, i, k)
     } else {
-        other(text, tok, n, work, c, stop, sign, i, k)
+        other(list, work, c, stop, sign, i, k)
     }
 }
 
 // A simple expression. `sign`: a sign here prefixes what follows it.
 #[cycle(readers)]
-fn next_simple(
-    text: &[u8],
-    tok: &[u32],
-    n: usize,
-    work: &mut [u32],
-    c: Cursor,
-    stop: bool,
-    sign: bool,
-) -> Part
-    requires { Ready n work.old c }
-    ensures { Simple text.now tok.now n work.old work.new stop sign c result }
+fn next_simple(list: &List<'_>, work: &mut [u32], c: Cursor, stop: bool, sign: bool) -> Part
+    requires { Ready list.now.n work.old c }
+    ensures { Simple list.now.text.now list.now.tok.now list.now.n work.old work.new stop sign c result }
 {
     let depth = c.depth;
     if too_deep(depth) {
         return nothing(c);
     }
     let pos = c.pos as usize;
-    if begins_at(tok, work, n, pos, stop) {
-        let g = begun(text, tok, n, work, c.next().deeper(), stop, sign, pos);
+    if list.begins_at(work, pos, stop) {
+        let g = begun(list, work, c.next().deeper(), stop, sign, pos);
         return back(g, depth);
     }
-    nothing(c.look(n))
+    nothing(c.look(list.n))
 }

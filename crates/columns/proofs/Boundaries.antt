@@ -8,19 +8,23 @@ use native.Mathlib.Numerals.{add-one}
 use lib.ListN.{length, drop, get_or, set, length-drop, length-set, length-map, get_or-map, drop_of_length-le}
 use lib.Seq.{length-take-le, drop-cons, get_or-take, get_or-drop, drop-set-lt, get_or-set_other}
 use lib.Dec.{eqb}
+use Rattle.std.proofs.Common.{count_by, ◌==◌}
+use Rattle.std.proofs.lemmas.List.Sums.{sum_by_from}
 use Rattle.reading.specs.Reading.{kept_cols, column_lines}
 use Rattle.tokens.specs.Refusals.{bit}
 use Rattle.columns.specs.Steps.{Wrote, flags, bits, Lines}
 use Rattle.columns.proofs.Buffer.{Same, seq, wrote_none, wrote_one}
 
-pub one-most : (b : Bool) → cond b 1 0 ≤ 1
-one-most true = omega arith
-one-most false = omega arith
-
 kept_cons : (b : Bool) (l : List Bool) → kept_cols (b ∷ l) ≡ cond (eqb (bit b) 0) 1 0 + kept_cols l
 unfolding kept_cols
 kept_cons true l = omega arith
 kept_cons false l = omega arith
+
+-- the columns whose flag is 0 are kept
+pub kept_bits : (m : List Bool) → count_by (λ flag. flag == 0) (bits m) ≡ kept_cols m
+unfolding kept_cols
+kept_bits [] = refl
+kept_bits (b ∷ m) = sum_by_from (λ x. cond (x == 0) 1 0) (0 + cond (bit b == 0) 1 0) (bits m) ∙ omega (arith, kept_bits m, kept_cons b m)
 
 lines_cons : (n : ℕ) (b : Bool) (l : List Bool) → column_lines n (b ∷ l) ≡ cond (eqb (bit b) 0) (column_lines (n + 1) l) (n ∷ column_lines n l)
 unfolding column_lines
@@ -39,17 +43,6 @@ module _ (x : List ℕ) (e cols : ℕ) (room : e + cols ≤ length x) (m : List 
 
   mask-none : (k : ℕ) → cols ≤ k → drop k m ≡ []
   mask-none k q = drop_of_length-le m {i = k} (omega (arith, mask-long))
-
-  pub count-more : (k n w v : ℕ) → k < cols → w ≡ get_or x (e + k) 0 → v ≡ cond (eqb w 0) 1 0
-      → n + kept_cols (drop k m) ≡ kept_cols m → n + v + kept_cols (drop (k + 1) m) ≡ kept_cols m
-  count-more k n w v q u s h =
-      let f : kept_cols (drop k m) ≡ cond (eqb w 0) 1 0 + kept_cols (drop (k + 1) m) =
-      ap kept_cols (mask-cons k q) ∙ rw (u, flag_at k q) (kept_cons (get_or m k false) (drop (k + 1) m)) in
-      omega arith
-
-  pub count-done : (k n : ℕ) → cols ≤ k → n + kept_cols (drop k m) ≡ kept_cols m → n ≡ kept_cols m
-  unfolding kept_cols
-  count-done k n q h = let f : kept_cols (drop k m) ≡ 0 = ap kept_cols (mask-none k q) in omega arith
 
   -- the next boundary, if the column's flag is z
   lines_next : (k n : ℕ) (z : Bool) → k < cols → eqb (get_or x (e + k) 0) 0 ≡ z
@@ -90,7 +83,7 @@ putting-none x to e cols = record {
 }
 
 module _ {x y : List ℕ} {to e cols out b k : ℕ} (room : e + cols ≤ length x) (fit : to ≤ e) (p : Putting x to e cols y out b k) where
-  putting-step : (z : Bool) → k < cols → eqb (get_or x (e + k) 0) 0 ≡ z
+  pub putting-step : (z : Bool) → k < cols → eqb (get_or x (e + k) 0) 0 ≡ z
       → Putting x to e cols (cond z y (set y out b)) (cond z out (out + 1)) (cond z (b + 1) b) (k + 1)
   putting-step true q u = record {
     long = p.long;
@@ -119,13 +112,8 @@ module _ {x y : List ℕ} {to e cols out b k : ℕ} (room : e + cols ≤ length 
         };
   }
 
-  pub putting-more : {y' : List ℕ} {out' b' w : ℕ} → k < cols → w ≡ get_or y (e + k) 0 → out' ≡ cond (eqb w 0) out (out + 1)
-      → y' ≡ cond (eqb w 0) y (set y out b) → b' ≡ cond (eqb w 0) (b + 1) b → Putting x to e cols y' out' b' (k + 1)
-  putting-more {w = w} q u f g h =
-      rw (f, g, h) (putting-step (eqb w 0) q (ap (λ (v : ℕ). eqb v 0) (sym (p.after (e + k) (omega arith) (omega arith)) ∙ sym u)))
-
-  pub putting-done : k ≤ cols → cols ≤ k → Lines x to e cols y out
-  putting-done c q = record {
+  pub putting-done : cols ≤ k → Lines x to e cols y out
+  putting-done q = record {
     on = p.on;
     after = p.past;
     gives = λ m f.

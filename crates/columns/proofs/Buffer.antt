@@ -3,8 +3,8 @@ use mathlib.Core.Path.{◌≡◌, refl, ap, sym, ◌∙◌}
 use mathlib.Core.List.{List, [], ◌∷◌, ◌++◌, append_assoc, append-nil}
 use Prim.Native.Nat.{ℕ, ◌+◌, ◌-◌, ◌≤◌, ◌<◌}
 use native.Mathlib.Omega.{arith}
-use lib.ListN.{length, take, drop, get_or, set, replicate, length-append, length-drop, length-replicate, get_or-replicate}
-use lib.Seq.{paste, paste-suc, drop-paste, take_at, drop_at, drop-drop, take-take, get_or-take, get_or-drop, take-suc-set, length-take-le, ext_get_or, take-paste}
+use lib.ListN.{length, take, drop, get_or, set, replicate, length-append, length-drop, length-replicate}
+use lib.Seq.{paste, take_at, drop_at, drop-drop, take-take, get_or-take, get_or-drop, take-suc-set, length-take-le, take_all, ext_get_or, take-paste}
 use native.Mathlib.Numerals.{add-one}
 use Rattle.columns.specs.Steps.{Wrote}
 
@@ -76,24 +76,10 @@ wrote-moved x to at n t h =
       body = take-paste x to (drop at x) n (omega arith) (omega arith);
     }
 
--- one more word filled, and one more moved left
-pub fill_more : (x y : List ℕ) (at n v k : ℕ) → at + n ≤ length x → k < n → y ≡ paste x at (replicate n v) k
-    → set y (at + k) v ≡ paste x at (replicate n v) (k + 1)
-fill_more x y at n v k h q e =
-    ap (λ (r : List ℕ). set r (at + k) v) e
-    ∙ ap (λ (w : ℕ). set (paste x at (replicate n v) k) (at + k) w) (sym (get_or-replicate n k v 0 q))
-    ∙ paste-suc x at (replicate n v) k 0 (omega arith) (omega (arith, length-replicate {A = ℕ} n v))
-    ∙ ap (λ (m : ℕ). paste x at (replicate n v) m) (sym (add-one k))
-
-pub moved_more : (x y : List ℕ) (to at n k : ℕ) → to ≤ at → at + n ≤ length x → k < n → y ≡ paste x to (drop at x) k
-    → set y (to + k) (get_or y (at + k) 0) ≡ paste x to (drop at x) (k + 1)
-moved_more x y to at n k t h q e =
-    let d : length (drop at x) ≡ length x - at = length-drop at x in
-    let same : get_or y (at + k) 0 ≡ get_or (drop at x) k 0 =
-    ap (λ (r : List ℕ). get_or r (at + k) 0) e
-    ∙ same_drop x (paste x to (drop at x) k) (to + k) (at + k) (at + k + 1) (drop-paste x to (drop at x) k (omega arith) (omega arith)) (omega arith) (at + k) (omega arith) (omega arith)
-    ∙ sym (get_or-drop at x k 0) in
-    ap (λ (v : ℕ). set y (to + k) v) same
-    ∙ ap (λ (r : List ℕ). set r (to + k) (get_or (drop at x) k 0)) e
-    ∙ paste-suc x to (drop at x) k 0 (omega arith) (omega arith)
-    ∙ ap (λ (m : ℕ). paste x to (drop at x) m) (sym (add-one k))
+-- the words from `at` up to `to`, n of them, filled
+pub filled : (x s : List ℕ) (at to n v : ℕ) → to - at ≡ n → at + n ≤ length x → s ≡ replicate (length (take (to - at) (drop at x))) v
+    → take at x ++ (s ++ drop (to - at) (drop at x)) ≡ paste x at (replicate n v) n
+filled x s at to n v k h e =
+    let l : length (take n (drop at x)) ≡ n = length-take-le n (drop at x) (omega (arith, length-drop at x)) in
+    let w : s ≡ take n (replicate n v) = e ∙ rw (k, l) (sym (take_all n (replicate n v) (omega (arith, length-replicate {A = ℕ} n v)))) in
+    rw (k, drop-drop n at x, w) (sym (regroup x at (replicate n v) n (omega arith)))

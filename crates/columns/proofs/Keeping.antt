@@ -2,7 +2,7 @@
 use mathlib.Core.Path.{◌≡◌, refl, ap, sym, subst, ◌∙◌}
 use mathlib.Core.List.{List, [], ◌∷◌, ◌++◌, append_assoc, append-nil}
 use mathlib.Core.Bool.{Bool, true, false, cond}
-use Prim.Native.Nat.{ℕ, zero, suc, ◌+◌, ◌-◌, ◌≤◌, ◌<◌}
+use Prim.Native.Nat.{ℕ, zero, suc, ◌+◌, ◌≤◌, ◌<◌}
 use native.Mathlib.Omega.{arith}
 use lib.ListN.{length, take, drop, get_or, length-append, length-drop}
 use lib.Seq.{paste, drop-paste, length-paste}
@@ -12,7 +12,7 @@ use Rattle.tokens.specs.Refusals.{bit}
 use Rattle.columns.specs.Steps.{Wrote, flags, bits, CellsStand, KeptCells}
 use Rattle.columns.proofs.Buffer.{same_drop, drop_more, seq, wrote_none, wrote-moved}
 use Rattle.columns.proofs.Cells.{cells-le, next-below}
-use Rattle.columns.proofs.Boundaries.{flag_at, one-most}
+use Rattle.columns.proofs.Boundaries.{flag_at}
 
 join_one : (ws : List (List ℕ)) (w : List ℕ) → join_words (ws ++ (w ∷ [])) ≡ join_words ws ++ w
 unfolding join_words
@@ -73,7 +73,7 @@ module _ {x : List ℕ} {from cells cols : ℕ} {y : List ℕ} {at to c j left :
       ap (λ (l : List (List ℕ)). u.done ++ l) (sym (flag-pick (get_or m j false) others (this ∷ others) ∙ ap (λ (b : Bool). cond b (this ∷ others) others) g)) ∙ u.same
 
   upto-cell : (z : Bool) → eqb (bit (get_or m j false)) 0 ≡ z
-      → Upto x from cells cols (cond z (paste y to (drop at y) n) y) (at + n) (cond z (to + n) to) (c + cond z 1 0) (next cols j) left m
+      → Upto x from cells cols (cond z (paste y to (drop at y) n) y) (at + n) (cond z (to + n) to) (cond z (c + 1) c) (next cols j) left m
   upto-cell true g = record {
     done = u.done ++ (this ∷ []);
     wrote = rw (join_one u.done this) (subst (λ (r : List ℕ). Wrote x from (paste y to (drop at y) n) (to + n) (join_words u.done ++ take n r)) rest (seq u.wrote (wrote-moved y to at n t fit)));
@@ -111,7 +111,7 @@ module _ {x : List ℕ} {from e cells cols : ℕ} (ready : CellsStand x from e c
 
     keeping_step : (z : Bool) (l : ℕ) → i + suc l ≡ cells → cells_end x at (suc l) ≡ e → ((m : List Bool) → flags e cols x ≡ bits m → Upto x from cells cols y at to c j (suc l) m)
         → i < cells → eqb (get_or y (e + j) 0) 0 ≡ z
-        → let n = cell_len x at in Keeping x from e cells cols (cond z (paste y to (drop at y) n) y) (at + n) (cond z (to + n) to) (c + cond z 1 0) (next cols j) (i + 1)
+        → let n = cell_len x at in Keeping x from e cells cols (cond z (paste y to (drop at y) n) y) (at + n) (cond z (to + n) to) (cond z (c + 1) c) (next cols j) (i + 1)
     unfolding cells_end
     keeping_step z l s d gives h f =
         let n : ℕ = cell_len x at in
@@ -121,7 +121,7 @@ module _ {x : List ℕ} {from e cells cols : ℕ} (ready : CellsStand x from e c
         record {
           long = long-pick y to at n p.behind inside z ∙ p.long;
           behind = to_pick z;
-          most = omega (arith, p.most, one-most z);
+          most = most_pick z;
           col = next-below cols j p.col;
           left = l;
           sum = omega arith;
@@ -136,14 +136,18 @@ module _ {x : List ℕ} {from e cells cols : ℕ} (ready : CellsStand x from e c
         to_pick true = omega (arith, p.behind)
         to_pick false = omega (arith, p.behind)
 
-    pub keeping_more : {y' : List ℕ} {to' v j' n w : ℕ} → i < cells → n ≡ cell_len y at → w ≡ get_or y (e + j) 0
-        → to' ≡ cond (eqb w 0) (to + n) to → y' ≡ cond (eqb w 0) (paste y to (drop at y) n) y → v ≡ cond (eqb w 0) 1 0 → j' ≡ next cols j
-        → Keeping x from e cells cols y' (at + n) to' (c + v) j' (i + 1)
-    keeping_more {y'} {to'} {v} {j'} {n} {w} h u f a b g k = go p.left p.sum p.chain p.gives
+        most_pick : (z : Bool) → cond z (c + 1) c ≤ i + 1
+        most_pick true = omega (arith, p.most)
+        most_pick false = omega (arith, p.most)
+
+    pub keeping_more : (z : Bool) → i < cells → eqb (get_or y (e + j) 0) 0 ≡ z
+        → let n = cell_len y at in Keeping x from e cells cols (cond z (paste y to (drop at y) n) y) (at + n) (cond z (to + n) to) (cond z (c + 1) c) (next cols j) (i + 1)
+    keeping_more z h f = go p.left p.sum p.chain p.gives
       where
-        go : (l : ℕ) → i + l ≡ cells → cells_end x at l ≡ e → ((m : List Bool) → flags e cols x ≡ bits m → Upto x from cells cols y at to c j l m) → Keeping x from e cells cols y' (at + n) to' (c + v) j' (i + 1)
+        go : (l : ℕ) → i + l ≡ cells → cells_end x at l ≡ e → ((m : List Bool) → flags e cols x ≡ bits m → Upto x from cells cols y at to c j l m)
+            → let n = cell_len y at in Keeping x from e cells cols (cond z (paste y to (drop at y) n) y) (at + n) (cond z (to + n) to) (cond z (c + 1) c) (next cols j) (i + 1)
         go zero s d o = absurd (omega arith)
-        go (suc l) s d o = rw (a, b, g, k, u, keeping_len) (keeping_step (eqb w 0) l s d o h (ap (λ (q : ℕ). eqb q 0) (sym f)))
+        go (suc l) s d o = rw keeping_len (keeping_step z l s d o h f)
 
     pub keeping_done : cells ≤ i → KeptCells x from e cells cols y (record { end = to; cells = c })
     unfolding cells_end cells_from other_cells

@@ -52,45 +52,29 @@ pub record Marking (X x : List ℕ) (from e cells cols : ℕ) (y : List ℕ) (at
   pub flag : flags e cols y ≡ bits sofar
   pub same : only_lines X cols sofar j (cells_from x at left) ≡ mask X x from e cells cols
 
-module _ {X x y : List ℕ} {from e cells cols at j i n : ℕ} (room : e ≤ length x) (m : Marking X x from e cells cols y at j i) (h : i < cells)
-    (fit : n ≡ cond (leb (at + cell_len y at) e) (cell_len y at) 0) where
+module _ {X x y : List ℕ} {from e cells cols at j i : ℕ} (room : e ≤ length x) (m : Marking X x from e cells cols y at j i) (h : i < cells) where
   -- the next cell passes e
-  pub marking-broken : n ≡ 0 → false ≡ eqb (cells_end x from cells) e
+  pub marking-broken : e < at + cell_len y at → false ≡ eqb (cells_end x from cells) e
   unfolding cells_end
-  marking-broken z = sym (ne_eqb (cells_end x from cells) e (go m.left m.sum m.chain (leb (at + cell_len y at) e) refl fit))
+  marking-broken p = sym (ne_eqb (cells_end x from cells) e (go m.left m.sum m.chain))
     where
-      past : (b : Bool) → leb (at + 6) e ≡ b → e < at + cell_len y at → e < at + cell_len x at
-      past true q p = omega (arith, same-take x y at e m.beside.front (at + 4) (omega arith) (omega (arith, leb-true (at + 6) e q)))
-      past false q p = omega (arith, leb-false (at + 6) e q)
+      past : (b : Bool) → leb (at + 6) e ≡ b → e < at + cell_len x at
+      past true q = omega (arith, same-take x y at e m.beside.front (at + 4) (omega arith) (omega (arith, leb-true (at + 6) e q)))
+      past false q = omega (arith, leb-false (at + 6) e q)
 
-      go : (l : ℕ) → i + l ≡ cells → cells_end x at l ≡ cells_end x from cells → (b : Bool) → leb (at + cell_len y at) e ≡ b → n ≡ cond b (cell_len y at) 0 → cells_end x from cells ≡ e → ⊥
-      go zero s c b p q r = omega arith
-      go (suc l) s c true p q r = omega arith
-      go (suc l) s c false p q r = omega (arith, cells-le x l (at + cell_len x at), past (leb (at + 6) e) refl (leb-false (at + cell_len y at) e p))
+      go : (l : ℕ) → i + l ≡ cells → cells_end x at l ≡ cells_end x from cells → cells_end x from cells ≡ e → ⊥
+      go zero s c r = omega arith
+      go (suc l) s c r = omega (arith, cells-le x l (at + cell_len x at), past (leb (at + 6) e) refl)
 
-  fits : (n ≡ 0 → ⊥) → (n ≡ cell_len y at) × (at + cell_len y at ≤ e)
-  fits z = go (leb (at + cell_len y at) e) refl fit
-    where
-      go : (b : Bool) → leb (at + cell_len y at) e ≡ b → n ≡ cond b (cell_len y at) 0 → (n ≡ cell_len y at) × (at + cell_len y at ≤ e)
-      go true p q = (q, leb-true (at + cell_len y at) e p)
-      go false p q = absurd (z q)
-
-  pub marking-end : (n ≡ 0 → ⊥) → at + n ≤ e
-  marking-end z = let f = fits z in omega (arith, f.0, f.1)
-
-  pub marking-fits : (n ≡ 0 → ⊥) → at + cell_len y at ≤ length y
-  marking-fits z = omega (arith, (fits z).1, m.beside.long)
-
-  pub marking-more : {y' : List ℕ} {t : Bool} {j' : ℕ} → (n ≡ 0 → ⊥) → t ≡ is_line X (take (cell_len y at) (drop at y)) → y' ≡ cond t y (set y (e + j) 0) → j' ≡ next cols j
-      → Marking X x from e cells cols y' (at + n) j' (i + 1)
+  pub marking-more : {y' : List ℕ} {t : Bool} {j' n : ℕ} → at + cell_len y at ≤ e → n ≡ cell_len y at → t ≡ is_line X (take (cell_len y at) (drop at y)) → y' ≡ cond t y (set y (e + j) 0)
+      → j' ≡ next cols j → Marking X x from e cells cols y' (at + n) j' (i + 1)
   unfolding cells_end cells_from only_lines
-  marking-more {y'} {t} {j'} z u g c =
-      let f = fits z in
+  marking-more {y'} {t} {j'} {n} f o u g c =
       let s : Same x y at e = same-take x y at e m.beside.front in
-      let k : cell_len y at ≡ cell_len x at = ap (λ (w : ℕ). 6 + w) (s (at + 4) (omega arith) (omega (arith, f.1))) in
-      let w : take (cell_len x at) (drop at y) ≡ take (cell_len x at) (drop at x) = part_same x y at (cell_len x at) (omega (arith, f.1)) m.beside.long (λ i p q. s i p (omega (arith, f.1))) in
+      let k : cell_len y at ≡ cell_len x at = ap (λ (w : ℕ). 6 + w) (s (at + 4) (omega arith) (omega (arith, f))) in
+      let w : take (cell_len x at) (drop at y) ≡ take (cell_len x at) (drop at x) = part_same x y at (cell_len x at) (omega (arith, f)) m.beside.long (λ i p q. s i p (omega (arith, f))) in
       let v : t ≡ is_line X (take (cell_len x at) (drop at x)) = u ∙ ap (λ (o : ℕ). is_line X (take o (drop at y))) k ∙ ap (is_line X) w in
-      go m.left m.sum m.chain m.same (f.0 ∙ k) v
+      go m.left m.sum m.chain m.same (o ∙ k) v
     where
       go : (l : ℕ) → i + l ≡ cells → cells_end x at l ≡ cells_end x from cells → only_lines X cols m.sofar j (cells_from x at l) ≡ mask X x from e cells cols
           → n ≡ cell_len x at → t ≡ is_line X (take (cell_len x at) (drop at x)) → Marking X x from e cells cols y' (at + n) j' (i + 1)
@@ -150,9 +134,8 @@ module _ (X x y : List ℕ) (from e cells cols : ℕ) (room : e + cols ≤ lengt
             f g ∙ ap (λ (ws : List (List ℕ)). bits (only_lines X cols (replicate cols true) 0 ws)) c;
       }
 
-  pub marked-broken : {z : List ℕ} {at j i n : ℕ} → Marking X y from e cells cols z at j i → i < cells → n ≡ cond (leb (at + cell_len z at) e) (cell_len z at) 0 → n ≡ 0
-      → Marked X x from e cells cols z false
-  marked-broken m h f o = marked m.beside (marking-broken (omega (arith, beside-ones.long)) m h f o) (λ g. absurd (let q : ◌≡◌ {A = ℕ} 0 1 = cc in omega arith))
+  pub marked-broken : {z : List ℕ} {at j i : ℕ} → Marking X y from e cells cols z at j i → i < cells → e < at + cell_len z at → Marked X x from e cells cols z false
+  marked-broken m h f = marked m.beside (marking-broken (omega (arith, beside-ones.long)) m h f) (λ g. absurd (let q : ◌≡◌ {A = ℕ} 0 1 = cc in omega arith))
 
   pub marked-done : {z : List ℕ} {at j i : ℕ} {r : Bool} → Marking X y from e cells cols z at j i → cells ≤ i → r ≡ eqb at e → Marked X x from e cells cols z r
   unfolding cells_end cells_from only_lines

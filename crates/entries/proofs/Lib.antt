@@ -1,4 +1,5 @@
 pub mod Matching
+mod Listed
 mod Clearing
 mod Words
 mod Filling

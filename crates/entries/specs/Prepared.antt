@@ -1,5 +1,5 @@
 -- Parser::new over lent words: the records of a list's entries, and what the call answers.
-use Rattle.std.specs.Prelude.{ℕ, zero, suc, ◌+◌, ◌*◌, true, false, cond, List, [], ◌∷◌, ◌++◌, eqb, ltb, length, drop}
+use Rattle.std.specs.Prelude.{ℕ, zero, suc, ◌+◌, ◌*◌, ◌/◌, true, false, cond, List, [], ◌∷◌, ◌++◌, eqb, ltb, length, drop, Result, Ok, Err}
 use Rattle.std.proofs.Math.Option.{none, some}
 use Rattle.tokens.specs.declared.token.Token.TheVariants as token
 use Rattle.tokens.specs.Kinds.{number_of}
@@ -8,8 +8,10 @@ use Rattle.tokens.specs.Table.{token_list, count_others}
 use Rattle.tree.specs.Tree.{nowhere}
 use Rattle.reading.specs.Entries.{Entry, is, entries, close_after, has_sep}
 use Rattle.records.specs.Record.{record_words, record_of}
-use Rattle.entries.specs.declared.Prepared.{Prepared}
-use Rattle.entries.specs.declared.Prepared.TheVariants.{Entries, Refused}
+
+-- the tokens of a list that has the words of tokens alone
+abbrev pub all_tokens : List ℕ → List Lexeme
+all_tokens words = token_list (length words / 3) words
 
 -- the numbers of the tokens other than Space; i is that of the first token
 unfoldable pub places : ℕ → List Lexeme → List ℕ
@@ -38,18 +40,18 @@ work_words ts = records zero (places zero ts) (entries nowhere ts)
 
 -- "3 more than 4,096 tokens claimed, or a table with fewer than three words for each"; "8 work too short": "Two words a
 -- token, 2 × (n + 1) in all". A refusal changes nothing; words past the records are unchanged.
-unfoldable pub prepared : List ℕ → ℕ → List ℕ → Prepared × List ℕ
+unfoldable pub prepared : List ℕ → ℕ → List ℕ → Result ℕ ℕ × List ℕ
 prepared table count work =
     elim (ltb 4096 count) [
-      | true ↦ (Refused 3, work)
+      | true ↦ (Err 3, work)
       | false ↦
           elim (ltb (length table) (3 * count)) [
-            | true ↦ (Refused 3, work)
+            | true ↦ (Err 3, work)
             | false ↦
                 let ts = token_list count table in
                 elim (ltb (length work) (record_words (count_others ts + 1))) [
-                  | true ↦ (Refused 8, work)
-                  | false ↦ (Entries (count_others ts), work_words ts ++ drop (record_words (count_others ts)) work)
+                  | true ↦ (Err 8, work)
+                  | false ↦ (Ok (count_others ts), work_words ts ++ drop (record_words (count_others ts)) work)
                 ]
           ]
     ]

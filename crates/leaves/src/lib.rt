@@ -5,7 +5,8 @@ ghost use Rattle.std.specs.Prelude.{◌≡◌};
 ghost use Rattle.buffer.specs.Buffer.{stored};
 ghost use Rattle.leaves.specs.Leaves.{node_words, leaf_kind, leaf_class, leaf_ends, leaf_words, plain_words, leaf_bar};
 
-use buffer::{fits, put6};
+use buffer::{fits, put};
+use lookahead::list::List;
 use records::record::{len_at, start_at};
 use spans::is_byte;
 use tokens::kinds::{IDENT, NUMBER, OPEN_CLOSE_BRACKET, OPERATOR, SEP, SIGN, SYMBOL, TEXT};
@@ -15,7 +16,7 @@ use tree::kinds::{
 
 // A node of the entry i: its kind, its span and one word more.
 pub fn put_node(
-    tok: &[u32],
+    list: &List<'_>,
     work: &[u32],
     tree: &mut [u32],
     e: usize,
@@ -23,11 +24,11 @@ pub fn put_node(
     i: usize,
     extra: u32,
 )
-    ensures { tree.new ≡ stored tree.old e (node_words tok.now work.now i kind extra) }
+    ensures { tree.new ≡ stored tree.old e (node_words list.now.tok.now work.now i kind extra) }
 {
-    let start = start_at(tok, work, i);
-    let len = len_at(tok, work, i);
-    put6(tree, e, kind, start, len, extra, 0, 0);
+    let start = start_at(list.tok, work, i);
+    let len = len_at(list.tok, work, i);
+    put(tree, e, &[kind, start, len, extra, 0, 0]);
 }
 
 // The classes of symbols that a token of another kind gets: a stray mark or bracket is a glyph.
@@ -39,6 +40,7 @@ const SEPARATOR: u32 = 7;
 const JOINING_SYMBOL: u32 = SYMBOL + 2;
 
 // A leaf's node kind, its class, and whether it ends an operand, by the kind of its token.
+// kept: the numbers of kinds and classes are words of the table and the tree, the C interface (docs/LAYOUT.md)
 fn leaf_kind(k: u32) -> u32
     ensures { result ≡ leaf_kind k }
 {
@@ -55,69 +57,43 @@ fn leaf_kind(k: u32) -> u32
 fn leaf_class(k: u32) -> u32
     ensures { result ≡ leaf_class k }
 {
-    if k == SEP {
-        return SEPARATOR;
+    match k {
+        SEP => SEPARATOR,
+        SYMBOL..SIGN => k - SYMBOL,
+        _ => GLYPH,
     }
-    if k < SYMBOL {
-        return GLYPH;
-    }
-    if k < SIGN {
-        return k - SYMBOL;
-    }
-    GLYPH
 }
 
 // Of the symbols, Glyph and Name do; a stray mark and a bar alone are glyphs.
 pub fn leaf_ends(k: u32) -> bool
     ensures { result ≡ leaf_ends k }
 {
-    if k < SEP {
-        return true;
-    }
-    if k == SEP {
-        return false;
-    }
-    if k < OPERATOR {
-        return true;
-    }
-    if k < SYMBOL {
-        return false;
-    }
-    if k < JOINING_SYMBOL {
-        return true;
-    }
-    if k < OPEN_CLOSE_BRACKET {
-        return false;
-    }
-    true
+    !matches!(k, SEP | OPERATOR | JOINING_SYMBOL..OPEN_CLOSE_BRACKET)
 }
 
 // The leaf of the entry i, of kind k.
-pub fn put_leaf(tok: &[u32], work: &[u32], tree: &mut [u32], e: usize, i: usize, k: u32)
-    ensures { tree.new ≡ stored tree.old e (leaf_words tok.now work.now i k) }
+pub fn put_leaf(list: &List<'_>, work: &[u32], tree: &mut [u32], e: usize, i: usize, k: u32)
+    ensures { tree.new ≡ stored tree.old e (leaf_words list.now.tok.now work.now i k) }
 {
     let kind = leaf_kind(k);
     let class = leaf_class(k);
-    put_node(tok, work, tree, e, kind, i, class);
+    put_node(list, work, tree, e, kind, i, class);
 }
 
 // The item that is this leaf alone.
-pub fn put_plain(tok: &[u32], work: &[u32], tree: &mut [u32], e: usize, i: usize, k: u32)
-    ensures { tree.new ≡ stored tree.old e (plain_words tok.now work.now i k) }
+pub fn put_plain(list: &List<'_>, work: &[u32], tree: &mut [u32], e: usize, i: usize, k: u32)
+    ensures { tree.new ≡ stored tree.old e (plain_words list.now.tok.now work.now i k) }
 {
     if fits(tree.len(), e, 13) {
-        tree[e] = 0;
-        put6(tree, e + 1, NODE_SIMPLE, 0, 0, 0, 0, 0);
-        put_leaf(tok, work, tree, e + 7, i, k);
+        put(tree, e, &[0, NODE_SIMPLE, 0, 0, 0, 0, 0]);
+        put_leaf(list, work, tree, e + 7, i, k);
     }
 }
 
 // The leaf of the entry i, of kind k, is a symbol with the text `|`.
-pub fn leaf_bar(text: &[u8], tok: &[u32], work: &[u32], i: usize, k: u32) -> bool
-    ensures { result ≡ leaf_bar text.now tok.now work.now i k }
+#[tactic(auto, unfolding(crate::specs::Leaves::leaf_bar))]
+pub fn leaf_bar(list: &List<'_>, work: &[u32], i: usize, k: u32) -> bool
+    ensures { result ≡ leaf_bar list.now.text.now list.now.tok.now work.now i k }
 {
-    if leaf_kind(k) == NODE_SYMBOL {
-        return is_byte(text, tok, work, i, b'|');
-    }
-    false
+    leaf_kind(k) == NODE_SYMBOL && is_byte(list, work, i, b'|')
 }

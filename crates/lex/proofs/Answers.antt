@@ -7,19 +7,19 @@ use lib.ListN.{length}
 use borrow.Author.Tests.{lt-ltb, le-ltb}
 use Rattle.lexing.specs.Rules.{byte_at, read_at, token_row_at}
 use Rattle.lexer.specs.Listing.{place_refusal}
-use Rattle.lex.specs.declared.Lexing.TheVariants.{End, Refused}
+use Rattle.std.specs.Prelude.{Ok, Err, Some, None}
 use Rattle.lex.specs.Lex.{lexing, lexed_at}
 
 module _ (text : List ℕ) (at : ℕ) where
-  pub lex_refused : (k : ℕ) → place_refusal text at ≡ some k → Refused k ≡ lexed_at text at
+  pub lex_refused : (k : ℕ) → place_refusal text at ≡ some k → Err k ≡ lexed_at text at
   unfolding lexed_at
   lex_refused k e = sym (rw (e, lexed_at))
 
   module _ (a : place_refusal text at ≡ none) where
-    pub lex_end : length text ≤ at → End ≡ lexed_at text at
+    pub lex_end : length text ≤ at → Ok None ≡ lexed_at text at
     unfolding lexed_at
     lex_end l = sym (rw (a, lexed_at) (rw (le-ltb at (length text) l)))
 
-    pub lex_read : at < length text → lexing (read_at byte_at text at) (token_row_at text at) ≡ lexed_at text at
+    pub lex_read : at < length text → Ok (Some (lexing (read_at byte_at text at) (token_row_at text at))) ≡ lexed_at text at
     unfolding lexed_at
     lex_read l = sym (rw (a, lexed_at) (rw (lt-ltb at (length text) l)))

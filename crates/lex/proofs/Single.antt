@@ -1,5 +1,5 @@
 -- A single read, listed into twelve words: they are those of its tokens, and zeros.
-use mathlib.Core.Path.{◌≡◌, sym, ap, ◌∙◌}
+use mathlib.Core.Path.{◌≡◌, ap, ◌∙◌}
 use mathlib.Core.List.{List, [], ◌∷◌, append-nil}
 use mathlib.Core.Option.{Option, none, some}
 use Prim.Native.Nat.{ℕ, suc, ◌+◌, ◌-◌, ◌≤◌, ◌<◌, min}
@@ -7,33 +7,34 @@ use native.Mathlib.Omega.{arith}
 use lib.ListN.{length}
 use Rattle.tokens.specs.Lexeme.{Lexeme}
 use Rattle.tokens.specs.Table.{table_words, count_others}
-use Rattle.tokens.proofs.Cases.{by_option}
+use Rattle.tokens.proofs.Cases.{by_option, apart}
 use Rattle.tokens.proofs.Numbers.{token-of_number}
 use Rattle.lexing.specs.Rules.{Read, byte_at, read_at, token_row_at}
 use Rattle.lexing.proofs.Moves.{read-moves, byte_at_sound}
 use Rattle.lexer.specs.declared.Listing.{Listing}
-use Rattle.lexer.specs.declared.Listing.TheVariants as listing
-use Rattle.lexer.specs.declared.found.TokenRow.{TokenRow}
+use Rattle.std.specs.Prelude.{Result, Ok, Err, Some}
+use Rattle.std.specs.Prelude as code
+use Rattle.refusals.specs.declared.refusal.Refusal.{Refusal}
+use Rattle.refusals.specs.Refusal.{refusal_number, numbered}
 use Rattle.lexer.specs.Lookup.{token_row}
-use Rattle.lexer.specs.Listing.{behind, reads_to, list_into, listed_to, place_refusal, listed_reads}
+use Rattle.lexer.specs.Listing.{behind, reads_to, listing, list_into, listed_to, place_refusal, listed_reads}
 use Rattle.lexer.proofs.Into.{into_whole}
 use Rattle.lexer.proofs.Stops.{stopped, step}
 use Rattle.lex.specs.declared.Lexing.{Lexing}
-use Rattle.lex.specs.declared.Lexing.TheVariants.{Tokens, Refused}
-use Rattle.lex.specs.Lex.{spanned_at, queue_at, lexing, lexed_at}
+use Rattle.lex.specs.Lex.{spanned_at, queue_at, lexing_of, lexing, lexed_at}
 use Rattle.lex.proofs.Answers.{lex_refused, lex_read}
 
 abbrev pub zeros : List ℕ
 zeros = 0 ∷ 0 ∷ 0 ∷ 0 ∷ 0 ∷ 0 ∷ 0 ∷ 0 ∷ 0 ∷ 0 ∷ 0 ∷ 0 ∷ []
 
 -- the answer that the words give
-abbrev pub lexing_at : List ℕ → ℕ → ℕ → TokenRow → Lexing
-lexing_at words count next row = Tokens (spanned_at words 0) (queue_at words count) next row
+abbrev pub lexing_at : List ℕ → ℕ → ℕ → code.Option ℕ → Lexing
+lexing_at words count next row = lexing_of (spanned_at words 0) (queue_at words count) next row
 
 -- the answer of `list_reads` for the tokens of a read
-abbrev of_read : Read → Option ℕ → Listing × List ℕ
+abbrev of_read : Read → Option ℕ → Result Listing ℕ × List ℕ
 of_read q row =
-    (listing.Tokens (suc (length q.waiting)) (count_others (q.first ∷ q.waiting)) q.next (token_row row), list_into 0 zeros (q.first ∷ q.waiting))
+    (Ok (listing (suc (length q.waiting)) (count_others (q.first ∷ q.waiting)) q.next (token_row row)), list_into 0 zeros (q.first ∷ q.waiting))
 
 lexing-is : (q : Read) (row : Option ℕ) → length q.waiting ≤ 3
     → lexing_at (list_into 0 zeros (q.first ∷ q.waiting)) (length q.waiting) q.next (token_row row) ≡ lexing q row
@@ -59,48 +60,51 @@ single text at h =
     ∙ ap (λ (ts : List Lexeme). record { list = r.first ∷ ts; next = r.next; row = token_row_at text at }) (append-nil r.waiting)
 
 -- the answer of `list_reads` over one read: the refusal, or the read's tokens
-module _ (text : List ℕ) (at stop : ℕ) (r : Listing) (words : List ℕ)
-    (e : ◌≡◌ {A = Listing × List ℕ} (r, words) (listed_reads text at stop zeros)) where
-  refused-by : (k : ℕ) → place_refusal text at ≡ some k → r ≡ listing.Refused k
+module _ (text : List ℕ) (at stop : ℕ) (r : Result Listing Refusal) (words : List ℕ)
+    (e : ◌≡◌ {A = Result Listing ℕ × List ℕ} (numbered r, words) (listed_reads text at stop zeros)) where
+  refused-by : (k : ℕ) → place_refusal text at ≡ some k → numbered r ≡ Err k
   unfolding listed_reads
-  refused-by k o = ap (λ (q : Listing × List ℕ). q.0) (rw (o, listed_reads) at e)
+  refused-by k o = ap (λ (q : Result Listing ℕ × List ℕ). q.0) (rw (o, listed_reads) at e)
 
-  pub answer-refused : (k : ℕ) → r ≡ listing.Refused k → Refused k ≡ lexed_at text at
+  pub answer-refused : (k : Refusal) → r ≡ Err k → Err (refusal_number k) ≡ lexed_at text at
   unfolding listed_reads listed_to
   answer-refused k f =
+      let z = ap (numbered {T = Listing}) f in
       by_option (place_refusal text at)
-      (λ o. let g = ap (λ (q : Listing × List ℕ). q.0) (rw (o, listed_reads) at e) in let z : ◌≡◌ {A = ℕ} 0 1 = cc in absurd (omega arith))
-      (λ j o. let g = refused-by j o in let n : k ≡ j = cc in rw n (lex_refused text at j o))
+      (λ o. let g = ap (λ (q : Result Listing ℕ × List ℕ). q.0) (rw (o, listed_reads) at e) in apart cc)
+      (λ j o. let g = refused-by j o in let n : refusal_number k ≡ j = cc in rw n (lex_refused text at j o))
 
-  module _ (all others next : ℕ) (row : TokenRow) (f : r ≡ listing.Tokens all others next row) where
+  module _ (l : Listing) (f : r ≡ Ok l) where
     pub accepted : place_refusal text at ≡ none
     accepted =
-        by_option (place_refusal text at) (λ o. o)
-        (λ j o. let g = refused-by j o in let z : ◌≡◌ {A = ℕ} 0 1 = cc in absurd (omega arith))
+        let z = ap (numbered {T = Listing}) f in
+        by_option (place_refusal text at) (λ o. o) (λ j o. let g = refused-by j o in apart cc)
 
-    module _ (s : stop ≡ min (at + 1) (length text)) (h : at < length text) where
-      listed : ◌≡◌ {A = Listing × List ℕ} (r, words) (of_read (read_at byte_at text at) (token_row_at text at))
+    module _ (s : stop ≡ at + 1) (h : at < length text) where
+      listed : ◌≡◌ {A = Result Listing ℕ × List ℕ} (numbered r, words) (of_read (read_at byte_at text at) (token_row_at text at))
       unfolding listed_reads listed_to
       listed =
           let n : min stop (length text) ≡ at + 1 = omega arith in
           e ∙ rw (accepted, listed_reads) (rw (n, single text at h))
 
-      is_token : listing.Tokens all others next row ≡ (of_read (read_at byte_at text at) (token_row_at text at)).0
-      is_token = sym f ∙ ap (λ (q : Listing × List ℕ). q.0) listed
+      is_token : l ≡ (let q = read_at byte_at text at in listing (suc (length q.waiting)) (count_others (q.first ∷ q.waiting)) q.next (token_row (token_row_at text at)))
+      is_token =
+          let z = ap (numbered {T = Listing}) f in
+          let g = ap (λ (q : Result Listing ℕ × List ℕ). q.0) listed in
+          cc
 
-      count-is : all ≡ suc (length (read_at byte_at text at).waiting)
-      count-is = let g = is_token in cc
+      count-is : l.all ≡ suc (length (read_at byte_at text at).waiting)
+      count-is = ap (λ (k : Listing). k.all) is_token
 
-      pub some-listed : 1 ≤ all
+      pub some-listed : 1 ≤ l.all
       some-listed = omega (arith, count-is)
 
-      pub single-is : lexing_at words (all - 1) next row ≡ lexed_at text at
+      pub single-is : Ok (Some (lexing_at words (l.all - 1) l.next l.row)) ≡ lexed_at text at
       single-is =
           let q = read_at byte_at text at in
           let m = (read-moves byte_at_sound text at h).three in
-          let g = is_token in
-          let w : words ≡ list_into 0 zeros (q.first ∷ q.waiting) = ap (λ (q : Listing × List ℕ). q.1) listed in
-          let n : all - 1 ≡ length q.waiting = omega (arith, count-is) in
-          let k : next ≡ q.next = cc in
-          let t : row ≡ token_row (token_row_at text at) = cc in
-          rw (w, n, k, t) (lexing-is q (token_row_at text at) m) ∙ lex_read text at accepted h
+          let w : words ≡ list_into 0 zeros (q.first ∷ q.waiting) = ap (λ (q : Result Listing ℕ × List ℕ). q.1) listed in
+          let n : l.all - 1 ≡ length q.waiting = omega (arith, count-is) in
+          let k : l.next ≡ q.next = ap (λ (j : Listing). j.next) is_token in
+          let t : l.row ≡ token_row (token_row_at text at) = ap (λ (j : Listing). j.row) is_token in
+          rw (w, n, k, t) (ap (λ (a : Lexing). Ok (Some a)) (lexing-is q (token_row_at text at) m)) ∙ lex_read text at accepted h

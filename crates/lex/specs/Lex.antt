@@ -1,10 +1,10 @@
 -- One read at a place: what `lex_at` answers.
-use Rattle.std.specs.Prelude.{true, false, List, ℕ, ◌+◌, ltb, length, get_or}
+use Rattle.std.specs.Prelude.{true, false, List, ℕ, ◌+◌, ltb, length, get_or, Result, Ok, Err, Some, None}
+use Rattle.std.specs.Prelude as code
 use Rattle.std.proofs.Math.Option.{Option, none, some}
 use Rattle.lex.specs.declared.Spanned.{Spanned}
 use Rattle.lex.specs.declared.Queue.{Queue}
 use Rattle.lex.specs.declared.Lexing.{Lexing}
-use Rattle.lex.specs.declared.Lexing.TheVariants.{Tokens, End, Refused}
 use Rattle.tokens.specs.declared.token.Token.TheVariants.{Frac}
 use Rattle.tokens.specs.Kinds.{token_of}
 use Rattle.tokens.specs.Lexeme.{Lexeme, lexeme}
@@ -37,16 +37,19 @@ queue_of ts =
 abbrev pub queue_at : List ℕ → ℕ → Queue
 queue_at words n = record { count = n; first = spanned_at words 3; second = spanned_at words 6; third = spanned_at words 9 }
 
+abbrev pub lexing_of : Spanned → Queue → ℕ → code.Option ℕ → Lexing
+lexing_of first queued next row = record { first = first; queued = queued; next = next; row = row }
+
 -- a read as the code's answer, with the row of its first token
 abbrev pub lexing : Read → Option ℕ → Lexing
-lexing r row = Tokens (spanned_of r.first) (queue_of r.waiting) r.next (token_row row)
+lexing r row = lexing_of (spanned_of r.first) (queue_of r.waiting) r.next (token_row row)
 
 -- "For a step: 1, 2, then 5 if the place or a waiting token passes the text"; no token waits. "A refusal carries its number only". In an
--- accepted text, the tokens that are read at the place, the next place and the row of the first, or End at the text's end.
-unfoldable pub lexed_at : List ℕ → ℕ → Lexing
+-- accepted text, the tokens that are read at the place, the next place and the row of the first, or none at the text's end.
+unfoldable pub lexed_at : List ℕ → ℕ → Result (code.Option Lexing) ℕ
 lexed_at text at =
     elim (place_refusal text at) [
-      | some k ↦ Refused k
+      | some k ↦ Err k
       | none ↦
-          elim (ltb at (length text)) [ true ↦ lexing (read_at byte_at text at) (token_row_at text at) | false ↦ End ]
+          elim (ltb at (length text)) [ true ↦ Ok (Some (lexing (read_at byte_at text at) (token_row_at text at))) | false ↦ Ok None ]
     ]

@@ -5,14 +5,14 @@ use mathlib.Core.Option.{none, some}
 use Prim.Native.Nat.{ℕ, min}
 use lib.ListN.{length}
 use Rattle.lexer.specs.declared.Listing.{Listing}
-use Rattle.lexer.specs.declared.Listing.TheVariants.{Refused}
-use Rattle.lexer.specs.Listing.{listed_to, place_refusal, listed_reads}
+use Rattle.std.specs.Prelude.{Result, Err}
+use Rattle.lexer.specs.Listing.{listed_to, place_refusal, accepted, listed_reads}
 
 module _ (text : List ℕ) (from stop : ℕ) (table : List ℕ) where
-  pub answer-refused : (k : ℕ) → place_refusal text from ≡ some k → ◌≡◌ {A = Listing × List ℕ} (Refused k, table) (listed_reads text from stop table)
+  pub answer-refused : (k : ℕ) → place_refusal text from ≡ some k → ◌≡◌ {A = Result Listing ℕ × List ℕ} (Err k, table) (listed_reads text from stop table)
   unfolding listed_reads
   answer-refused k e = sym (rw (e, listed_reads))
 
-  pub answer-listed : place_refusal text from ≡ none → (end : ℕ) → end ≡ min stop (length text) → listed_to end text from table ≡ listed_reads text from stop table
+  pub answer-listed : place_refusal text from ≡ none → (end : ℕ) → end ≡ min stop (length text) → accepted (listed_to end text from table) ≡ listed_reads text from stop table
   unfolding listed_reads
-  answer-listed o end e = ap (λ (s : ℕ). listed_to s text from table) e ∙ sym (rw (o, listed_reads))
+  answer-listed o end e = ap (λ (s : ℕ). accepted (listed_to s text from table)) e ∙ sym (rw (o, listed_reads))

@@ -15,7 +15,8 @@ use Rattle.tokens.specs.Kinds.{number_of}
 use Rattle.tokens.specs.Refusals.{ascii}
 use Rattle.lexing.specs.Longest.{longest_at}
 use Rattle.lexer.specs.Constants.{no_row, row_of, spelling_of, plain_kind, rows_below, spelled_byte, byte_kind}
-use Rattle.lexer.specs.Lookup.{past_longer}
+use Rattle.std.specs.Prelude.{None}
+use Rattle.lexer.specs.Lookup.{longer_row}
 use Rattle.lexing.specs.Rules.{alone, blank, digit, letter, is_text_command, byte_at, read_at}
 use Rattle.lexer.specs.Coded.{from_number}
 use Rattle.tokens.proofs.Cases.{by_test, by_option, clash}
@@ -85,7 +86,7 @@ pub record Lone (text : List ℕ) (at : ℕ) : Type 0 where
   pub no_space : eqb (number_of token) 23 ≡ false
   pub read_is : alone at 1 token ≡ read_at byte_at text at
 
-module _ (text : List ℕ) (at : ℕ) (h : at < length text) (p : past_longer (longest_at text at) ≡ 0) where
+module _ (text : List ℕ) (at : ℕ) (h : at < length text) (p : longer_row (longest_at text at) ≡ None) where
   pub read_plain_lem : (byte_kind (get_or text at 0) ≡ 23 → ⊥) → spelled_byte (get_or text at 0) ≡ none → from_number text at ≡ read_at byte_at text at
   read_plain_lem f o = read_none text at (kind-other (get_or text at 0) f) (byte-none text at p o)
 

@@ -81,10 +81,9 @@ offset-bound (r ∷ rs) zero h = omega (arith, length-append r.spelling (flat rs
 offset-bound (r ∷ rs) (suc k) h = omega (arith, offset-bound rs k (le_of_suc-le-suc h), length-append r.spelling (flat rs))
 
 -- byte j of row k
-pub byte-is : (bytes : List ℕ) (k j : ℕ) → bytes ≡ flat_bytes → k < 429 → j < length (spelling_of k)
-    → get_or bytes (start_of k + j) 0 ≡ get_or (spelling_of k) j 0
+pub byte-is : (k j : ℕ) → k < 429 → j < length (spelling_of k) → get_or flat_bytes (start_of k + j) 0 ≡ get_or (spelling_of k) j 0
 unfolding row_of spelling_of start_of flat_bytes
-byte-is bytes k j b h l = rw b (flat-at rows k j (omega (arith, rows-length)) l)
+byte-is k j h l = flat-at rows k j (omega (arith, rows-length)) l
 
 bytes-length : length flat_bytes ≡ 1809
 unfolding flat_bytes flat rows
@@ -150,9 +149,9 @@ firsts_at (suc n) c rs (suc k) h =
     firsts_at n (suc c) rs k (le_of_suc-le-suc h)
     ∙ ap (λ (m : ℕ). 64 * count_below m rs + kind_word m (token_of_byte m rs)) (suc-add c k ∙ sym (add-suc c k))
 
-first-is : (c : ℕ) → c < 129 → get_or first_words c 0 ≡ 64 * rows_below c + kind_word c (spelled_byte c)
-unfolding first_words rows_below spelled_byte
-first-is c h =
+pub word-as_is : (c : ℕ) → c < 129 → get_or first_words c 0 ≡ word_of_byte c
+unfolding first_words rows_below spelled_byte word_of_byte
+word-as_is c h =
     firsts_at 129 0 rows c h ∙ ap (λ (m : ℕ). 64 * count_below m rows + kind_word m (token_of_byte m rows)) (zero-add c)
 
 pub plain-small : (c : ℕ) → plain_kind c < 24
@@ -165,29 +164,28 @@ plain-small c =
     by_test (letter c) (λ d. rw (a, plain_kind) (rw b (rw d (omega arith))))
     (λ d. rw (a, plain_kind) (rw b (rw d (omega arith))))))
 
-module _ (c : ℕ) (h : c < 129) where
-  pub word-as_is : get_or first_words c 0 ≡ word_of_byte c
+-- what the word of a byte holds
+module _ (c : ℕ) where
+  pub first_word : word_of_byte c / 64 ≡ rows_below c
   unfolding word_of_byte
-  word-as_is = first-is c h
-
-  pub first_word : get_or first_words c 0 / 64 ≡ rows_below c
   first_word =
-      by_option (spelled_byte c) (λ o. rw (first-is c h, o) (omega (arith, plain-small c)))
-      (λ t o. rw (first-is c h, o) (omega (arith, number_small t)))
+      by_option (spelled_byte c) (λ o. rw (o, word_of_byte) (omega (arith, plain-small c)))
+      (λ t o. rw (o, word_of_byte) (omega (arith, number_small t)))
 
-  pub longer-word : (get_or first_words c 0 + 32) / 64 ≡ longer_from c
-  unfolding longer_from
+  pub longer-word : (word_of_byte c + 32) / 64 ≡ longer_from c
+  unfolding word_of_byte longer_from
   longer-word =
-      by_option (spelled_byte c) (λ o. rw (first-is c h, o, longer_from) (omega (arith, plain-small c)))
-      (λ t o. rw (first-is c h, o, longer_from) (omega (arith, number_small t)))
+      by_option (spelled_byte c) (λ o. rw (o, word_of_byte) (rw (o, longer_from) (omega (arith, plain-small c))))
+      (λ t o. rw (o, word_of_byte) (rw (o, longer_from) (omega (arith, number_small t))))
 
-  pub byte_word : get_or first_words c 0 % 32 ≡ byte_kind c
-  unfolding byte_kind
-  byte_word =
-      by_option (spelled_byte c) (λ o. rw (first-is c h, o, byte_kind) (omega (arith, plain-small c)))
-      (λ t o. rw (first-is c h, o, byte_kind) (omega (arith, number_small t)))
+  pub kind-is : word_of_byte c % 32 ≡ byte_kind c
+  unfolding word_of_byte byte_kind
+  kind-is =
+      by_option (spelled_byte c) (λ o. rw (o, word_of_byte) (rw (o, byte_kind) (omega (arith, plain-small c))))
+      (λ t o. rw (o, word_of_byte) (rw (o, byte_kind) (omega (arith, number_small t))))
 
-  pub first_small : get_or first_words c 0 ≤ 27519
-  first_small =
-      by_option (spelled_byte c) (λ o. rw (first-is c h, o) (omega (arith, plain-small c, below-bound c)))
-      (λ t o. rw (first-is c h, o) (omega (arith, number_small t, below-bound c)))
+  pub word-small : word_of_byte c ≤ 27519
+  unfolding word_of_byte
+  word-small =
+      by_option (spelled_byte c) (λ o. rw (o, word_of_byte) (omega (arith, plain-small c, below-bound c)))
+      (λ t o. rw (o, word_of_byte) (omega (arith, number_small t, below-bound c)))

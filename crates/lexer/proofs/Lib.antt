@@ -1,5 +1,6 @@
 mod Sorted
 mod Flat
+mod Arrays
 mod Lookup
 mod RuleCases
 mod ByteKinds

@@ -3,7 +3,7 @@ use mathlib.Core.Path.{◌≡◌, refl, sym, ap, ◌∙◌, subst}
 use mathlib.Core.Bool.{Bool, true, false}
 use mathlib.Core.List.{List, [], ◌∷◌}
 use mathlib.Core.Option.{Option, none, some}
-use Prim.Native.Nat.{ℕ, zero, suc, ◌+◌, ◌-◌, ◌≤◌, ◌<◌}
+use Prim.Native.Nat.{ℕ, zero, suc, ◌+◌, ◌≤◌, ◌<◌}
 use native.Mathlib.Omega.{arith}
 use native.Mathlib.Nat.{not-suc-le-zero, le_of_suc-le-suc}
 use lib.Dec.{eqb}
@@ -12,18 +12,24 @@ use lib.Seq.{get_or-drop, drop-cons}
 use borrow.Author.Tests.{lt-ltb, le-ltb, eqb-true, eq-eqb}
 use Rattle.lexing.specs.Spellings.{Row, rows}
 use Rattle.lexing.specs.Longest.{Numbered, begins, longest_at, longest_of}
-use Rattle.lexer.specs.declared.prefix_map.Longest.TheVariants.{Spelling, Nothing}
+use Rattle.std.specs.Prelude.{Some, None}
+use Rattle.std.specs.Prelude as code
 use Rattle.tokens.specs.declared.token.Token.{Token}
 use Rattle.tokens.specs.Kinds.{number_of, token_of}
 use Rattle.lexer.specs.Constants.{count_below, is_byte, token_of_byte, no_row, row_of, spelling_of, kind_of, rows_below, spelled_byte, longer_from, byte_kind}
-use Rattle.lexer.specs.Lookup.{past_longer, longest_answer}
-use Rattle.tokens.proofs.Cases.{by_test, by_lt, by_eq, by_option, clash, Given}
+use Rattle.lexer.specs.Lookup.{longer_row, longest, longest_answer}
+use Rattle.tokens.proofs.Cases.{by_test, by_lt, by_eq, by_option, clash, apart, Given}
 use Rattle.tokens.proofs.Numbers.{token-of_number}
 use Rattle.lexing.proofs.Begins.{begins-at, begins-length, Answered, answered}
 use Rattle.lexing.proofs.Rows.{rows-length, FoundAt, found_at}
 use Rattle.lexing.proofs.Order.{before-longer}
 use Rattle.lexer.proofs.Sorted.{in_order, filled, before-first, before-second, before-byte}
 use Rattle.lexer.proofs.Flat.{below-first, from_first, below-bound}
+
+-- what is no Some is None
+pub none_is : (r : code.Option ℕ) → ((k : ℕ) → r ≡ Some k → ⊥) → r ≡ None
+none_is None f = refl
+none_is (Some k) f = absurd (f k refl)
 
 -- the row that is a byte alone
 is_byte_lem : (c : ℕ) (r : Row) → is_byte c r ≡ true → (length r.spelling ≡ 1) × (get_or r.spelling 0 0 ≡ c)
@@ -229,7 +235,7 @@ module _ (s : List ℕ) (at : ℕ) where
           numbered g k (row_of k) (omega (arith, a.number_is)) (sym (a.row_is no_row) ∙ ap (λ (i : ℕ). get_or rows i no_row) here)
 
   -- what the search for more bytes finds
-  pub longer-none : ((k : ℕ) → FitsLonger k → ⊥) → 0 ≡ past_longer (longest_at s at)
+  pub longer-none : ((k : ℕ) → FitsLonger k → ⊥) → None ≡ longer_row (longest_at s at)
   unfolding spelling_of
   longer-none g =
       by_option (longest_at s at) (λ o. rw o)
@@ -237,10 +243,10 @@ module _ (s : List ℕ) (at : ℕ) where
       let w = found-row f o in
       by_lt 1 (length f.row.spelling)
       (λ l. absurd (g f.number (fits-longer f.number w.below w.fits-is (omega (arith, ap (λ (r : Row). length r.spelling) w.row_is)))))
-      (λ l. sym (ap past_longer o ∙ rw (past_longer, le-ltb 1 (length f.row.spelling) l))))
+      (λ l. sym (ap longer_row o ∙ rw (longer_row, le-ltb 1 (length f.row.spelling) l))))
 
   pub longer-found : (k : ℕ) → k < 429 → fits_at k ≡ true → 2 ≤ length (spelling_of k)
-      → ((j : ℕ) → FitsLonger j → j < k + 1) → k + 1 ≡ past_longer (longest_at s at)
+      → ((j : ℕ) → FitsLonger j → j < k + 1) → Some k ≡ longer_row (longest_at s at)
   unfolding spelling_of fits_at
   longer-found k h e l g =
       let last : (j : ℕ) → k < j → j < 429 → fits_at j ≡ false = λ j m n.
@@ -249,39 +255,41 @@ module _ (s : List ℕ) (at : ℕ) where
       by_lt 1 (length (spelling_of j)) (λ u. absurd (omega (arith, g j (fits-longer j n b u))))
       (λ u. absurd (omega (arith, filled j n, before-longer (spelling_of k) (spelling_of j) (drop at s) (in_order k j m n) e b))))
       (λ b. b) in
-      sym (ap past_longer (last_fits k h e last) ∙ rw (past_longer, lt-ltb 1 (length (row_of k).spelling) l) (omega arith))
+      sym (ap longer_row (last_fits k h e last) ∙ rw (longer_row, lt-ltb 1 (length (row_of k).spelling) l))
 
   -- a row with more bytes is the longest
-  pub past_row : (past : ℕ) → past ≡ past_longer (longest_at s at) → 0 < past
-      → (past - 1 < 429) × (longest_at s at ≡ some (record { number = past - 1; row = row_of (past - 1) }))
-      × (at + length (spelling_of (past - 1)) ≤ length s)
+  pub found-longer : (k : ℕ) → Some k ≡ longer_row (longest_at s at)
+      → (k < 429) × (longest_at s at ≡ some (record { number = k; row = row_of k })) × (at + length (spelling_of k) ≤ length s)
   unfolding spelling_of
-  past_row past e h =
-      by_option (longest_at s at) (λ o. absurd (omega (arith, ap past_longer o)))
+  found-longer k e =
+      by_option (longest_at s at) (λ o. let q = e ∙ ap longer_row o in apart cc)
       (λ f o.
       let w = found-row f o in
       by_lt 1 (length f.row.spelling)
       (λ l.
-      let q : past_longer (some f) ≡ suc f.number = rw (past_longer, lt-ltb 1 (length f.row.spelling) l) in
-      let n : f.number ≡ past - 1 = omega (arith, ap past_longer o) in (
+      let q : longer_row (some f) ≡ Some f.number = rw (longer_row, lt-ltb 1 (length f.row.spelling) l) in
+      let p = e ∙ ap longer_row o ∙ q in
+      let n : f.number ≡ k = cc in (
         omega (arith, w.below),
-        o ∙ numbered f (past - 1) (row_of (past - 1)) n (sym w.row_is ∙ ap row_of n),
+        o ∙ numbered f k (row_of k) n (sym w.row_is ∙ ap row_of n),
         omega (arith, w.inside, ap (λ (r : Row). length r.spelling) (sym (ap row_of n) ∙ w.row_is)),
       ))
       (λ l.
-      let q : past_longer (some f) ≡ 0 = rw (past_longer, le-ltb 1 (length f.row.spelling) l) in
-      absurd (omega (arith, ap past_longer o))))
+      let q : longer_row (some f) ≡ None = rw (longer_row, le-ltb 1 (length f.row.spelling) l) in
+      let p = e ∙ ap longer_row o ∙ q in
+      apart cc))
 
   -- none with more bytes: the byte alone, or none
-  module _ (e : past_longer (longest_at s at) ≡ 0) where
+  module _ (e : longer_row (longest_at s at) ≡ None) where
     short : (f : Numbered) → longest_at s at ≡ some f → (length (spelling_of f.number) ≡ 1) × (get_or (spelling_of f.number) 0 0 ≡ get_or s at 0)
     unfolding spelling_of
     short f o =
         let w = found-row f o in
         by_lt 1 (length f.row.spelling)
         (λ l.
-        let q : past_longer (some f) ≡ suc f.number = rw (past_longer, lt-ltb 1 (length f.row.spelling) l) in
-        absurd (omega (arith, ap past_longer o)))
+        let q : longer_row (some f) ≡ Some f.number = rw (longer_row, lt-ltb 1 (length f.row.spelling) l) in
+        let p = sym q ∙ sym (ap longer_row o) ∙ e in
+        apart cc)
         (λ l. (
           omega (arith, filled f.number w.below, ap (λ (r : Row). length r.spelling) w.row_is),
           fits-first f.number w.below w.fits-is,
@@ -326,30 +334,22 @@ none-high s at h =
 
 -- the public answer
 module _ (s : List ℕ) (at : ℕ) where
-  pub answer-none : longest_at s at ≡ none → Nothing ≡ longest_answer (longest_at s at)
+  pub answer-none : longest_at s at ≡ none → None ≡ longest_answer (longest_at s at)
   answer-none e = sym (ap longest_answer e)
 
   pub answer-row : (i n k : ℕ) (t : Token) → longest_at s at ≡ some (record { number = i; row = row_of i }) → n ≡ length (spelling_of i)
-      → k ≡ kind_of i → t ≡ token_of k → Spelling n t i ≡ longest_answer (longest_at s at)
+      → k ≡ kind_of i → t ≡ token_of k → Some (longest n t i) ≡ longest_answer (longest_at s at)
   unfolding spelling_of kind_of
   answer-row i n k t e f g h =
       let u : t ≡ (row_of i).token = h ∙ ap token_of g ∙ token-of_number (row_of i).token in
-      (λ j. Spelling (f j) (u j) i) ∙ sym (ap longest_answer e)
+      (λ j. Some (longest (f j) (u j) i)) ∙ sym (ap longest_answer e)
 
-  module _ (h : at < length s) (e : past_longer (longest_at s at) ≡ 0) where
-    pub answer-byte : (i : ℕ) → i ≡ rows_below (get_or s at 0) → i < longer_from (get_or s at 0) → (k : ℕ) (t : Token) → k ≡ byte_kind (get_or s at 0) → t ≡ token_of k
-        → Spelling 1 t i ≡ longest_answer (longest_at s at)
-    unfolding longer_from byte_kind kind_of
-    answer-byte i q l k t f g =
+  module _ (h : at < length s) (e : longer_row (longest_at s at) ≡ None) where
+    pub answer-byte : (u : Token) → spelled_byte (get_or s at 0) ≡ some u → (i : ℕ) → i ≡ rows_below (get_or s at 0) → (k : ℕ) (t : Token)
+        → k ≡ byte_kind (get_or s at 0) → t ≡ token_of k → Some (longest 1 t i) ≡ longest_answer (longest_at s at)
+    unfolding byte_kind kind_of
+    answer-byte u o i q k t f g =
         let c = get_or s at 0 in
-        by_option (spelled_byte c) (λ o. absurd (omega (arith, rw (o, longer_from) at l)))
-        (λ u o.
         let r = spelled-row c u o in
-        ap (Spelling 1 t) q ∙ answer-row (rows_below c) 1 k t (byte-found s at e h u o) (sym (ap (length {A = ℕ}) r.spelling-is))
-        (f ∙ rw (o, byte_kind) (ap number_of (sym r.token-is))) g)
-
-    pub answer-nothing : longer_from (get_or s at 0) ≤ rows_below (get_or s at 0) → Nothing ≡ longest_answer (longest_at s at)
-    unfolding longer_from
-    answer-nothing l =
-        by_option (spelled_byte (get_or s at 0)) (λ o. answer-none (byte-none s at e o))
-        (λ u o. absurd (omega (arith, rw (o, longer_from) at l)))
+        ap (λ (j : ℕ). Some (longest 1 t j)) q ∙ answer-row (rows_below c) 1 k t (byte-found s at e h u o) (sym (ap (length {A = ℕ}) r.spelling-is))
+        (f ∙ rw (o, byte_kind) (ap number_of (sym r.token-is))) g

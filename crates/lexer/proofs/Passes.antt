@@ -6,13 +6,12 @@ use Prim.Native.Nat.{ℕ, ◌-◌, ◌≤◌, ◌<◌}
 use native.Mathlib.Omega.{arith}
 use lib.ListN.{length}
 use Rattle.lexer.specs.declared.Listing as code
-use Rattle.lexer.specs.declared.Listing.TheVariants.{Tokens}
 use Rattle.lexer.specs.declared.table.Listed.{Listed}
 use Rattle.tokens.specs.Lexeme.{Lexeme}
 use Rattle.tokens.specs.Table.{count_others}
 use Rattle.lexing.specs.Rules.{byte_at, read_at, token_row_at}
 use Rattle.lexer.specs.Lookup.{token_row}
-use Rattle.lexer.specs.Listing.{Reads, behind, reads_to, listed_to}
+use Rattle.lexer.specs.Listing.{Reads, behind, reads_to, listing, listed_to}
 use Rattle.lexer.specs.Coded.{listed, with_found, row_in, Placed, Added, AddedRead}
 use Rattle.lexing.proofs.Moves.{read-moves, byte_at_sound}
 use Rattle.lexer.proofs.Adding.{added_none, added-found, added_more}
@@ -46,7 +45,7 @@ module _ (stop : ℕ) (text : List ℕ) (from : ℕ) (before : List ℕ) where
 
   module _ (p : Listed) (table : List ℕ) (w : Listing p table) where
     pub listing_end : stop ≤ p.next
-        → ◌≡◌ {A = code.Listing × List ℕ} (Tokens p.all (p.all - p.spaces) p.next (token_row (row_in p.found)), table) (listed_to stop text from before)
+        → ◌≡◌ {A = code.Listing × List ℕ} (listing p.all (p.all - p.spaces) p.next (token_row (row_in p.found)), table) (listed_to stop text from before)
     unfolding listed_to
     listing_end h =
         let row = row_in p.found in

@@ -16,8 +16,9 @@ use Rattle.lexing.specs.Spellings.{rows}
 use Rattle.lexing.specs.Longest.{longest_at}
 use Rattle.lexer.specs.Constants.{row_of, spelling_of}
 use Rattle.lexing.specs.Rules.{Read, alone, run_end, blank, digit, letter, other, blanks_at, closer, literal_at, command_at, is_text_command, spelling_at, number_end, past_point, number_at, quotation_at, byte_at, read_at}
-use Rattle.lexer.specs.Coded.{from_quotation, from_number, from_row}
-use Rattle.tokens.proofs.Cases.{by_test, by_lt, by_eq, clash}
+use Rattle.std.specs.Prelude.{Option, Some}
+use Rattle.lexer.specs.Coded.{closing, from_quotation, from_number, from_row}
+use Rattle.tokens.proofs.Cases.{by_test, by_lt, by_eq, clash, apart}
 use Rattle.lexing.proofs.Runs.{run-from, run_more, run-stop}
 use Rattle.lexing.proofs.Order.{before-strict}
 use Rattle.lexing.proofs.Spelled.{no_blanks}
@@ -151,6 +152,17 @@ module _ (text : List ℕ) (at : ℕ) (h : at < length text) (d : digit (get_or 
       let c = digit-high (get_or text at 0) d in
       let p : at ≡ past_point text at = point_none text at (λ z. omega arith) in
       number_is text at e (q ∙ digit-end) (omega (arith, number-from text (at + 1)))
+
+-- rule 2: the closer of a bracket, if it is one
+pub closing-none : (c : ℕ) (r : Option ℕ) → r ≡ closing c → ((k : ℕ) → r ≡ Some k → ⊥) → closer c ≡ 0
+unfolding closing
+closing-none c r e f = by_eq (closer c) 0 (λ z. z) (λ z. absurd (f (closer c) (rw (ne_eqb (closer c) 0 z, closing) at e)))
+
+pub closing-some : (c k : ℕ) → Some k ≡ closing c → (k ≡ closer c) × (k ≡ 0 → ⊥)
+unfolding closing
+closing-some c k e =
+    by_eq (closer c) 0 (λ z. let q = rw (eq-eqb (closer c) 0 z, closing) at e in apart cc)
+    (λ z. let q = rw (ne_eqb (closer c) 0 z, closing) at e in let n : k ≡ closer c = cc in (n, λ y. z (sym n ∙ y)))
 
 -- rule 2: a text command
 module _ (text : List ℕ) (at b : ℕ) (h : b ≡ run_end blank text (at + 4)) where

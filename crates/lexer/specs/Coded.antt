@@ -1,5 +1,6 @@
 -- What the code finds at a place, as a word, and what it does with a read: it lists its tokens.
-use Rattle.std.specs.Prelude.{◌≡◌, true, false, List, ◌∷◌, ℕ, ◌+◌, ◌/◌, ◌%◌, ◌≤◌, ◌<◌, eqb, length}
+use Rattle.std.specs.Prelude.{◌≡◌, true, false, List, ◌∷◌, ℕ, ◌+◌, ◌/◌, ◌%◌, ◌≤◌, ◌<◌, eqb, length, Some, None}
+use Rattle.std.specs.Prelude as code
 use Rattle.std.proofs.Math.Option.{Option, none, some}
 use Rattle.lexer.specs.declared.table.Listed.{Listed}
 use Rattle.tokens.specs.declared.token.Token.TheVariants.{Unary}
@@ -7,11 +8,15 @@ use Rattle.tokens.specs.Lexeme.{Lexeme}
 use Rattle.tokens.specs.Table.{count_others}
 use Rattle.lexer.specs.Constants.{row_of, spelling_of}
 use Rattle.lexer.specs.Listing.{list_into}
-use Rattle.lexing.specs.Rules.{Read, alone, command_at, is_text_command, number_at, quotation_at, byte_at}
+use Rattle.lexing.specs.Rules.{Read, alone, closer, command_at, is_text_command, number_at, quotation_at, byte_at}
 
 -- the row in the word of what is found (src/found.rt): it has one if its bit of 32 is set
 unfoldable pub row_in : ℕ → Option ℕ
 row_in found = elim (eqb (found / 32 % 2) 1) [ true ↦ some (found / 64) | false ↦ none ]
+
+-- the closer of a bracket, if there is one
+unfoldable pub closing : ℕ → code.Option ℕ
+closing c = elim (eqb (closer c) 0) [ true ↦ None | false ↦ Some (closer c) ]
 
 -- what is read by rules 4 and 5, by rules 3 to 5, and by rule 2 where a row is found
 unfoldable pub from_quotation : List ℕ → ℕ → Read

@@ -63,7 +63,7 @@ row_words = words_of 0 rows
 unfoldable pub first_words : List ℕ
 first_words = firsts_of 129 0 rows
 
--- the three lent arrays are the table
+-- the three arrays are the table
 pub record Lent (bytes rows first : List ℕ) : Type 0 where
   pub bytes-are : bytes ≡ flat_bytes
   pub rows_are : rows ≡ row_words

@@ -1,5 +1,6 @@
 -- The call that lists the tokens of reads: what it answers, and what is left in the token table.
-use Rattle.std.specs.Prelude.{true, false, List, [], ◌∷◌, ◌++◌, ℕ, zero, suc, ◌+◌, ◌*◌, ◌/◌, min, ltb, length, take, drop}
+use Rattle.std.specs.Prelude.{true, false, List, [], ◌∷◌, ◌++◌, ℕ, zero, suc, ◌+◌, ◌*◌, ◌/◌, min, ltb, length, take, drop, Result, Ok, Err}
+use Rattle.std.specs.Prelude as code
 use Rattle.std.proofs.Math.Option.{Option, none, some}
 use Rattle.tokens.specs.Kinds.{number_of}
 use Rattle.tokens.specs.Lexeme.{Lexeme}
@@ -7,7 +8,6 @@ use Rattle.tokens.specs.Table.{count_others}
 use Rattle.tokens.specs.Refusals.{text_refusal}
 use Rattle.lexing.specs.Rules.{Read, byte_at, read_at, token_row_at}
 use Rattle.lexer.specs.declared.Listing.{Listing}
-use Rattle.lexer.specs.declared.Listing.TheVariants.{Tokens, Refused}
 use Rattle.lexer.specs.Lookup.{token_row}
 
 -- a table with other words from a place on
@@ -47,11 +47,14 @@ reads_of stop (suc f) text row at =
 unfoldable pub reads_to : ℕ → List ℕ → Option ℕ → ℕ → Reads
 reads_to stop text row at = reads_of stop (length text) text row at
 
+abbrev pub listing : ℕ → ℕ → ℕ → code.Option ℕ → Listing
+listing all others next row = record { all = all; others = others; next = next; row = row }
+
 -- The reads as the code's answer: their tokens counted, the place behind them and that row; and the tokens put as far as they fit.
 unfoldable pub listed_to : ℕ → List ℕ → ℕ → List ℕ → Listing × List ℕ
 listed_to stop text from table =
     let q = reads_to stop text none from in
-    (Tokens (length q.list) (count_others q.list) q.next (token_row q.row), list_into 0 table q.list)
+    (listing (length q.list) (count_others q.list) q.next (token_row q.row), list_into 0 table q.list)
 
 -- "For a step: 1, 2, then 5 if the place or a waiting token passes the text": what is refused of a place alone, where no token waits. The
 -- text's end is a place of the text.
@@ -63,8 +66,11 @@ place_refusal text at =
           elim (ltb (length text) at) [ true ↦ some 5 | false ↦ none ]
     ]
 
+abbrev pub accepted : Listing × List ℕ → Result Listing ℕ × List ℕ
+accepted (l, table) = (Ok l, table)
+
 -- "A refusal carries its number only and changes nothing". In an accepted text the reads from a place on that begin before `stop` and
 -- before the text's end are listed; from that end on there are none.
-unfoldable pub listed_reads : List ℕ → ℕ → ℕ → List ℕ → Listing × List ℕ
+unfoldable pub listed_reads : List ℕ → ℕ → ℕ → List ℕ → Result Listing ℕ × List ℕ
 listed_reads text from stop table =
-    elim (place_refusal text from) [ some k ↦ (Refused k, table) | none ↦ listed_to (min stop (length text)) text from table ]
+    elim (place_refusal text from) [ some k ↦ (Err k, table) | none ↦ accepted (listed_to (min stop (length text)) text from table) ]

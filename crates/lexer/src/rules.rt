@@ -2,15 +2,16 @@
 ghost use Rattle.std.specs.Prelude.{◌≡◌, true, false, ◌+◌, ◌≤◌, ◌<◌, length, get_or};
 ghost use Rattle.tokens.specs.declared.token.Token.TheVariants.{Unary};
 ghost use Rattle.tokens.specs.Refusals.{ascii};
-ghost use Rattle.lexer.specs.Constants.{Lent, row_words, spelling_of};
-ghost use Rattle.lexing.specs.Rules.{blank, digit, letter, other, closer, run_end, command_at, is_text_command, number_end, past_point, byte_at, read_at, token_row_at};
-ghost use Rattle.lexer.specs.Coded.{Placed, AddedRead, from_quotation, from_number, from_row, with_found, row_in};
+ghost use Rattle.lexer.specs.Constants.{spelling_of};
+ghost use Rattle.lexing.specs.Rules.{blank, digit, letter, other, run_end, command_at, is_text_command, number_end, past_point, byte_at, read_at, token_row_at};
+ghost use Rattle.lexer.specs.Coded.{Placed, AddedRead, from_quotation, from_number, from_row, with_found, row_in, closing};
 
 use crate::found::{kind_in, word_of};
-use crate::prefix_map::past_longer;
-use crate::spellings::{ALL_BYTES, BYTE_WORDS, ROW_WORDS, byte_word, kind_of, len_of};
-use crate::table::{Listed, put, put_other, with_found};
-use blanks::blanks_end;
+use crate::prefix_map::longer_row;
+use crate::row::Row;
+use crate::spellings::byte_word;
+use crate::table::{Listed, put, put_other};
+use blanks::{blanks_end, run_end};
 use tokens::kinds::{CLOSE_BRACKET, NUMBER, OPEN_BRACKET, OPERATOR, SPACE, TEXT, UNARY};
 
 // The rows of `text` and `mbox`, which `is_text_command` is proved with, and the bytes of each.
@@ -20,38 +21,26 @@ const MBOX_ROW: usize = 272;
 
 const COMMAND_LEN: usize = 4;
 
+#[tactic(auto, using(std::proofs::lemmas::Bool::Decides::nat_tests), unfolding(lexing::specs::Rules::digit))]
 fn is_digit(c: u8) -> bool
     ensures { result ≡ digit c }
 {
-    b'0' <= c && c <= b'9'
+    matches!(c, b'0'..=b'9')
 }
 
 // Where the digits from the place on end; past the text's end there are none.
 fn digits_end(text: &[u8], at: usize) -> usize
     ensures { result ≡ run_end digit text.now at }
 {
-    let mut i = at;
-    while i < text.len() {
-        if !is_digit(text[i]) {
-            return i;
-        }
-        i += 1;
-    }
-    i
+    run_end(text, at, |c| is_digit(c))
 }
 
 // Where the byte b first stands from the place on, or the text's end.
+#[tactic(auto, using(std::proofs::lemmas::Bool::Decides::nat_tests), unfolding(lexing::specs::Rules::other))]
 fn find_end(text: &[u8], at: usize, b: u8) -> usize
     ensures { result ≡ run_end (other b) text.now at }
 {
-    let mut i = at;
-    while i < text.len() {
-        if text[i] == b {
-            return i;
-        }
-        i += 1;
-    }
-    i
+    run_end(text, at, |c| c != b)
 }
 
 // Rules 4 and 5 for a byte that is no letter: a quotation, or an Operator.
@@ -75,10 +64,7 @@ fn number_end(text: &[u8], at: usize) -> usize
     ensures { result ≡ number_end text.now at }
 {
     let p = digits_end(text, at);
-    if text.len() <= p {
-        return p;
-    }
-    if text[p] == b'.' {
+    if p < text.len() && text[p] == b'.' {
         return digits_end(text, p + 1);
     }
     p
@@ -108,20 +94,17 @@ fn strip_number(text: &[u8], table: &mut [u32], p: Listed) -> Listed
     strip_text(text, table, p)
 }
 
-// The closer of a bracket that a text command takes, 0 for any other byte.
-fn closer_of(c: u8) -> u8
-    ensures { result ≡ closer c }
+// The closer of a bracket that a text command takes.
+#[tactic(auto, using(std::proofs::lemmas::Bool::Decides::nat_tests), unfolding(lexing::specs::Rules::closer, crate::specs::Coded::closing))]
+fn closer_of(c: u8) -> Option<u8>
+    ensures { result ≡ closing c }
 {
-    if c == b'(' {
-        return b')';
+    match c {
+        b'(' => Some(b')'),
+        b'[' => Some(b']'),
+        b'{' => Some(b'}'),
+        _ => None,
     }
-    if c == b'[' {
-        return b']';
-    }
-    if c == b'{' {
-        return b'}';
-    }
-    0
 }
 
 // Rule 2: a text command, `text` or `mbox`, at the place.
@@ -135,10 +118,9 @@ fn text_command(text: &[u8], table: &mut [u32], p: Listed) -> Listed
     if text.len() <= b {
         return command;
     }
-    let c = closer_of(text[b]);
-    if c == 0 {
+    let Some(c) = closer_of(text[b]) else {
         return command;
-    }
+    };
     let from = b + 1;
     let e = find_end(text, from, c);
     let open = put_other(table, command, b, 1, OPEN_BRACKET, from);
@@ -150,34 +132,24 @@ fn text_command(text: &[u8], table: &mut [u32], p: Listed) -> Listed
 }
 
 // Whether the row is that of `text` or `mbox`.
-fn is_text_command(row: usize) -> bool
-    requires { row < 429 }
+fn is_text_command(row: Row) -> bool
     ensures { result ≡ is_text_command (spelling_of row) }
 {
-    if row == TEXT_ROW {
-        return true;
-    }
-    row == MBOX_ROW
+    let k = row.number();
+    k == TEXT_ROW || k == MBOX_ROW
 }
 
 // Rule 2 for the row that is found.
-fn strip_spelling(
-    rows: &[u16; ROW_WORDS],
-    row: usize,
-    text: &[u8],
-    table: &mut [u32],
-    p: Listed,
-) -> Listed
-    requires { (rows.now ≡ row_words) × (row < 429) × Placed text.now p
-        × (p.next + length (spelling_of row) ≤ length text.now) }
+fn strip_spelling(row: Row, text: &[u8], table: &mut [u32], p: Listed) -> Listed
+    requires { Placed text.now p × (p.next + length (spelling_of row) ≤ length text.now) }
     ensures { AddedRead (from_row row text.now p.next) p table.old result table.new }
 {
     if is_text_command(row) {
         return text_command(text, table, p);
     }
     let at = p.next;
-    let len = len_of(rows, row);
-    put_other(table, p, at, len, kind_of(rows, row), at + len)
+    let len = row.len();
+    put_other(table, p, at, len, row.kind(), at + len)
 }
 
 // Rule 1.
@@ -192,7 +164,7 @@ fn strip_blanks(text: &[u8], table: &mut [u32], p: Listed) -> Listed
         all: p.all + 1,
         spaces: p.spaces + 1,
         next: e,
-        found: p.found,
+        ..p
     }
 }
 
@@ -208,33 +180,26 @@ fn strip_digits(text: &[u8], table: &mut [u32], p: Listed) -> Listed
 
 // Lists what is read at the place, and the word of what is found there. The kind of the byte by itself says which rules can apply but
 // for a longer spelling: Space the first, Number the third, Operator the last three; any other kind is the token's.
-pub(crate) fn read_token(
-    bytes: &[u8; ALL_BYTES],
-    rows: &[u16; ROW_WORDS],
-    first: &[u16; BYTE_WORDS],
-    text: &[u8],
-    table: &mut [u32],
-    p: Listed,
-) -> Listed
-    requires { Lent bytes.now rows.now first.now × Placed text.now p × (ascii text.now ≡ true) }
+pub(crate) fn read_token(text: &[u8], table: &mut [u32], p: Listed) -> Listed
+    requires { Placed text.now p × (ascii text.now ≡ true) }
     ensures { AddedRead (read_at byte_at text.now p.next) (with_found p result.found) table.old result table.new
         × (row_in result.found ≡ token_row_at text.now p.next) }
 {
     let at = p.next;
-    let found = byte_word(first, text[at] as usize);
+    let found = byte_word(text[at] as usize);
     let kind = kind_in(found);
     if kind == SPACE as usize {
-        return strip_blanks(text, table, with_found(p, found));
+        return strip_blanks(text, table, Listed { found, ..p });
     }
-    let past = past_longer(bytes, rows, first, text, at);
-    if 0 < past {
-        return strip_spelling(rows, past - 1, text, table, with_found(p, word_of(past)));
+    if let Some(row) = longer_row(text, at) {
+        let found = word_of(row);
+        return strip_spelling(row, text, table, Listed { found, ..p });
     }
     if kind == OPERATOR as usize {
-        return strip_number(text, table, with_found(p, found));
+        return strip_number(text, table, Listed { found, ..p });
     }
     if kind == NUMBER as usize {
-        return strip_digits(text, table, with_found(p, found));
+        return strip_digits(text, table, Listed { found, ..p });
     }
-    put_other(table, with_found(p, found), at, 1, kind as u32, at + 1)
+    put_other(table, Listed { found, ..p }, at, 1, kind as u32, at + 1)
 }

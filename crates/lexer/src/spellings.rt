@@ -1,7 +1,7 @@
-// The spelling table as constants: the rows of the definition, laid out flat. A use of a constant array builds it anew, and a function
-// that returned one would copy it once more, so the one loop over a text and the public lookup put the three into locals and lend them.
-ghost use Rattle.std.specs.Prelude.{◌≡◌, ◌<◌, length};
-ghost use Rattle.lexer.specs.Constants.{row_words, first_words, start_of, kind_of, spelling_of, rows_below, longer_from, byte_kind, word_of_byte};
+// The spelling table: the rows of the definition, laid out flat. The arrays are statics, which are read where they lie: a constant array
+// would be built anew at each use.
+ghost use Rattle.std.specs.Prelude.{◌≡◌, ◌+◌, ◌<◌, get_or};
+ghost use Rattle.lexer.specs.Constants.{flat_bytes, row_words, rows_below, longer_from, word_of_byte};
 
 // A kind is below KINDS. A row's word is KINDS times its start and its kind; a byte's word is ROW times a row, the bit of KINDS and a kind.
 pub(crate) const KINDS: usize = 32;
@@ -9,14 +9,14 @@ pub(crate) const KINDS: usize = 32;
 pub(crate) const ROW: usize = 64;
 
 // The arrays' lengths: the bytes of all 429 spellings, a word for each and one behind the last, and a word for each byte value to 128.
-pub(crate) const ALL_BYTES: usize = 1809;
+const ALL_BYTES: usize = 1809;
 
-pub(crate) const ROW_WORDS: usize = 430;
+const ROW_WORDS: usize = 430;
 
-pub(crate) const BYTE_WORDS: usize = 129;
+const BYTE_WORDS: usize = 129;
 
 // The bytes of all spellings, one row after the other.
-pub(crate) const BYTES: [u8; ALL_BYTES] = [
+static BYTES: [u8; ALL_BYTES] = [
     33, 33, 45, 61, 33, 61, 33, 69, 69, 33, 105, 110, 33, 115, 117, 98, 33, 115, 117, 98, 101, 33,
     115, 117, 112, 33, 115, 117, 112, 101, 37, 39, 40, 40, 58, 41, 42, 42, 42, 42, 42, 42, 43, 43,
     45, 44, 45, 45, 43, 45, 58, 45, 60, 45, 60, 61, 45, 61, 45, 62, 45, 62, 62, 45, 108, 116, 46,
@@ -112,7 +112,7 @@ pub(crate) const BYTES: [u8; ALL_BYTES] = [
 ];
 
 // For each row 32 times its start in the bytes and the number of its token; behind the last 32 times the end.
-pub(crate) const ROWS: [u16; ROW_WORDS] = [
+static ROWS: [u16; ROW_WORDS] = [
     8, 42, 138, 204, 298, 394, 522, 682, 810, 968, 1000, 1044, 1076, 1141, 1162, 1194, 1258, 1360,
     1392, 1443, 1488, 1520, 1578, 1642, 1706, 1802, 1866, 1930, 2026, 2120, 2208, 2250, 2312, 2376,
     2474, 2549, 2602, 2666, 2741, 2794, 2901, 2954, 2986, 3050, 3156, 3210, 3274, 3370, 3498, 3594,
@@ -149,7 +149,7 @@ pub(crate) const ROWS: [u16; ROW_WORDS] = [
 
 // For each byte 64 times the rows that begin with a smaller one, 32 more where the byte alone is a spelling, and the number of
 // the token that the byte is by itself.
-pub(crate) const FIRST: [u16; BYTE_WORDS] = [
+static FIRST: [u16; BYTE_WORDS] = [
     7, 7, 7, 7, 7, 7, 7, 7, 7, 23, 23, 23, 23, 23, 7, 7, 7, 7, 7, 7, 7, 7, 7, 7, 7, 7, 7, 7, 7, 7,
     7, 7, 23, 40, 583, 583, 583, 616, 647, 680, 756, 885, 938, 1136, 1251, 1328, 1863, 1952, 2180,
     2180, 2180, 2180, 2180, 2180, 2180, 2180, 2180, 2180, 2183, 2631, 2666, 3178, 3370, 3847, 3882,
@@ -160,70 +160,34 @@ pub(crate) const FIRST: [u16; BYTE_WORDS] = [
     26550, 27189, 27242, 27463, 27463,
 ];
 
-fn wide(x: u16) -> usize
-    ensures { result ≡ x }
+// The byte at a place of all spellings' bytes.
+pub(crate) fn byte_at(i: usize) -> u8
+    requires { i < 1809 }
+    ensures { result ≡ get_or flat_bytes i 0 }
 {
-    x as usize
+    BYTES[i]
 }
 
-fn wide_kind(x: u16) -> u32
-    ensures { result ≡ x }
+// The word of a row.
+pub(crate) fn row_word(row: usize) -> usize
+    requires { row < 430 }
+    ensures { result ≡ get_or row_words row 0 }
 {
-    x as u32
-}
-
-// Where the row's bytes start.
-pub(crate) fn start_of(rows: &[u16; ROW_WORDS], row: usize) -> usize
-    requires { (rows.now ≡ row_words) × (row < 430) }
-    ensures { result ≡ start_of row }
-{
-    wide(rows[row]) / KINDS
-}
-
-// How many bytes the row's spelling has.
-pub(crate) fn len_of(rows: &[u16; ROW_WORDS], row: usize) -> usize
-    requires { (rows.now ≡ row_words) × (row < 429) }
-    ensures { result ≡ length (spelling_of row) }
-{
-    start_of(rows, row + 1) - start_of(rows, row)
-}
-
-// The number of the row's token.
-pub(crate) fn kind_of(rows: &[u16; ROW_WORDS], row: usize) -> u32
-    requires { (rows.now ≡ row_words) × (row < 429) }
-    ensures { result ≡ kind_of row }
-{
-    wide_kind(rows[row]) % 32
-}
-
-// How many rows begin with a byte below c.
-pub(crate) fn first_of(first: &[u16; BYTE_WORDS], c: usize) -> usize
-    requires { (first.now ≡ first_words) × (c < 129) }
-    ensures { result ≡ rows_below c }
-{
-    wide(first[c]) / ROW
-}
-
-// The first row that may begin with the byte c and have more bytes.
-pub(crate) fn longer_of(first: &[u16; BYTE_WORDS], c: usize) -> usize
-    requires { (first.now ≡ first_words) × (c < 129) }
-    ensures { result ≡ longer_from c }
-{
-    (wide(first[c]) + KINDS) / ROW
-}
-
-// The number of the token that the byte c is by itself.
-pub(crate) fn byte_kind(first: &[u16; BYTE_WORDS], c: usize) -> u32
-    requires { (first.now ≡ first_words) × (c < 129) }
-    ensures { result ≡ byte_kind c }
-{
-    wide_kind(first[c]) % 32
+    ROWS[row] as usize
 }
 
 // The word of the byte c.
-pub(crate) fn byte_word(first: &[u16; BYTE_WORDS], c: usize) -> usize
-    requires { (first.now ≡ first_words) × (c < 129) }
+pub(crate) fn byte_word(c: usize) -> usize
+    requires { c < 129 }
     ensures { result ≡ word_of_byte c }
 {
-    wide(first[c])
+    FIRST[c] as usize
+}
+
+// The rows that begin with the byte c and have more bytes: the first of them, and the row behind the last.
+pub(crate) fn longer_rows(c: usize) -> (usize, usize)
+    requires { c < 128 }
+    ensures { (result.0 ≡ longer_from c) × (result.1 ≡ rows_below (c + 1)) }
+{
+    ((byte_word(c) + KINDS) / ROW, byte_word(c + 1) / ROW)
 }

@@ -1,7 +1,7 @@
 // Tokens written into a table of three words each, as far as they fit, and counted.
 ghost use Rattle.std.specs.Prelude.{◌≡◌, ◌+◌, ◌≤◌};
 ghost use Rattle.lexer.specs.Listing.{put_token};
-ghost use Rattle.lexer.specs.Coded.{listed, with_found};
+ghost use Rattle.lexer.specs.Coded.{listed};
 
 // How many tokens are listed, how many of them are Spaces, the place behind them, and the word of what was found at the last read
 // (crate::found).
@@ -42,20 +42,7 @@ pub(crate) fn put_other(
     put(table, p.all, start, len, kind);
     Listed {
         all: p.all + 1,
-        spaces: p.spaces,
         next,
-        found: p.found,
-    }
-}
-
-// The counts and the place, with another word of what was found.
-pub(crate) fn with_found(p: Listed, found: usize) -> Listed
-    ensures { result ≡ with_found p found }
-{
-    Listed {
-        all: p.all,
-        spaces: p.spaces,
-        next: p.next,
-        found,
+        ..p
     }
 }

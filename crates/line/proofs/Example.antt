@@ -5,7 +5,7 @@ use mathlib.Core.Path.{◌≡◌, refl}
 use mathlib.Core.List.{List, [], ◌∷◌, ◌++◌}
 use Rattle.tokens.specs.Bytes.{bytes}
 use Rattle.tokens.specs.Lexeme.{Span}
-use Rattle.tree.specs.Tree.{Script, Head, Atom, Node, node, Nodes, end, ◌▸◌, leaf, one}
+use Rattle.tree.specs.Tree.{Script, Head, Atom, Node, node, end, ◌▸◌, leaf, one}
 use Rattle.tree.specs.Visits.{visits}
 use Rattle.writer.specs.Decimal.{digits, decimal}
 use Rattle.line.specs.Print.{names, name_of, left, right, script_name, script, class, more, commas, fields, name, line, lines, first, printed}

@@ -1,38 +1,49 @@
 // One line of the printed tree, from the words of its node.
 #![tactic(auto)]
 
-ghost use Rattle.std.specs.Prelude.{get_or};
+ghost use Rattle.std.specs.Prelude.{◌≡◌, get_or};
 ghost use Rattle.tree.specs.Walk.{lines_of};
 ghost use Rattle.writer.specs.Put.{Put};
 ghost use Rattle.line.specs.Print.{name_of, field, number, commas};
 ghost use Rattle.line.specs.Lines.{script_of, left_of, right_of, group_of, matrix_of, added_by, start_of, line_of};
 
 use tree::kinds::{
-    NODE_CELL, NODE_FRAC, NODE_FUNC, NODE_GROUP, NODE_MATRIX, NODE_MISSING, NODE_SIMPLE,
-    NODE_SYMBOL,
+    NODE_BINARY, NODE_CELL, NODE_FRAC, NODE_FUNC, NODE_GROUP, NODE_IDENT, NODE_MATRIX,
+    NODE_MISSING, NODE_NUMBER, NODE_OPERATOR, NODE_SFUNC, NODE_SIGN, NODE_SIGNED, NODE_SIMPLE,
+    NODE_SPACE, NODE_SSIGNED, NODE_SYMBOL, NODE_TEXT, NODE_UNARY,
 };
 use tree::walk::{Opened, column_lines, own_words, word};
 use writer::{put_bytes, put_number};
 
-// The lengths of the nodes' names, in the order of their kinds.
-const LENGTHS: [u8; 19] = [7, 6, 4, 5, 8, 4, 5, 6, 6, 7, 5, 5, 6, 6, 4, 5, 6, 4, 4];
-
-// A node's name, by its kind: cut out of a table with eight bytes for each.
-fn put_name(out: &mut [u8], at: usize, kind: u32) -> usize
-    ensures { Put out.old at out.new result (name_of kind) }
+fn name(kind: u32) -> &'static [u8]
+    ensures { result.now ≡ name_of kind }
 {
-    let names: &[u8] =
-        b"missing number  text    ident   operatorsign    space   symbol  signed  ssigned unary   sfunc   binary  simple  func    group   matrix  cell    frac    ";
-    let k = kind as usize;
-    if k < 19 {
-        let from = 8 * k;
-        let to = from + LENGTHS[k] as usize;
-        put_bytes(out, at, &names[from..to])
-    } else {
-        at
+    match kind {
+        NODE_MISSING => b"missing",
+        NODE_NUMBER => b"number",
+        NODE_TEXT => b"text",
+        NODE_IDENT => b"ident",
+        NODE_OPERATOR => b"operator",
+        NODE_SIGN => b"sign",
+        NODE_SPACE => b"space",
+        NODE_SYMBOL => b"symbol",
+        NODE_SIGNED => b"signed",
+        NODE_SSIGNED => b"ssigned",
+        NODE_UNARY => b"unary",
+        NODE_SFUNC => b"sfunc",
+        NODE_BINARY => b"binary",
+        NODE_SIMPLE => b"simple",
+        NODE_FUNC => b"func",
+        NODE_GROUP => b"group",
+        NODE_MATRIX => b"matrix",
+        NODE_CELL => b"cell",
+        NODE_FRAC => b"frac",
+        _ => b"",
     }
 }
 
+#[tactic(auto, using(writer::proofs::Puts::none), unfolding(crate::specs::Lines::script_of))]
+// kept: a script's number is a word of the tree, which C reads (docs/LAYOUT.md)
 fn put_script(out: &mut [u8], at: usize, script: u32) -> usize
     ensures { Put out.old at out.new result (script_of script) }
 {
@@ -45,14 +56,12 @@ fn put_script(out: &mut [u8], at: usize, script: u32) -> usize
 }
 
 // at and len, for every node that stands for a token or a left bracket.
+#[tactic(auto, using(writer::proofs::Puts::none), unfolding(crate::specs::Lines::left_of))]
 fn put_left(own: &[u32], out: &mut [u8], at: usize, kind: u32) -> usize
     ensures { Put out.old at out.new result (left_of kind (get_or own.now 1 0) (get_or own.now 2 0)) }
 {
     match kind {
-        NODE_MISSING => at,
-        NODE_SIMPLE => at,
-        NODE_CELL => at,
-        NODE_FRAC => at,
+        NODE_MISSING | NODE_SIMPLE | NODE_CELL | NODE_FRAC => at,
         _ => {
             let start = word(own, 1) as u64;
             let len = word(own, 2) as u64;
@@ -82,14 +91,12 @@ fn put_items(out: &mut [u8], at: usize, items: usize) -> usize
 fn put_lines(out: &mut [u8], at: usize, lines: &[u32]) -> usize
     ensures { Put out.old at out.new result (field "lines" (commas lines.now)) }
 {
-    if lines.len() == 0 {
+    if lines.is_empty() {
         return put_bytes(out, at, b" lines=none");
     }
     let mut end = put_number(out, at, b" lines=", lines[0] as u64);
-    let mut i = 1;
-    while i < lines.len() {
-        end = put_number(out, end, b",", lines[i] as u64);
-        i += 1;
+    for &line in &lines[1..] {
+        end = put_number(out, end, b",", line as u64);
     }
     end
 }
@@ -111,6 +118,7 @@ fn put_matrix(words: &[u32], own: &[u32], out: &mut [u8], at: usize, o: Opened) 
 }
 
 // What the kind adds.
+#[tactic(auto, using(writer::proofs::Puts::none), unfolding(crate::specs::Lines::added_by))]
 fn put_added(words: &[u32], own: &[u32], out: &mut [u8], at: usize, o: Opened) -> usize
     ensures { Put out.old at out.new result
         (added_by o.kind (get_or own.now 3 0) (get_or own.now 4 0) (get_or own.now 5 0) (get_or own.now 6 0) o.count (lines_of words.now o)) }
@@ -132,7 +140,7 @@ fn put_start(out: &mut [u8], at: usize, depth: usize, kind: u32) -> usize
 {
     let a = put_number(out, at, b"depth=", depth as u64);
     let b = put_bytes(out, a, b" node=");
-    put_name(out, b, kind)
+    put_bytes(out, b, name(kind))
 }
 
 // The line of a node that a step of a walk over these words has opened.

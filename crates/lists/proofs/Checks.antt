@@ -3,16 +3,16 @@ use mathlib.Core.Path.{◌≡◌}
 use mathlib.Core.List.{List}
 use mathlib.Core.Option.{Option, none, some}
 use Prim.Native.Nat.{ℕ}
+use Rattle.std.specs.Prelude.{Ok, Err}
 use Rattle.tokens.specs.Lexeme.{Lexeme}
 use Rattle.tokens.specs.Table.{count_others}
-use Rattle.lists.specs.declared.Checked.TheVariants.{Accepted, Refused}
 use Rattle.lists.specs.Checks.{answer}
 
 module _ {o : Option ℕ} (ts : List Lexeme) where
-  pub answer-refused : {k : ℕ} → o ≡ some k → Refused k ≡ answer o ts
+  pub answer-refused : {k : ℕ} → o ≡ some k → Err k ≡ answer o ts
   unfolding answer
   answer-refused e = rw e
 
-  pub answer-accepted : {n : ℕ} → o ≡ none → count_others ts ≡ n → Accepted n ≡ answer o ts
+  pub answer-accepted : {n : ℕ} → o ≡ none → count_others ts ≡ n → Ok n ≡ answer o ts
   unfolding answer
   answer-accepted e f = rw (e, answer, f)

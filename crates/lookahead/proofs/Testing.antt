@@ -1,9 +1,9 @@
 -- What a test of an entry by its kind says.
-use Rattle.std.proofs.Common.{◌≡◌, ℕ, ◌<◌, ◌≤◌, Bool, true, false, cond, not, ◌&&◌, ◌||◌, eqb, ltb, List, sym, refl, ap, ◌∙◌, arith, ltb-false, ltb-true, ne_eqb}
-use mathlib.Core.Bool.{and-false, and-true}
+use Rattle.std.proofs.Common.{◌≡◌, ℕ, ◌<◌, ◌≤◌, Bool, true, false, cond, ltb, List, refl, ap, ◌∙◌, arith, ltb-false, ltb-true, ne_eqb}
+use mathlib.Core.Bool.{and-false}
 use Rattle.records.specs.Record.{kind_of}
 use Rattle.lookahead.specs.declared.tests.Look.TheVariants.{Plain, Over, Other}
-use Rattle.lookahead.specs.Tests.{next_kind, test_at, heads_kind, marks_kind, begins_kind, leaf_only, plain_at, over_at, look_at}
+use Rattle.lookahead.specs.Tests.{next_kind, test_at, heads_kind, begins_kind, leaf_only, plain_at, over_at, look_at}
 
 -- A test that holds says that the entry is there.
 pub test_below : (t K : List ℕ) (n : ℕ) (f : ℕ → Bool) (i : ℕ) → test_at t K n f i ≡ true → i < n
@@ -23,40 +23,9 @@ test-next t K n f i {k} h e = ap f e ∙ go (ltb i n)
     go true = refl
     go false = h
 
-either : (a b : Bool) → (a || (b && false)) ≡ a
-either true b = refl
-either false b = and-false b
-
--- A head is a sign where one prefixes, or a function.
-module _ (sg : Bool) where
-  pub no_head : heads_kind sg 23 ≡ false
-  no_head = and-false sg
-
-  module _ (k : ℕ) where
-    pub by_sign : k ≡ 16 → sg ≡ heads_kind sg k
-    by_sign h = rw h (sym (and-true sg))
-
-    pub by_function : (k ≡ 16 → ⊥) → eqb k 17 ≡ heads_kind sg k
-    by_function h = rw (ne_eqb k 16 h) (sym (either (eqb k 17) sg))
-
--- A script's mark is Super or Sub.
-module _ (k : ℕ) where
-  pub by_super : k ≡ 1 → eqb k 1 ≡ marks_kind k
-  by_super h = rw h
-
-  pub by_sub : (k ≡ 1 → ⊥) → eqb k 2 ≡ marks_kind k
-  by_sub h = rw (ne_eqb k 1 h)
-
--- An item begins but at a closing bracket, at a Sep where it stops, and where there is no entry.
-module _ (stop : Bool) (k : ℕ) where
-  pub at_closing : k ≡ 21 → false ≡ begins_kind stop k
-  at_closing h = rw h
-
-  pub at_sep : k ≡ 3 → not stop ≡ begins_kind stop k
-  at_sep h = rw h (ap not (sym (and-true stop)))
-
-  pub at_other : (k ≡ 21 → ⊥) → (k ≡ 3 → ⊥) → not (eqb k 23) ≡ begins_kind stop k
-  at_other h l = rw (ne_eqb k 21 h, ne_eqb k 3 l) (ap not (sym (either (eqb k 23) stop)))
+-- A Space is no head.
+pub no_head : (sg : Bool) → heads_kind sg 23 ≡ false
+no_head sg = and-false sg
 
 -- where a leaf stands, an item begins
 leaf-kind : (k : ℕ) (stop : Bool) → leaf_only k ≡ true → begins_kind stop k ≡ true

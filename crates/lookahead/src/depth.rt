@@ -7,6 +7,9 @@ const MAX_DEPTH: u16 = 256;
 // An item at depth d is read by next_simple at d + 1.
 pub(crate) const MAX_ITEM_DEPTH: usize = MAX_DEPTH as usize - 1;
 
+// A closing bracket that nothing opened closes all before it so many times at most.
+pub const MOST_WRAPS: usize = 256;
+
 // A reader of this depth finds nothing.
 pub fn too_deep(depth: u16) -> bool
     ensures { result ≡ too_deep depth }

@@ -2,5 +2,6 @@
 #![tactic(auto)]
 
 pub mod depth;
+pub mod list;
 pub mod takes;
 pub mod tests;

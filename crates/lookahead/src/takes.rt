@@ -10,11 +10,9 @@ pub fn count_take(takes: u32) -> u32
 }
 
 // A look at the entry at i: a take, if there is one.
+#[tactic(auto, unfolding(crate::specs::Takes::looked))]
 pub fn count_look(takes: u32, n: usize, i: usize) -> u32
     ensures { result ≡ looked n i takes }
 {
-    if i < n {
-        return count_take(takes);
-    }
-    takes
+    if i < n { count_take(takes) } else { takes }
 }

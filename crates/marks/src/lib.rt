@@ -9,23 +9,21 @@ use fields::marks_of;
 use stores::set_marks;
 
 // The mark of this number (1, 2 or 4) among an entry's marks, which are one number.
+#[tactic(auto, unfolding(crate::specs::Marks::is_marked))]
 fn is_marked(marks: u32, mark: u32) -> bool
     ensures { result ≡ is_marked marks mark }
 {
-    if mark == 0 {
-        false
-    } else {
-        marks / mark % 2 == 1
-    }
+    mark != 0 && marks / mark % 2 == 1
 }
 
+#[tactic(auto, unfolding(crate::specs::Marks::with_mark))]
 fn with_mark(marks: u32, mark: u32) -> u32
     ensures { result ≡ with_mark marks mark }
 {
     if is_marked(marks, mark) {
         marks
     } else {
-        std::num::wrapping_add_u32(marks, mark)
+        marks.wrapping_add(mark)
     }
 }
 
@@ -43,6 +41,7 @@ pub fn mark_failed(work: &mut [u32], i: usize, mark: u32)
 }
 
 // The number of the mark of a matrix that failed.
+// kept: numbers, not an enum, since the functions of this crate are offered for any number (README, "The calls")
 pub const MATRIX_MARK: u32 = 4;
 
 // The number of the open mark for a stop.

@@ -6,7 +6,7 @@ use mathlib.Core.Bool.{Bool, false, ◌||◌, or_assoc, or-false}
 use mathlib.Core.List.{List, ◌++◌, append-nil}
 use lib.ListN.{length, drop}
 use Rattle.tree.specs.declared.walk.Opened.{Opened}
-use Rattle.tree.specs.declared.walk.Step.TheVariants.{Node, End}
+use Rattle.std.proofs.Common.{Some, None}
 use Rattle.tree.specs.Tree as T
 use Rattle.tree.specs.Tree.{node, Nodes, end, ◌▸◌, count}
 use Rattle.tree.specs.Words.{tail_words, of_items, encode}
@@ -81,13 +81,13 @@ module _ {words text : List ℕ} {from number : ℕ} {items : Bool} {at left : �
 
   -- the next node is passed by way of the one that stands for it
   module _ {p : Place} (i : InnerPlace words at items p) where
-    no_end : (y : T.Node) (more : List ℕ) → Laid y → drop p.at words ≡ node_words p.items y ++ more → End ≡ step_at words p.at p.items → ⊥
+    no_end : (y : T.Node) (more : List ℕ) → Laid y → drop p.at words ≡ node_words p.items y ++ more → None ≡ step_at words p.at p.items → ⊥
     no_end (node h k) more c d s =
         let f = (opens words p.at p.items h k more c d).found in
         let y : ◌≡◌ {A = ℕ} 0 1 = cc in
         omega arith
 
-    pub cut : 0 < left → End ≡ step_at words p.at p.items → RowPassed words text from number items (record { at = at; refused = seen })
+    pub cut : 0 < left → None ≡ step_at words p.at p.items → RowPassed words text from number items (record { at = at; refused = seen })
     cut z s = record {
       least = w.least;
       upto = w.upto;
@@ -99,7 +99,7 @@ module _ {words text : List ℕ} {from number : ℕ} {items : Bool} {at left : �
           absurd (no_end y.node (row_words items f.behind ++ rest) y.laid y.here s);
     }
 
-    module _ {o : Opened} (e : Node o ≡ step_at words p.at p.items) {known now : Bool} {end : ℕ} (q : Below words text o known end now)
+    module _ {o : Opened} (e : Some o ≡ step_at words p.at p.items) {known now : Bool} {end : ℕ} (q : Below words text o known end now)
         {next : ℕ} (g : next ≡ past_of (length words) end o.tail) where
       pub less : length words - next < length words - at
       less = let u = step-within words p.at p.items o e in omega (arith, q.row.least, q.row.upto, q.ends, i.least)

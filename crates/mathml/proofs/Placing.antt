@@ -11,7 +11,7 @@ use Rattle.tokens.proofs.Cases.{by_test, clash}
 use Rattle.writer.specs.Put.{Put, most}
 use Rattle.writer.proofs.Puts.{none}
 use Rattle.tree.specs.declared.walk.Opened.{Opened}
-use Rattle.tree.specs.declared.walk.Step.TheVariants.{Node, End}
+use Rattle.std.proofs.Common.{Some, None}
 use Rattle.tree.specs.Tree as T
 use Rattle.tree.specs.Tree.{Script, Head, node, Nodes, end, ◌▸◌, count}
 use Rattle.tree.specs.Words.{encode}
@@ -132,7 +132,7 @@ bare-refused : (text : List ℕ) (y : T.Node) → refused_node text y ≡ refuse
 unfolding refused_node refused_head
 bare-refused text y = sym (or-false (refused_node text y))
 
-module _ (words : List ℕ) (at : ℕ) (items : Bool) (o : Opened) (e : Node o ≡ step_at words at items) (b : head_at words o.kind o.head ≡ Head.simple Script.none) where
+module _ (words : List ℕ) (at : ℕ) (items : Bool) (o : Opened) (e : Some o ≡ step_at words at items) (b : head_at words o.kind o.head ≡ Head.simple Script.none) where
   abbrev place : Place
   place = record { at = o.from; items = false }
 
@@ -181,11 +181,11 @@ placed-leaf words at true k = by_test (eqb (get_or words at 0) 1) (λ t. absurd 
     item : eqb (get_or words at 0) 1 ≡ false → ((placed_at words at true).count ≡ 0) × ((placed_at words at true).tail ≡ 0)
     item t = let k₁ : get_or words (at + 1) 0 < 8 = rw t at k in rw t (headed-leaf words (at + 1) k₁)
 
-placed-is : (words : List ℕ) (at : ℕ) (items : Bool) (o : Opened) → Node o ≡ step_at words at items → placed_at words at items ≡ o
+placed-is : (words : List ℕ) (at : ℕ) (items : Bool) (o : Opened) → Some o ≡ step_at words at items → placed_at words at items ≡ o
 unfolding step_at
 placed-is words at items o e = go (ltb at (length words)) (leb (placed_at words at items).from (length words)) e
   where
-    go : (a b : Bool) → Node o ≡ cond a (cond b (Node (placed_at words at items)) End) End → placed_at words at items ≡ o
+    go : (a b : Bool) → Some o ≡ cond a (cond b (Some (placed_at words at items)) None) None → placed_at words at items ≡ o
     go true true e = cc
     go true false e = let y : ◌≡◌ {A = ℕ} 0 1 = cc in absurd (omega arith)
     go false b e = let y : ◌≡◌ {A = ℕ} 0 1 = cc in absurd (omega arith)
@@ -219,7 +219,7 @@ module _ (words : List ℕ) (at : ℕ) (items : Bool) {head : ℕ} (w : OwnPlace
       (ap (λ (o : Opened). o.count) (w.read l).1 ∙ (headed-leaf words head k).0)
     where
       counts : (a b : Bool) → (placed_at words at items).count ≡ 0 →
-          ◌≡◌ {A = ℕ} (elim (cond a (cond b (Node (placed_at words at items)) End) End) [ End ↦ 0 | Node o ↦ o.count ]) 0
+          ◌≡◌ {A = ℕ} (elim (cond a (cond b (Some (placed_at words at items)) None) None) [ None ↦ 0 | Some o ↦ o.count ]) 0
       counts true true h = h
       counts true false h = refl
       counts false b h = refl
@@ -234,10 +234,10 @@ module _ (words : List ℕ) (at : ℕ) (items : Bool) {head : ℕ} (w : OwnPlace
       let s = step-node words at items p.0 (sym p.1) (omega (arith, six)) in
       rw (six) at (inner-bare words at items (headed_at words head) s (ap (λ (x : ℕ). head_at words x head) (sym k) ∙ b.1))
 
-same-node : (words : List ℕ) (at : ℕ) (items : Bool) (o o₁ : Opened) → Node o ≡ step_at words at items → Node o₁ ≡ step_at words at items → o ≡ o₁
+same-node : (words : List ℕ) (at : ℕ) (items : Bool) (o o₁ : Opened) → Some o ≡ step_at words at items → Some o₁ ≡ step_at words at items → o ≡ o₁
 same-node words at items o o₁ e s = cc
 
-counted : (words : List ℕ) (at : ℕ) (items : Bool) (o : Opened) → Node o ≡ step_at words at items → count_at words at items ≡ o.count
+counted : (words : List ℕ) (at : ℕ) (items : Bool) (o : Opened) → Some o ≡ step_at words at items → count_at words at items ≡ o.count
 unfolding count_at
 counted words at items o e = rw (← e, count_at)
 
@@ -249,7 +249,7 @@ last-put t u q = rw t (record { more = refl; ends = u; put = q })
 
 -- a part of the node that a step of the walk has opened
 module _ (words text start : List ℕ) (place at : ℕ) (items : Bool) (m : Mode) (i left next : ℕ) where
-  pub part_end : at ≤ length words → End ≡ step_at words at items → {p : Part} → place ≤ most → p ≡ last_part at place m →
+  pub part_end : at ≤ length words → None ≡ step_at words at items → {p : Part} → place ≤ most → p ≡ last_part at place m →
       PartPut words text start place at items m i left next start p
   part_end h e z t = rw t (record {
     least = omega arith;
@@ -261,10 +261,10 @@ module _ (words text start : List ℕ) (place at : ℕ) (items : Bool) (m : Mode
     last = λ o s. no o s;
   })
     where
-      no : {A : Type 0} (o : Opened) → Node o ≡ step_at words at items → A
+      no : {A : Type 0} (o : Opened) → Some o ≡ step_at words at items → A
       no o s = let y : ◌≡◌ {A = ℕ} 0 1 = cc in absurd (omega arith)
 
-  module _ (o : Opened) (e : Node o ≡ step_at words at items) {out₁ : List ℕ} {begins child : ℕ}
+  module _ (o : Opened) (e : Some o ≡ step_at words at items) {out₁ : List ℕ} {begins child : ℕ}
       (b : Put start place out₁ begins (written (begun text m (head_at words o.kind o.head) i)))
       (k : ChildPlace words (swaps text (head_at words o.kind o.head)) o.from i next child) where
     pub part-child : {row : ℕ} {p : Part} {out₂ : List ℕ} → i < o.count → i < most → row ≡ row_left (head_at words o.kind o.head) i left →

@@ -13,7 +13,7 @@ use Rattle.tokens.proofs.Cases.{by_test, by_lt, clash}
 use Rattle.writer.specs.Put.{Put, most}
 use Rattle.writer.proofs.Puts.{none}
 use Rattle.tree.specs.declared.walk.Opened.{Opened}
-use Rattle.tree.specs.declared.walk.Step.TheVariants.{Node}
+use Rattle.std.proofs.Common.{Some}
 use Rattle.tree.specs.Tree as T
 use Rattle.tree.specs.Tree.{Head, Prefix, node, Nodes, end, ◌▸◌, count}
 use Rattle.tree.specs.Words.{tail_words, of_items, encode}
@@ -280,7 +280,7 @@ module _ (words text start : List ℕ) (at : ℕ) (items : Bool) (place : ℕ) (
       abbrev o : Opened
       o = placed_at words at items
 
-      seen : Node o ≡ step_at words at items
+      seen : Some o ≡ step_at words at items
       seen = sym g.opens.found
 
       -- the child of this turn, wherever it stands

@@ -1,5 +1,5 @@
 -- The call that writes a text's MathML: what it answers, and what it leaves in the lent buffers. docs/MATHML.md, "The call".
-use Rattle.std.specs.Prelude.{◌≡◌, true, false, List, [], ◌∷◌, ℕ, ◌≤◌, length}
+use Rattle.std.specs.Prelude.{◌≡◌, true, false, List, [], ◌∷◌, ℕ, ◌≤◌, length, Result}
 use Rattle.tokens.specs.Refusals.{Answer, accepted, refused, bit}
 use Rattle.writer.specs.Fitted.{fitted_by}
 use Rattle.tree.specs.Tree.{Nodes}
@@ -8,20 +8,17 @@ use Rattle.parse.specs.Call.{parsed_text}
 use Rattle.mathml_rules.specs.Mathml.{mathml_of}
 use Rattle.mathml_rules.specs.Refusal.{refusal11}
 use Rattle.mathml_length.specs.Length.{longest}
-use Rattle.mathml.specs.declared.Written.{Written}
-use Rattle.mathml.specs.declared.Written.TheVariants as write
 use Rattle.mathml.specs.Walks.{Begins}
+use Rattle.refusals.specs.declared.refusal.Refusal.{Refusal}
+use Rattle.refusals.specs.Refusal.{answered}
 use Rattle.mathml.specs.declared.Marked.{Marked}
-use Rattle.mathml.specs.declared.Marked.TheVariants.{Whole, Refused}
 
 -- The code's answer in the words of document 01. Blank is 1 or 0.
-abbrev pub answer_of : Marked → Answer
-answer_of (Whole len takes blank) = accepted (len ∷ takes ∷ bit blank ∷ [])
-answer_of (Refused k) = refused k
+abbrev pub answer_of : Result Marked Refusal → Answer
+answer_of r = answered (λ (m : Marked). m.len ∷ m.takes ∷ bit m.blank ∷ []) r
 
-abbrev pub written_as : Written → Answer
-written_as (write.Whole len) = accepted (len ∷ [])
-written_as (write.Refused k) = refused k
+abbrev pub written_as : Result ℕ Refusal → Answer
+written_as r = answered (λ (len : ℕ). len ∷ []) r
 
 -- the MathML of a text that is read
 unfoldable pub mark_of : List ℕ → List ℕ

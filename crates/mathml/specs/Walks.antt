@@ -1,10 +1,9 @@
 -- What the walks over tree words answer: they go on, stay within the words, and where the words are those of a tree, they have read it.
-use Rattle.std.specs.Prelude.{ℕ, ◌+◌, ◌≤◌, ◌<◌, ◌≡◌, Bool, true, false, List, [], ◌++◌, eqb, length, drop}
+use Rattle.std.specs.Prelude.{Some, None, ℕ, ◌+◌, ◌≤◌, ◌<◌, ◌≡◌, Bool, true, false, List, [], ◌++◌, eqb, length, drop}
 use Rattle.writer.specs.Put.{Put, most}
 use Rattle.tree.specs.Tree.{Head, Node, Nodes, count}
 use Rattle.tree.specs.Words.{encode}
 use Rattle.tree.specs.declared.walk.Opened.{Opened}
-use Rattle.tree.specs.declared.walk.Step.TheVariants as step
 use Rattle.tree.specs.Walk.{row_words, node_words, headed_at, placed_at, step_at, past_of, head_at}
 use Rattle.tree.specs.Laid.{Laid, Laids}
 use Rattle.mathml_rules.specs.declared.Mode.{Mode}
@@ -91,7 +90,7 @@ last_part at end m = record { more = false; at = at; items = false; mode = m; le
 
 -- how many children the node at a place has
 unfoldable pub count_at : List ℕ → ℕ → Bool → ℕ
-count_at words at items = elim (step_at words at items) [ step.End ↦ 0 | step.Node o ↦ o.count ]
+count_at words at items = elim (step_at words at items) [ None ↦ 0 | Some o ↦ o.count ]
 
 -- a part of the node at a place
 pub record PartPut (words text before : List ℕ) (place at : ℕ) (items : Bool) (m : Mode) (i left next : ℕ) (after : List ℕ) (p : Part) : Type 0 where
@@ -100,12 +99,12 @@ pub record PartPut (words text before : List ℕ) (place at : ℕ) (items : Bool
   pub fits : p.end ≤ most
   pub deeper : p.more ≡ true → (at < p.at) × ((i < count_at words at items) × (i < most))
   pub same : length after ≡ length before
-  pub child : (o : Opened) → step.Node o ≡ step_at words at items → i < o.count →
+  pub child : (o : Opened) → Some o ≡ step_at words at items → i < o.count →
       let h = head_at words o.kind o.head in
       (p.more ≡ true) × (p.mode ≡ handed text m h i) × (p.left ≡ cells_left (cols_of h) (row_left h i left))
       × ((at : ℕ) × (ChildPlace words (swaps text h) o.from i next at × InnerPlace words at o.items (record { at = p.at; items = p.items })))
       × Put before place after p.end (written (begun text m h i ++ parts.before text h i (row_left h i left)))
-  pub last : (o : Opened) → step.Node o ≡ step_at words at items → o.count ≤ i →
+  pub last : (o : Opened) → Some o ≡ step_at words at items → o.count ≤ i →
       let h = head_at words o.kind o.head in
       (p.more ≡ false)
       × ((end : ℕ) × (ChildPlace words (swaps text h) o.from i next end × (p.at ≡ past_of (length words) end o.tail)))

@@ -5,6 +5,7 @@ ghost use Rattle.mathml.specs.Walks.{NodePut};
 
 use crate::part::put_part;
 use crate::place::is_leaf;
+use crate::source::Source;
 use mathml_rules::Mode;
 
 // Where the words read and the bytes put end.
@@ -16,31 +17,30 @@ pub(crate) struct Reached {
 
 // The node at a place of a row of items, or of nodes that are none.
 pub(crate) fn put_node(
-    words: &[u32],
-    text: &[u8],
+    source: &Source<'_>,
     out: &mut [u8],
     at: usize,
     items: bool,
     place: usize,
     m: Mode,
 ) -> Reached
-    requires { at ≤ length words.now }
-    ensures { NodePut words.now text.now out.old at items place m out.new result }
+    requires { at ≤ length source.now.words.now }
+    ensures { NodePut source.now.words.now source.now.text.now out.old at items place m out.new result }
 {
     let mut next = at;
     let mut end = place;
     let mut left = 0;
     let mut i = 0;
     'all: loop {
-        let p = put_part(words, text, out, end, at, items, m, i, left, next);
+        let p = put_part(source, out, end, at, items, m, i, left, next);
         if p.more {
             let mode = p.mode;
-            if is_leaf(words, p.at, p.items) {
-                let c = put_part(words, text, out, p.end, p.at, p.items, mode, 0, 0, p.at);
+            if is_leaf(source.words, p.at, p.items) {
+                let c = put_part(source, out, p.end, p.at, p.items, mode, 0, 0, p.at);
                 next = c.at;
                 end = c.end;
             } else {
-                let r = put_node(words, text, out, p.at, p.items, p.end, mode);
+                let r = put_node(source, out, p.at, p.items, p.end, mode);
                 next = r.at;
                 end = r.end;
             }

@@ -9,13 +9,14 @@ ghost use Rattle.mathml.specs.Walks.{last_part, begun, row_left, ChildPlace, Chi
 
 use crate::pass::node_end;
 use crate::place::inner_place;
-use mathml_heads::below::{cells_left, columns, mode_below, put_before, swaps_children};
-use mathml_heads::closing::put_closing;
-use mathml_heads::opening::put_opening;
+use crate::source::Source;
+use mathml_heads::below::cells_left;
+use mathml_heads::node::Node;
 use mathml_rules::Mode;
 use tree::kinds::NODE_SIGNED;
-use tree::walk::{Step, node_at, past};
+use tree::walk::{node_at, past};
 
+// kept: `more` beside the place, since `at` and `end` are read of every part: an enum would hold them in both variants
 #[derive(Clone, Copy)]
 pub(crate) struct Part {
     // whether a child follows: its place, whether it is an item, its mode, and the cells left in its row behind it
@@ -43,112 +44,81 @@ fn no_more(at: usize, end: usize, mode: Mode) -> Part
 }
 
 // Before child 0 stands what opens the node.
-fn put_begun(
-    words: &[u32],
-    text: &[u8],
-    out: &mut [u8],
-    place: usize,
-    kind: u32,
-    head: usize,
-    m: Mode,
-    i: usize,
-) -> usize
-    ensures { Put out.old place out.new result (written (begun text.now m (head_at words.now kind head) i)) }
+fn put_begun(node: &Node<'_>, out: &mut [u8], place: usize, m: Mode, i: usize) -> usize
+    ensures { Put out.old place out.new result (written (begun node.now.text.now m (head_at node.now.words.now node.now.kind node.now.head) i)) }
 {
     if i == 0 {
-        return put_opening(words, text, out, place, kind, head, m);
+        return node.put_opening(out, place, m);
     }
     place
 }
 
 // Where child i begins, if the one before it ends at `next`. Where two children are exchanged the first is passed over to find the second.
-fn child_place(
-    words: &[u32],
-    text: &[u8],
-    kind: u32,
-    head: usize,
-    from: usize,
-    i: usize,
-    next: usize,
-) -> usize
-    requires from_in_bounds { from ≤ length words.now }
-    requires next_in_bounds { next ≤ length words.now }
-    ensures { ChildPlace words.now (swaps text.now (head_at words.now kind head)) from i next result }
+fn child_place(node: &Node<'_>, from: usize, i: usize, next: usize) -> usize
+    requires from_in_bounds { from ≤ length node.now.words.now }
+    requires next_in_bounds { next ≤ length node.now.words.now }
+    ensures { ChildPlace node.now.words.now (swaps node.now.text.now (head_at node.now.words.now node.now.kind node.now.head)) from i next result }
 {
-    if swaps_children(words, text, kind, head) {
+    if node.swaps_children() {
         if i == 1 {
             return from;
         }
-        let second = node_end(words, from);
+        let second = node_end(node.words, from);
         if i == 0 {
             return second;
         }
-        return node_end(words, second);
+        return node_end(node.words, second);
     }
     if next < from { from } else { next }
 }
 
 // The cells left in the row of child i.
-fn row_left(words: &[u32], kind: u32, head: usize, i: usize, left: usize) -> usize
-    ensures { result ≡ row_left (head_at words.now kind head) i left }
+fn row_left(node: &Node<'_>, i: usize, left: usize) -> usize
+    ensures { result ≡ row_left (head_at node.now.words.now node.now.kind node.now.head) i left }
 {
     if i == 0 {
-        return columns(words, kind, head);
+        return node.columns();
     }
     left
 }
 
 // What stands before child i, which begins at `at`.
 fn put_child(
-    words: &[u32],
-    text: &[u8],
+    node: &Node<'_>,
     out: &mut [u8],
     place: usize,
-    kind: u32,
-    head: usize,
     m: Mode,
     i: usize,
     left: usize,
     at: usize,
     items: bool,
 ) -> Part
-    requires { at ≤ length words.now }
-    ensures { ChildPut words.now text.now out.old place kind head m i left at items out.new result }
+    requires { at ≤ length node.now.words.now }
+    ensures { ChildPut node.now.words.now node.now.text.now out.old place node.now.kind node.now.head m i left at items out.new result }
 {
-    let end = put_before(words, text, out, place, kind, head, i, left);
-    let child = inner_place(words, at, items);
+    let end = node.put_before(out, place, i, left);
+    let child = inner_place(node.words, at, items);
     Part {
         more: true,
         at: child.at,
         items: child.items,
-        mode: mode_below(words, text, kind, head, m, i),
-        left: cells_left(columns(words, kind, head), left),
+        mode: node.mode_below(m, i),
+        left: cells_left(node.columns(), left),
         end,
     }
 }
 
 // What closes the node, whose last child ends at `at`.
-fn put_last(
-    words: &[u32],
-    text: &[u8],
-    out: &mut [u8],
-    place: usize,
-    kind: u32,
-    head: usize,
-    m: Mode,
-    at: usize,
-    tail: usize,
-) -> Part
-    ensures { LastPut words.now text.now out.old place kind head m at tail out.new result }
+fn put_last(node: &Node<'_>, out: &mut [u8], place: usize, m: Mode, at: usize, tail: usize) -> Part
+    ensures { LastPut node.now.words.now node.now.text.now out.old place node.now.kind node.now.head m at tail out.new result }
 {
-    let end = put_closing(words, text, out, place, kind, head, m);
-    no_more(past(words, at, tail), end, m)
+    let end = node.put_closing(out, place, m);
+    no_more(past(node.words, at, tail), end, m)
 }
 
 // The part before child i of the node at a place, or behind its last child, if i is their number.
 pub(crate) fn put_part(
-    words: &[u32],
-    text: &[u8],
+    source: &Source<'_>,
     out: &mut [u8],
     place: usize,
     at: usize,
@@ -158,27 +128,29 @@ pub(crate) fn put_part(
     left: usize,
     next: usize,
 ) -> Part
-    requires at_in_bounds { at ≤ length words.now }
-    requires next_in_bounds { next ≤ length words.now }
-    ensures { PartPut words.now text.now out.old place at items m i left next out.new result }
+    requires at_in_bounds { at ≤ length source.now.words.now }
+    requires next_in_bounds { next ≤ length source.now.words.now }
+    ensures { PartPut source.now.words.now source.now.text.now out.old place at items m i left next out.new result }
 {
-    match node_at(words, at, items) {
-        Step::Node(o) => {
-            let kind = o.kind;
-            let head = o.head;
-            let begun = put_begun(words, text, out, place, kind, head, m, i);
-            let child = child_place(words, text, kind, head, o.from, i, next);
-            if kind < NODE_SIGNED {
+    match node_at(source.words, at, items) {
+        Some(o) => {
+            let node = Node {
+                words: source.words,
+                text: source.text,
+                kind: o.kind,
+                head: o.head,
+            };
+            let begun = put_begun(&node, out, place, m, i);
+            let child = child_place(&node, o.from, i, next);
+            if node.kind < NODE_SIGNED {
                 return no_more(child, begun, m);
             }
             if i < o.count {
-                let row = row_left(words, kind, head, i, left);
-                return put_child(
-                    words, text, out, begun, kind, head, m, i, row, child, o.items,
-                );
+                let row = row_left(&node, i, left);
+                return put_child(&node, out, begun, m, i, row, child, o.items);
             }
-            put_last(words, text, out, begun, kind, head, m, child, o.tail)
+            put_last(&node, out, begun, m, child, o.tail)
         }
-        Step::End => no_more(at, place, m),
+        None => no_more(at, place, m),
     }
 }

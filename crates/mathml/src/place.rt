@@ -38,21 +38,14 @@ pub(crate) fn is_leaf(words: &[u32], at: usize, items: bool) -> bool
     ensures { result ≡ true → count_at words.now at items ≡ 0 }
 {
     let head = own_place(words, at, items);
-    if head < words.len() {
-        return words[head] < NODE_SIGNED;
-    }
-    false
+    head < words.len() && words[head] < NODE_SIGNED
 }
 
 // A simple without script.
 fn is_bare(words: &[u32], kind: u32, head: usize) -> bool
     ensures { result ≡ true → (kind ≡ 13) × (head_at words.now kind head ≡ Head.simple Script.none) }
 {
-    if kind == NODE_SIMPLE {
-        word(own_words(words, head), 3) == 0
-    } else {
-        false
-    }
+    kind == NODE_SIMPLE && word(own_words(words, head), 3) == 0
 }
 
 // A simple without script is written as the node in it: where that begins. Any other node's place.

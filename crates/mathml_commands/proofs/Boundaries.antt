@@ -1,31 +1,27 @@
 -- The lines of a table one after the other.
 use Prim.Native.Nat.{ℕ, zero, suc, ◌≤◌, ◌<◌}
-use mathlib.Core.Path.{◌≡◌, refl, sym}
+use mathlib.Core.Path.{◌≡◌, refl, sym, ◌∙◌}
 use mathlib.Core.Bool.{true, false}
 use mathlib.Core.List.{List, [], ◌∷◌, ◌++◌}
 use native.Mathlib.Omega.{arith}
 use lib.Dec.{eqb}
-use lib.ListN.{length, get_or, take, drop, drop_of_length-le}
-use lib.Seq.{drop-cons, take-suc, take_all}
+use Rattle.std.specs.List.{list_any}
+use lib.ListN.{length, get_or, take}
+use lib.Seq.{take-suc, take_all}
 use borrow.Author.Tests.{eq-eqb, ne_eqb, eqb-true}
-use Rattle.tokens.proofs.Cases.{by_test, clash}
+use Rattle.tokens.proofs.Cases.{by_test, by_eq, clash}
 use Rattle.mathml_rules.specs.Mathml.{has}
 use Rattle.mathml_rules.specs.Refusal.{twice, refused_lines}
 use Rattle.mathml_rules.proofs.Lists.{neither}
 
--- whether a line is at boundary j, from line i on
-module _ (lines : List ℕ) (j i : ℕ) where
-  pub has-past : length lines ≤ i → false ≡ has j (drop i lines)
-  unfolding has
-  has-past h = rw (drop_of_length-le lines h)
+eqb-turned : (a b : ℕ) → eqb a b ≡ eqb b a
+eqb-turned a b = by_eq a b (λ e. rw e) (λ n. ne_eqb a b n ∙ sym (ne_eqb b a (λ e. n (sym e))))
 
-  pub has_here : i < length lines → get_or lines i 0 ≡ j → true ≡ has j (drop i lines)
-  unfolding has
-  has_here h e = rw (drop-cons lines i 0 h) (rw (eq-eqb j (get_or lines i 0) (sym e)))
-
-  pub has-next : i < length lines → (get_or lines i 0 ≡ j → ⊥) → has j (drop i lines) ≡ has j (drop (suc i) lines)
-  unfolding has
-  has-next h e = rw (drop-cons lines i 0 h) (rw (ne_eqb j (get_or lines i 0) (λ f. e (sym f))))
+-- what `contains` says of a boundary
+pub any-has : (j : ℕ) (lines : List ℕ) → list_any (λ b. eqb b j) lines ≡ has j lines
+unfolding has
+any-has j [] = refl
+any-has j (b ∷ l) = rw (eqb-turned b j, any-has j l)
 
 -- what a line at place i tells of all
 has-at : (l : List ℕ) (i : ℕ) → i < length l → has (get_or l i 0) l ≡ true

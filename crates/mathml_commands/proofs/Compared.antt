@@ -1,11 +1,10 @@
 -- A text is the same as itself; the control bytes of a text.
-use Prim.Native.Nat.{ℕ, suc, ◌≤◌, ◌<◌}
-use mathlib.Core.Path.{◌≡◌, refl, sym, ◌∙◌}
-use mathlib.Core.Bool.{true, false}
+use Prim.Native.Nat.{ℕ}
+use mathlib.Core.Path.{◌≡◌, refl, ap, sym, ◌∙◌}
+use mathlib.Core.Bool.{Bool, true, false, ◌||◌}
+use Rattle.std.specs.List.{list_any}
 use mathlib.Core.List.{List, [], ◌∷◌}
 use lib.Dec.{ltb}
-use lib.ListN.{length, get_or, drop, drop_of_length-le}
-use lib.Seq.{drop-cons}
 use borrow.Author.Tests.{eq-eqb, ne_eqb}
 use Rattle.tokens.specs.Bytes.{same}
 use Rattle.tokens.proofs.Cases.{by_test, clash}
@@ -41,15 +40,7 @@ module _ (c : ℕ) where
       rw (ne_eqb c 9 p, ne_eqb c 10 q, ne_eqb c 13 r, control)
       (by_test (ltb c 32) (λ e. rw e) (λ e. rw e))
 
-module _ (s : List ℕ) (i : ℕ) where
-  pub controls-past : length s ≤ i → false ≡ controls (drop i s)
-  unfolding controls
-  controls-past h = rw (drop_of_length-le s h)
-
-  pub controls-here : i < length s → control (get_or s i 0) ≡ true → true ≡ controls (drop i s)
-  unfolding controls
-  controls-here h e = rw (drop-cons s i 0 h) (rw (e, controls))
-
-  pub controls-next : i < length s → control (get_or s i 0) ≡ false → controls (drop i s) ≡ controls (drop (suc i) s)
-  unfolding controls
-  controls-next h e = rw (drop-cons s i 0 h) (rw (e, controls))
+pub any-control : (s : List ℕ) → list_any control s ≡ controls s
+unfolding controls
+any-control [] = refl
+any-control (c ∷ s) = ap (λ (b : Bool). control c || b) (any-control s)

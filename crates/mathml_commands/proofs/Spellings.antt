@@ -1,5 +1,7 @@
 -- What the commands put.
-use Prim.Native.Nat.{ℕ}
+use Prim.Native.Nat.{ℕ, zero, suc}
+use native.Mathlib.Omega.{arith}
+use Rattle.std.proofs.Common.{Option, Some, None, option_map}
 use mathlib.Core.Path.{◌≡◌, refl, ap, sym, ◌∙◌}
 use mathlib.Core.Bool.{Bool, true, false, not}
 use mathlib.Core.List.{List, [], ◌∷◌, ◌++◌, append-nil}
@@ -16,7 +18,10 @@ use Rattle.mathml_rules.proofs.Escapes.{written-append}
 use Rattle.mathml_rules.proofs.Lists.{All, both, every}
 use Rattle.mathml_commands.specs.declared.unary.Command.{Command}
 use Rattle.mathml_commands.specs.declared.unary.Command.TheVariants as variant
-use Rattle.mathml_commands.specs.Spelled.{Row, rows, command_in, command_of, element_for, left_mark, right_mark}
+use Rattle.mathml_tags.specs.declared.elements.Element.{Element}
+use Rattle.mathml_tags.specs.declared.elements.Element.TheVariants as element
+use Rattle.mathml_tags.specs.Element.{element_number}
+use Rattle.mathml_commands.specs.Spelled.{Row, rows, command_in, command_of, element_for, number_if, left_mark, right_mark}
 
 -- a row as the definition has it
 abbrev ruled : Row → rules.Command
@@ -91,6 +96,22 @@ finish-is : (s : List ℕ) → finish_unary unaries s ≡ finish_for (command_of
 unfolding command_of rows
 finish-is s = ap (λ (l : List rules.Command). finish_unary l s) (sym all-rows) ∙ finish-in rows s refl
 
+-- what an element or none says of the number
+number-none : (k : ℕ) → None ≡ number_if k → 0 ≡ k
+number-none zero h = refl
+number-none (suc n) h = let z : ◌≡◌ {A = ℕ} 0 1 = cc in absurd (omega arith)
+
+number-some : (k e : ℕ) → Some e ≡ number_if k → (e ≡ k) × (e ≡ 0 → ⊥)
+number-some zero e h = let z : ◌≡◌ {A = ℕ} 0 1 = cc in absurd (omega arith)
+number-some (suc n) e h = let q : e ≡ suc n = cc in (q, λ z. omega arith)
+
+pub is_none : (o : Option Element) (c : Command) → option_map element_number o ≡ number_if (element_for c) → o ≡ None → 0 ≡ element_for c
+is_none o c h n = number-none (element_for c) (ap (option_map element_number) (sym n) ∙ h)
+
+pub is_some_of : (o : Option Element) (c : Command) (e : Element) → option_map element_number o ≡ number_if (element_for c) → o ≡ Some e →
+    (element_number e ≡ element_for c) × (element_number e ≡ 0 → ⊥)
+is_some_of o c e h n = number-some (element_for c) (element_number e) (ap (option_map element_number) (sym n) ∙ h)
+
 -- of a text with this command and this element
 module _ (s : List ℕ) (c : Command) (e : ℕ) (found : c ≡ command_of s) (has : e ≡ element_for c) where
   module _ (none : e ≡ 0) where
@@ -149,3 +170,38 @@ exchanges-in s (r ∷ l) e =
 pub exchanges-is : (s : List ℕ) (e : ℕ) → e ≡ binary_element exchanging s → not (eqb e 12) ≡ exchanges exchanging s
 unfolding exchanging
 exchanges-is s e h = rw h (exchanges-in s exchanging refl)
+
+pub not-frac : (e : Element) → (e ≡ element.MfracCommand → ⊥) → eqb (element_number e) 12 ≡ false
+not-frac element.MrowMissing n = refl
+not-frac element.Mn n = refl
+not-frac element.Mtext n = refl
+not-frac element.Mi n = refl
+not-frac element.Mo n = refl
+not-frac element.MoSign n = refl
+not-frac element.Mspace n = refl
+not-frac element.MoSymbol n = refl
+not-frac element.MrowSigned n = refl
+not-frac element.MrowSsigned n = refl
+not-frac element.MrowFenced n = refl
+not-frac element.MrowSfunc n = refl
+not-frac element.MfracCommand n = absurd (n refl)
+not-frac element.Msub n = refl
+not-frac element.MrowFunc n = refl
+not-frac element.MrowGroup n = refl
+not-frac element.MrowMatrix n = refl
+not-frac element.Mtd n = refl
+not-frac element.Mfrac n = refl
+not-frac element.Math n = refl
+not-frac element.Msup n = refl
+not-frac element.Msubsup n = refl
+not-frac element.MoTight n = refl
+not-frac element.MoSpaced n = refl
+not-frac element.Msqrt n = refl
+not-frac element.Menclose n = refl
+not-frac element.MoverAccent n = refl
+not-frac element.MunderAccent n = refl
+not-frac element.Mover n = refl
+not-frac element.Munder n = refl
+not-frac element.Mroot n = refl
+not-frac element.Mtable n = refl
+not-frac element.Mtr n = refl

@@ -1,5 +1,5 @@
 -- The unary commands of MATHML.md, section 5, sorted by what they put.
-use Rattle.std.specs.Prelude.{true, false, List, [], ◌∷◌, ℕ}
+use Rattle.std.specs.Prelude.{true, false, Option, Some, None, List, [], ◌∷◌, ℕ, zero, suc}
 use Prim.Native.String.{String}
 use Rattle.tokens.specs.Bytes.{bytes, same}
 use Rattle.mathml_rules.specs.Utf8.{utf8}
@@ -65,6 +65,11 @@ element_for variant.Arc = 26
 element_for variant.Underline = 27
 element_for variant.Ubrace = 29
 element_for variant.Obrace = 28
+
+-- the number of an element, or none
+abbrev pub number_if : ℕ → Option ℕ
+number_if zero = None
+number_if (suc n) = Some (suc n)
 
 -- the mark before the argument
 unfoldable pub left_mark : Command → List ℕ

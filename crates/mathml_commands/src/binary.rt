@@ -2,9 +2,10 @@
 ghost use Rattle.std.specs.Prelude.{◌≡◌};
 ghost use Rattle.mathml_rules.specs.Commands.{exchanging};
 ghost use Rattle.mathml_rules.specs.Parts.{binary_element, exchanges};
+ghost use Rattle.mathml_tags.specs.Element.{element_number};
 
 use mathml_forms::key::key_of;
-use mathml_tags::elements;
+use mathml_tags::elements::Element;
 
 const ROOT: u64 = 513538034;
 
@@ -14,14 +15,14 @@ const OVERSET: u64 = 1076624793107311;
 
 const UNDERSET: u64 = 137807973517440885;
 
-pub fn binary_element(s: &[u8]) -> usize
-    ensures { result ≡ binary_element exchanging s.now }
+pub fn binary_element(s: &[u8]) -> Element
+    ensures { element_number result ≡ binary_element exchanging s.now }
 {
     match key_of(s) {
-        ROOT => elements::MROOT,
-        STACKREL | OVERSET => elements::MOVER,
-        UNDERSET => elements::MUNDER,
-        _ => elements::MFRAC_COMMAND,
+        ROOT => Element::Mroot,
+        STACKREL | OVERSET => Element::Mover,
+        UNDERSET => Element::Munder,
+        _ => Element::MfracCommand,
     }
 }
 
@@ -29,5 +30,5 @@ pub fn binary_element(s: &[u8]) -> usize
 pub fn is_exchanging(s: &[u8]) -> bool
     ensures { result ≡ exchanges exchanging s.now }
 {
-    binary_element(s) != elements::MFRAC_COMMAND
+    !matches!(binary_element(s), Element::MfracCommand)
 }

@@ -55,38 +55,34 @@ const COLOR: u64 = 65195948003;
 pub fn is_refused_unary(s: &[u8]) -> bool
     ensures { result ≡ one_of fonts s.now }
 {
-    match key_of(s) {
-        BB
-        | MATHBF
-        | SF
-        | MATHSF
-        | BBB
-        | MATHBB
-        | CC
-        | MATHCAL
-        | TT
-        | MATHTT
-        | FR
-        | MATHFRAK
-        | IT
-        | MATHIT
-        | BBIT
-        | BBSF
-        | SFIT
-        | BBSFIT
-        | BBCC
-        | BBFR => true,
-        _ => false,
-    }
+    matches!(
+        key_of(s),
+        BB | MATHBF
+            | SF
+            | MATHSF
+            | BBB
+            | MATHBB
+            | CC
+            | MATHCAL
+            | TT
+            | MATHTT
+            | FR
+            | MATHFRAK
+            | IT
+            | MATHIT
+            | BBIT
+            | BBSF
+            | SFIT
+            | BBSFIT
+            | BBCC
+            | BBFR
+    )
 }
 
 pub fn is_refused_binary(s: &[u8]) -> bool
     ensures { result ≡ one_of refused_binaries s.now }
 {
-    match key_of(s) {
-        ID | CLASS | COLOR => true,
-        _ => false,
-    }
+    matches!(key_of(s), ID | CLASS | COLOR)
 }
 
 // XML has no byte below 32 but tab, line feed and carriage return.
@@ -102,27 +98,13 @@ fn is_control(c: u8) -> bool
 pub fn has_control(s: &[u8]) -> bool
     ensures { result ≡ controls s.now }
 {
-    let mut i = 0;
-    while i < s.len() {
-        if is_control(s[i]) {
-            return true;
-        }
-        i += 1;
-    }
-    false
+    s.iter().any(|&b| is_control(b))
 }
 
 fn has_line(lines: &[u32], b: u32) -> bool
     ensures { result ≡ has b lines.now }
 {
-    let mut i = 0;
-    while i < lines.len() {
-        if lines[i] == b {
-            return true;
-        }
-        i += 1;
-    }
-    false
+    lines.contains(&b)
 }
 
 // Whether a line is at boundary 0 or `cols`, or two are at one boundary. A line past all before it is at no boundary of theirs, so lines
@@ -131,9 +113,7 @@ pub fn refuses_lines(cols: usize, lines: &[u32]) -> bool
     ensures { result ≡ refused_lines cols lines.now }
 {
     let mut highest = 0;
-    let mut i = 0;
-    while i < lines.len() {
-        let line = lines[i];
+    for (i, &line) in lines.iter().enumerate() {
         if line == 0 {
             return true;
         }
@@ -145,7 +125,6 @@ pub fn refuses_lines(cols: usize, lines: &[u32]) -> bool
         } else if has_line(&lines[..i], line) {
             return true;
         }
-        i += 1;
     }
     false
 }

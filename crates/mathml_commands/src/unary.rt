@@ -1,15 +1,16 @@
 // What a unary command puts before its argument and behind it.
-ghost use Rattle.std.specs.Prelude.{◌≡◌, ◌||◌};
+ghost use Rattle.std.specs.Prelude.{◌≡◌, ◌||◌, option_map};
 ghost use Rattle.tokens.specs.Bytes.{bytes, same};
 ghost use Rattle.writer.specs.Put.{Put};
 ghost use Rattle.mathml_rules.specs.Pieces.{written};
 ghost use Rattle.mathml_rules.specs.Commands.{unaries, mark};
 ghost use Rattle.mathml_rules.specs.Parts.{begin_unary, finish_unary};
-ghost use Rattle.mathml_commands.specs.Spelled.{command_of, element_for, left_mark, right_mark};
+ghost use Rattle.mathml_tags.specs.Element.{element_number};
+ghost use Rattle.mathml_commands.specs.Spelled.{command_of, element_for, number_if, left_mark, right_mark};
 
 use mathml_forms::equal::same_bytes;
 use mathml_forms::key::key_of;
-use mathml_tags::elements;
+use mathml_tags::elements::Element;
 use mathml_tags::leaf::put_leaf;
 use mathml_tags::tags::{put_end, put_start};
 
@@ -58,9 +59,6 @@ const OVERBRACE: u64 = 16557351634143378287;
 const TEXT: u64 = 513684212;
 
 const MBOX: u64 = 521924973;
-
-// What stands for no element.
-const NO_ELEMENT: usize = 0;
 
 // Commands with the same element and the same marks are one.
 #[derive(Clone, Copy)]
@@ -111,27 +109,24 @@ fn command_of(s: &[u8]) -> Command
     }
 }
 
-fn element_of(c: Command) -> usize
-    ensures { result ≡ element_for c }
+fn element_of(c: Command) -> Option<Element>
+    ensures { option_map element_number result ≡ number_if (element_for c) }
 {
     match c {
-        Command::Unknown => NO_ELEMENT,
-        Command::Sqrt => elements::MSQRT,
-        Command::Cancel => elements::MENCLOSE,
-        Command::Abs => elements::MROW_FENCED,
-        Command::Norm => elements::MROW_FENCED,
-        Command::Floor => elements::MROW_FENCED,
-        Command::Ceil => elements::MROW_FENCED,
-        Command::Hat => elements::MOVER_ACCENT,
-        Command::Bar => elements::MOVER_ACCENT,
-        Command::Vec => elements::MOVER_ACCENT,
-        Command::Dot => elements::MOVER_ACCENT,
-        Command::Ddot => elements::MOVER_ACCENT,
-        Command::Tilde => elements::MOVER_ACCENT,
-        Command::Arc => elements::MOVER_ACCENT,
-        Command::Underline => elements::MUNDER_ACCENT,
-        Command::Ubrace => elements::MUNDER,
-        Command::Obrace => elements::MOVER,
+        Command::Unknown => None,
+        Command::Sqrt => Some(Element::Msqrt),
+        Command::Cancel => Some(Element::Menclose),
+        Command::Abs | Command::Norm | Command::Floor | Command::Ceil => Some(Element::MrowFenced),
+        Command::Hat
+        | Command::Bar
+        | Command::Vec
+        | Command::Dot
+        | Command::Ddot
+        | Command::Tilde
+        | Command::Arc => Some(Element::MoverAccent),
+        Command::Underline => Some(Element::MunderAccent),
+        Command::Ubrace => Some(Element::Munder),
+        Command::Obrace => Some(Element::Mover),
     }
 }
 
@@ -140,10 +135,10 @@ fn put_left(out: &mut [u8], at: usize, c: Command) -> usize
     ensures { Put out.old at out.new result (written (mark (left_mark c))) }
 {
     match c {
-        Command::Abs => put_leaf(out, at, elements::MO, b"|"),
-        Command::Norm => put_leaf(out, at, elements::MO, &[226, 128, 150]), // ‖
-        Command::Floor => put_leaf(out, at, elements::MO, &[226, 140, 138]), // ⌊
-        Command::Ceil => put_leaf(out, at, elements::MO, &[226, 140, 136]), // ⌈
+        Command::Abs => put_leaf(out, at, Element::Mo, b"|"),
+        Command::Norm => put_leaf(out, at, Element::Mo, &[226, 128, 150]), // ‖
+        Command::Floor => put_leaf(out, at, Element::Mo, &[226, 140, 138]), // ⌊
+        Command::Ceil => put_leaf(out, at, Element::Mo, &[226, 140, 136]), // ⌈
         _ => at,
     }
 }
@@ -153,20 +148,20 @@ fn put_right(out: &mut [u8], at: usize, c: Command) -> usize
     ensures { Put out.old at out.new result (written (mark (right_mark c))) }
 {
     match c {
-        Command::Abs => put_leaf(out, at, elements::MO, b"|"),
-        Command::Norm => put_leaf(out, at, elements::MO, &[226, 128, 150]), // ‖
-        Command::Floor => put_leaf(out, at, elements::MO, &[226, 140, 139]), // ⌋
-        Command::Ceil => put_leaf(out, at, elements::MO, &[226, 140, 137]), // ⌉
-        Command::Hat => put_leaf(out, at, elements::MO, b"^"),
-        Command::Bar => put_leaf(out, at, elements::MO, &[226, 128, 190]), // ‾
-        Command::Vec => put_leaf(out, at, elements::MO, &[226, 134, 146]), // →
-        Command::Dot => put_leaf(out, at, elements::MO, &[203, 153]), // ˙
-        Command::Ddot => put_leaf(out, at, elements::MO, &[194, 168]), // ¨
-        Command::Tilde => put_leaf(out, at, elements::MO, b"~"),
-        Command::Arc => put_leaf(out, at, elements::MO, &[226, 143, 156]), // ⏜
-        Command::Underline => put_leaf(out, at, elements::MO, b"_"),
-        Command::Ubrace => put_leaf(out, at, elements::MO, &[226, 143, 159]), // ⏟
-        Command::Obrace => put_leaf(out, at, elements::MO, &[226, 143, 158]), // ⏞
+        Command::Abs => put_leaf(out, at, Element::Mo, b"|"),
+        Command::Norm => put_leaf(out, at, Element::Mo, &[226, 128, 150]), // ‖
+        Command::Floor => put_leaf(out, at, Element::Mo, &[226, 140, 139]), // ⌋
+        Command::Ceil => put_leaf(out, at, Element::Mo, &[226, 140, 137]), // ⌉
+        Command::Hat => put_leaf(out, at, Element::Mo, b"^"),
+        Command::Bar => put_leaf(out, at, Element::Mo, &[226, 128, 190]), // ‾
+        Command::Vec => put_leaf(out, at, Element::Mo, &[226, 134, 146]), // →
+        Command::Dot => put_leaf(out, at, Element::Mo, &[203, 153]), // ˙
+        Command::Ddot => put_leaf(out, at, Element::Mo, &[194, 168]), // ¨
+        Command::Tilde => put_leaf(out, at, Element::Mo, b"~"),
+        Command::Arc => put_leaf(out, at, Element::Mo, &[226, 143, 156]), // ⏜
+        Command::Underline => put_leaf(out, at, Element::Mo, b"_"),
+        Command::Ubrace => put_leaf(out, at, Element::Mo, &[226, 143, 159]), // ⏟
+        Command::Obrace => put_leaf(out, at, Element::Mo, &[226, 143, 158]), // ⏞
         _ => at,
     }
 }
@@ -176,10 +171,9 @@ pub fn put_begin_unary(out: &mut [u8], at: usize, s: &[u8]) -> usize
     ensures { Put out.old at out.new result (written (begin_unary unaries s.now)) }
 {
     let c = command_of(s);
-    let e = element_of(c);
-    if e == NO_ELEMENT {
+    let Some(e) = element_of(c) else {
         return at;
-    }
+    };
     let end = put_start(out, at, e);
     put_left(out, end, c)
 }
@@ -188,10 +182,9 @@ pub fn put_finish_unary(out: &mut [u8], at: usize, s: &[u8]) -> usize
     ensures { Put out.old at out.new result (written (finish_unary unaries s.now)) }
 {
     let c = command_of(s);
-    let e = element_of(c);
-    if e == NO_ELEMENT {
+    let Some(e) = element_of(c) else {
         return at;
-    }
+    };
     let end = put_right(out, at, c);
     put_end(out, end, e)
 }
@@ -200,8 +193,5 @@ pub fn put_finish_unary(out: &mut [u8], at: usize, s: &[u8]) -> usize
 pub fn is_text(s: &[u8]) -> bool
     ensures { result ≡ (same s.now (bytes "text") || same s.now (bytes "mbox")) }
 {
-    match key_of(s) {
-        TEXT | MBOX => true,
-        _ => false,
-    }
+    matches!(key_of(s), TEXT | MBOX)
 }

@@ -2,14 +2,16 @@
 ghost use Rattle.writer.specs.Put.{Put};
 ghost use Rattle.mathml_rules.specs.Pieces.{esc, written, L};
 ghost use Rattle.mathml_rules.specs.Forms.{shown};
+ghost use Rattle.mathml_tags.specs.Element.{element_number};
 ghost use Rattle.mathml_forms.specs.Drawn.{unpacked, drawn_as, bracket};
 
 use crate::forms::form_word;
-use mathml_tags::elements;
+use mathml_tags::elements::Element;
 use mathml_tags::escape::put_escaped;
 use mathml_tags::tags::{put_end, put_start};
 
 // The word of no form.
+// kept: a number and no Option, since a row of the table is one number (tools/make_mathml_forms.py)
 const NO_FORM: u64 = 0;
 
 // The word of the form that has no bytes.
@@ -44,9 +46,9 @@ pub fn put_shown(out: &mut [u8], at: usize, s: &[u8]) -> usize
     put_by_word(out, at, form_word(s), s)
 }
 
-// An element by its number that holds what a text is shown as.
-pub fn put_drawn(out: &mut [u8], at: usize, e: usize, s: &[u8]) -> usize
-    ensures { Put out.old at out.new result (written (L e (shown s.now))) }
+// An element that holds what a text is shown as.
+pub fn put_drawn(out: &mut [u8], at: usize, e: Element, s: &[u8]) -> usize
+    ensures { Put out.old at out.new result (written (L (element_number e) (shown s.now))) }
 {
     let a = put_start(out, at, e);
     let b = put_shown(out, a, s);
@@ -58,10 +60,10 @@ pub fn put_bracket(out: &mut [u8], at: usize, s: &[u8]) -> usize
     ensures { Put out.old at out.new result (written (bracket s.now)) }
 {
     let word = form_word(s);
-    if s.len() == 0 || word == EMPTY_FORM {
+    if s.is_empty() || word == EMPTY_FORM {
         return at;
     }
-    let a = put_start(out, at, elements::MO);
+    let a = put_start(out, at, Element::Mo);
     let b = put_by_word(out, a, word, s);
-    put_end(out, b, elements::MO)
+    put_end(out, b, Element::Mo)
 }

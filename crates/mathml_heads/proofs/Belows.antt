@@ -1,6 +1,6 @@
 -- What a node's children need of it, kind by kind.
 use Prim.Native.Nat.{ℕ, zero, suc, ◌-◌, ◌≤◌, ◌<◌}
-use mathlib.Core.Path.{◌≡◌, refl, ap, ◌∙◌}
+use mathlib.Core.Path.{◌≡◌, refl, ap}
 use mathlib.Core.Bool.{false}
 use mathlib.Core.List.{List, []}
 use native.Mathlib.Omega.{arith}
@@ -117,35 +117,31 @@ cols_none text words lines m =
     (λ k n16. refl)
 
 module _ (words text : List ℕ) (kind head : ℕ) (m : Mode) (i : ℕ) where
-  module _ {all s : List ℕ} (w : all ≡ drop head words) (t : s ≡ own text (left_span all)) where
-    left_is : s ≡ own text (left_span (drop head words))
-    left_is = t ∙ ap (λ (x : List ℕ). own text (left_span x)) w
-
-    pub before-func : (left : ℕ) {held : ℕ} → held ≡ get_or all 3 0 → kind ≡ 14 →
+  module _ {s : List ℕ} (t : s ≡ own text (left_span (drop head words))) where
+    pub before-func : (left : ℕ) {held : ℕ} → held ≡ get_or (drop head words) 3 0 → kind ≡ 14 →
         written (between_func (script_of held) s i) ≡ written (before text (head_at words kind head) i left)
     unfolding head_at kind_head before
-    before-func left h e = rw (e, h, w, left_is)
+    before-func left h e = rw (e, h, t)
 
     pub mode-unary : kind ≡ 10 → text_mode s ≡ handed text m (head_at words kind head) i
     unfolding head_at kind_head handed
-    mode-unary e = rw (e, left_is)
+    mode-unary e = rw (e, t)
 
     pub swaps-binary : kind ≡ 12 → exchanges exchanging s ≡ swaps text (head_at words kind head)
     unfolding head_at kind_head swaps
-    swaps-binary e = rw (e, left_is)
+    swaps-binary e = rw (e, t)
 
-  module _ {all : List ℕ} (w : all ≡ drop head words) where
-    pub mode-simple : {held : ℕ} → held ≡ get_or all 3 0 → kind ≡ 13 → simple_mode (script_of held) m i ≡ handed text m (head_at words kind head) i
-    unfolding head_at kind_head handed
-    mode-simple h e = rw (e, h, w)
+  pub mode-simple : {held : ℕ} → held ≡ get_or (drop head words) 3 0 → kind ≡ 13 → simple_mode (script_of held) m i ≡ handed text m (head_at words kind head) i
+  unfolding head_at kind_head handed
+  mode-simple h e = rw (e, h)
 
-    pub mode-func : {held : ℕ} → held ≡ get_or all 3 0 → kind ≡ 14 → func_mode (script_of held) i ≡ handed text m (head_at words kind head) i
-    unfolding head_at kind_head handed
-    mode-func h e = rw (e, h, w)
+  pub mode-func : {held : ℕ} → held ≡ get_or (drop head words) 3 0 → kind ≡ 14 → func_mode (script_of held) i ≡ handed text m (head_at words kind head) i
+  unfolding head_at kind_head handed
+  mode-func h e = rw (e, h)
 
-    pub cols_matrix : {cols : ℕ} → cols ≡ get_or all 6 0 → kind ≡ 16 → cols ≡ cols_of (head_at words kind head)
-    unfolding head_at kind_head
-    cols_matrix h e = rw (e, h, w)
+  pub cols_matrix : {cols : ℕ} → cols ≡ get_or (drop head words) 6 0 → kind ≡ 16 → cols ≡ cols_of (head_at words kind head)
+  unfolding head_at kind_head
+  cols_matrix h e = rw (e, h)
 
   pub before-cell : (left : ℕ) → kind ≡ 16 → written (between_rows left) ≡ written (before text (head_at words kind head) i left)
   unfolding head_at kind_head before
@@ -181,12 +177,8 @@ pub row_on : (cols left : ℕ) → 0 < left → left - 1 ≡ cells_left cols lef
 row_on cols zero h = absurd (omega arith)
 row_on cols (suc left) h = omega arith
 
-pub row_new : (cols left : ℕ) → left ≤ 0 → 0 < cols → cols - 1 ≡ cells_left cols left
-row_new zero left h k = absurd (omega arith)
-row_new (suc cols) zero h k = omega arith
-row_new (suc cols) (suc left) h k = absurd (omega arith)
-
-pub row-none : (cols left : ℕ) → left ≤ 0 → cols ≤ 0 → 0 ≡ cells_left cols left
-row-none zero zero h k = refl
-row-none (suc cols) left h k = absurd (omega arith)
-row-none zero (suc left) h k = absurd (omega arith)
+pub row_new : (cols left : ℕ) → left ≤ 0 → cols - 1 ≡ cells_left cols left
+row_new zero zero h = refl
+row_new (suc cols) zero h = omega arith
+row_new zero (suc left) h = absurd (omega arith)
+row_new (suc cols) (suc left) h = absurd (omega arith)

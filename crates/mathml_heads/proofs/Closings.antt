@@ -1,6 +1,6 @@
 -- What closes a node, kind by kind.
 use Prim.Native.Nat.{ℕ}
-use mathlib.Core.Path.{◌≡◌, refl, ap, ◌∙◌}
+use mathlib.Core.Path.{◌≡◌, refl, ap}
 use mathlib.Core.List.{List, [], ◌++◌}
 use lib.ListN.{get_or, drop}
 use Rattle.tree.specs.Decode.{kind_head}
@@ -38,10 +38,7 @@ close-none text words lines m =
     (λ n8 n9 n10 n11 n12 n13 n14 n15 n16 n17 n18. absurd (n18 refl))
     (λ k n8 n9 n10 n11 n12 n13 n14 n15 n16 n17 n18. refl)
 
-module _ (words text : List ℕ) (kind head : ℕ) (m : Mode) {all s : List ℕ} (w : all ≡ drop head words) (t : s ≡ own text (left_span all)) where
-  left_is : s ≡ own text (left_span (drop head words))
-  left_is = t ∙ ap (λ (x : List ℕ). own text (left_span x)) w
-
+module _ (words text : List ℕ) (kind head : ℕ) (m : Mode) {s : List ℕ} (t : s ≡ own text (left_span (drop head words))) where
   abbrev Closes : List ℕ → Type 0
   Closes put = put ≡ written (closing text m (head_at words kind head))
 
@@ -71,23 +68,23 @@ module _ (words text : List ℕ) (kind head : ℕ) (m : Mode) {all s : List ℕ}
 
   pub close-unary : kind ≡ 10 → Closes (written (finish_unary unaries s))
   unfolding head_at kind_head closing
-  close-unary e = rw (e, left_is)
+  close-unary e = rw (e, t)
 
   pub close-binary : {e₁ : ℕ} → e₁ ≡ binary_element exchanging s → kind ≡ 12 → Closes (written (finish e₁))
   unfolding head_at kind_head closing
-  close-binary b e = rw (e, b, left_is)
+  close-binary b e = rw (e, b, t)
 
-  pub close-simple : {held : ℕ} → held ≡ get_or all 3 0 → kind ≡ 13 → Closes (written (finish_script (script_of held)))
+  pub close-simple : {held : ℕ} → held ≡ get_or (drop head words) 3 0 → kind ≡ 13 → Closes (written (finish_script (script_of held)))
   unfolding head_at kind_head closing
-  close-simple h e = rw (e, h, w)
+  close-simple h e = rw (e, h)
 
-  pub close-group : {r : List ℕ} → r ≡ own text (right_span all) → kind ≡ 15 → Closes (written (kept m s r r ++ finish 15))
+  pub close-group : {r : List ℕ} → r ≡ own text (right_span (drop head words)) → kind ≡ 15 → Closes (written (kept m s r r ++ finish 15))
   unfolding head_at kind_head closing
-  close-group b e = rw (e, b, w, left_is)
+  close-group b e = rw (e, b, t)
 
-  pub close-matrix : {r : List ℕ} → r ≡ own text (right_span all) → kind ≡ 16 → Closes (written (matrix_closing r))
+  pub close-matrix : {r : List ℕ} → r ≡ own text (right_span (drop head words)) → kind ≡ 16 → Closes (written (matrix_closing r))
   unfolding head_at kind_head closing
-  close-matrix b e = rw (e, b, w)
+  close-matrix b e = rw (e, b)
 
   pub close-leaf : (kind ≡ 8 → ⊥) → (kind ≡ 9 → ⊥) → (kind ≡ 10 → ⊥) → (kind ≡ 11 → ⊥) → (kind ≡ 12 → ⊥) → (kind ≡ 13 → ⊥) → (kind ≡ 14 → ⊥) → (kind ≡ 15 → ⊥) → (kind ≡ 16 → ⊥) → (kind ≡ 17 → ⊥) → (kind ≡ 18 → ⊥) → Closes []
   unfolding head_at written

@@ -1,7 +1,7 @@
--- What opens a node, kind by kind: what the code puts is the opening of the head that the words tell. `all` are the node's own words,
--- s its token's bytes or those of its left bracket.
+-- What opens a node, kind by kind: what the code puts is the opening of the head that the words tell. s is its token's bytes or those of its
+-- left bracket.
 use Prim.Native.Nat.{ℕ}
-use mathlib.Core.Path.{◌≡◌, refl, ap, ◌∙◌}
+use mathlib.Core.Path.{◌≡◌, refl, ap}
 use mathlib.Core.List.{List, [], ◌++◌}
 use lib.ListN.{get_or, drop}
 use Rattle.tree.specs.Decode.{kind_head}
@@ -40,76 +40,73 @@ open_none text words lines m =
     (λ n1 n2 n3 n4 n5 n6 n7 n8 n9 n10 n11 n12 n13 n14 n15 n16 n17 n18. absurd (n18 refl))
     (λ k n1 n2 n3 n4 n5 n6 n7 n8 n9 n10 n11 n12 n13 n14 n15 n16 n17 n18. refl)
 
-module _ (words text : List ℕ) (kind head : ℕ) (m : Mode) {all s : List ℕ} (w : all ≡ drop head words) (t : s ≡ own text (left_span all)) where
-  left_is : s ≡ own text (left_span (drop head words))
-  left_is = t ∙ ap (λ (x : List ℕ). own text (left_span x)) w
-
+module _ (words text : List ℕ) (kind head : ℕ) (m : Mode) {s : List ℕ} (t : s ≡ own text (left_span (drop head words))) where
   abbrev Opens : List ℕ → Type 0
   Opens put = put ≡ written (opening text m (head_at words kind head))
 
   pub open_number : kind ≡ 1 → Opens (written (L 1 s))
   unfolding head_at kind_head opening atom
-  open_number e = rw (e, left_is)
+  open_number e = rw (e, t)
 
   pub open_text : kind ≡ 2 → Opens (written (L 2 s))
   unfolding head_at kind_head opening atom
-  open_text e = rw (e, left_is)
+  open_text e = rw (e, t)
 
   pub open_ident : kind ≡ 3 → Opens (written (L 3 s))
   unfolding head_at kind_head opening atom
-  open_ident e = rw (e, left_is)
+  open_ident e = rw (e, t)
 
   pub open_operator : kind ≡ 4 → Opens (written (L 4 s))
   unfolding head_at kind_head opening atom
-  open_operator e = rw (e, left_is)
+  open_operator e = rw (e, t)
 
   pub open_sign : kind ≡ 5 → Opens (written (L 5 (shown s)))
   unfolding head_at kind_head opening atom
-  open_sign e = rw (e, left_is)
+  open_sign e = rw (e, t)
 
   pub open_space : kind ≡ 6 → Opens (written (E 6 []))
   unfolding head_at kind_head opening atom
   open_space e = rw (e)
 
-  pub open_symbol : {held : ℕ} → held ≡ get_or all 3 0 → kind ≡ 7 → Opens (written (L (symbol_element (class_of held)) (shown s)))
+  pub open_symbol : {held : ℕ} → held ≡ get_or (drop head words) 3 0 → kind ≡ 7 → Opens (written (L (symbol_element (class_of held)) (shown s)))
   unfolding head_at kind_head opening atom
-  open_symbol h e = rw (e, h, w, left_is)
+  open_symbol h e = rw (e, h, t)
 
   pub open_signed : kind ≡ 8 → Opens (written (begin 8 ++ L 5 (shown s)))
   unfolding head_at kind_head opening atom
-  open_signed e = rw (e, left_is)
+  open_signed e = rw (e, t)
 
   pub open_ssigned : kind ≡ 9 → Opens (written (begin 9 ++ L 5 (shown s)))
   unfolding head_at kind_head opening atom
-  open_ssigned e = rw (e, left_is)
+  open_ssigned e = rw (e, t)
 
   pub open_unary : kind ≡ 10 → Opens (written (begin_unary unaries s))
   unfolding head_at kind_head opening atom
-  open_unary e = rw (e, left_is)
+  open_unary e = rw (e, t)
 
   pub open_sfunc : kind ≡ 11 → Opens (written (sfunc_opening s))
   unfolding head_at kind_head opening atom
-  open_sfunc e = rw (e, left_is)
+  open_sfunc e = rw (e, t)
 
   pub open_binary : {e₁ : ℕ} → e₁ ≡ binary_element exchanging s → kind ≡ 12 → Opens (written (begin e₁))
   unfolding head_at kind_head opening atom
-  open_binary b e = rw (e, b, left_is)
+  open_binary b e = rw (e, b, t)
 
-  pub open_simple : {held : ℕ} → held ≡ get_or all 3 0 → kind ≡ 13 → Opens (written (begin_script (script_of held)))
+  pub open_simple : {held : ℕ} → held ≡ get_or (drop head words) 3 0 → kind ≡ 13 → Opens (written (begin_script (script_of held)))
   unfolding head_at kind_head opening atom
-  open_simple h e = rw (e, h, w)
+  open_simple h e = rw (e, h)
 
-  pub open_func : {held : ℕ} → held ≡ get_or all 3 0 → kind ≡ 14 → Opens (written (func_opening held s))
+  pub open_func : {held : ℕ} → held ≡ get_or (drop head words) 3 0 → kind ≡ 14 → Opens (written (func_opening held s))
   unfolding head_at kind_head opening atom
-  open_func h e = rw (e, h, w, left_is)
+  open_func h e = rw (e, h, t)
 
-  pub open_group : {r : List ℕ} → r ≡ own text (right_span all) → kind ≡ 15 → Opens (written (begin 15 ++ kept m s r s))
+  pub open_group : {r : List ℕ} → r ≡ own text (right_span (drop head words)) → kind ≡ 15 → Opens (written (begin 15 ++ kept m s r s))
   unfolding head_at kind_head opening atom
-  open_group b e = rw (e, b, w, left_is)
+  open_group b e = rw (e, b, t)
 
-  pub open_matrix : {cols : ℕ} {lines : List ℕ} → cols ≡ get_or all 6 0 → lines ≡ lines_of words (headed_at words head) → kind ≡ 16 → Opens (written (matrix_opening s cols lines))
+  pub open_matrix : {cols : ℕ} {lines : List ℕ} → cols ≡ get_or (drop head words) 6 0 → lines ≡ lines_of words (headed_at words head) → kind ≡ 16 → Opens (written (matrix_opening s cols lines))
   unfolding head_at kind_head opening atom
-  open_matrix c l e = rw (e, c, l, w, left_is)
+  open_matrix c l e = rw (e, c, l, t)
 
   pub open_cell : kind ≡ 17 → Opens (written (begin 17))
   unfolding head_at kind_head opening atom

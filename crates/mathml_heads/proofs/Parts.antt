@@ -6,6 +6,7 @@ use mathlib.Core.List.{List, [], ◌++◌, append-nil}
 use native.Mathlib.Omega.{arith}
 use borrow.Author.Tests.{eq-eqb, ne_eqb, lt-ltb, le-ltb}
 use Rattle.tokens.specs.Bytes.{bytes, same}
+use Rattle.tokens.proofs.Cases.{by_eq}
 use Rattle.tree.specs.Tree.{Script}
 use Rattle.mathml_rules.specs.declared.Mode.{Mode}
 use Rattle.mathml_rules.specs.declared.Mode.TheVariants as mode
@@ -61,6 +62,19 @@ module _ (script : ℕ) (a : script ≡ 1 → ⊥) (b : script ≡ 2 → ⊥) (c
   no_arguments = ap arguments (sym (no_script script a b c))
 
 -- symbols by the numbers of their classes
+pub one-argument : (script : ℕ) → ((script ≡ 1 → ⊥) → (script ≡ 2 → ⊥) → ⊥) → 1 ≡ arguments (script_of script)
+unfolding arguments
+one-argument script n = by_eq script 1 (λ e. rw e) (λ n1. by_eq script 2 (λ e. rw e) (λ n2. absurd (n n1 n2)))
+
+pub lettered : (class : ℕ) → ((class ≡ 2 → ⊥) → (class ≡ 3 → ⊥) → (class ≡ 4 → ⊥) → (class ≡ 5 → ⊥) → (class ≡ 7 → ⊥) → ⊥) → 7 ≡ symbol_element (class_of class)
+unfolding symbol_element
+lettered class n =
+    by_eq class 2 (λ e. rw e)
+    (λ n2. by_eq class 3 (λ e. rw e)
+    (λ n3. by_eq class 4 (λ e. rw e)
+    (λ n4. by_eq class 5 (λ e. rw e)
+    (λ n5. by_eq class 7 (λ e. rw e) (λ n7. absurd (n n2 n3 n4 n5 n7))))))
+
 pub glyph : (class : ℕ) → (class ≡ 2 → ⊥) → (class ≡ 3 → ⊥) → (class ≡ 4 → ⊥) → (class ≡ 5 → ⊥) → (class ≡ 7 → ⊥) → 22 ≡ symbol_element (class_of class)
 unfolding symbol_element
 glyph zero a b c d e = refl

@@ -1,9 +1,10 @@
 -- Whether a node is refused, kind by kind.
 use Prim.Native.Nat.{ℕ}
-use mathlib.Core.Path.{◌≡◌, refl, sym, ap, ◌∙◌}
+use mathlib.Core.Path.{◌≡◌, refl, sym}
 use mathlib.Core.Bool.{Bool, false, or-false}
 use mathlib.Core.List.{List}
 use lib.ListN.{get_or, drop}
+use Rattle.tokens.proofs.Cases.{by_eq}
 use Rattle.tree.specs.Decode.{kind_head}
 use Rattle.tree.specs.Walk.{headed_at, lines_of, head_at}
 use Rattle.mathml_rules.specs.declared.Mode.{Mode}
@@ -38,72 +39,84 @@ refuses-none text words lines m =
     (λ n1 n2 n3 n4 n5 n6 n7 n8 n9 n10 n11 n12 n14 n15 n16. refl)
     (λ k n1 n2 n3 n4 n5 n6 n7 n8 n9 n10 n11 n12 n14 n15 n16. refl)
 
-module _ (words text : List ℕ) (kind head : ℕ) {all s : List ℕ} (w : all ≡ drop head words) (t : s ≡ own text (left_span all)) where
-  left_is : s ≡ own text (left_span (drop head words))
-  left_is = t ∙ ap (λ (x : List ℕ). own text (left_span x)) w
-
+module _ (words text : List ℕ) (kind head : ℕ) {s : List ℕ} (t : s ≡ own text (left_span (drop head words))) where
   abbrev Refuses : Bool → Type 0
   Refuses b = b ≡ refused_head text (head_at words kind head)
 
-  pub refuses-number : kind ≡ 1 → Refuses (controls s)
+  refuses-number : kind ≡ 1 → Refuses (controls s)
   unfolding head_at kind_head refused_head refused_prefix
-  refuses-number e = rw (e, left_is)
+  refuses-number e = rw (e, t)
 
-  pub refuses-text : kind ≡ 2 → Refuses (controls s)
+  refuses-text : kind ≡ 2 → Refuses (controls s)
   unfolding head_at kind_head refused_head refused_prefix
-  refuses-text e = rw (e, left_is)
+  refuses-text e = rw (e, t)
 
-  pub refuses-ident : kind ≡ 3 → Refuses (controls s)
+  refuses-ident : kind ≡ 3 → Refuses (controls s)
   unfolding head_at kind_head refused_head refused_prefix
-  refuses-ident e = rw (e, left_is)
+  refuses-ident e = rw (e, t)
 
-  pub refuses-operator : kind ≡ 4 → Refuses (controls s)
+  refuses-operator : kind ≡ 4 → Refuses (controls s)
   unfolding head_at kind_head refused_head refused_prefix
-  refuses-operator e = rw (e, left_is)
+  refuses-operator e = rw (e, t)
 
-  pub refuses-sign : kind ≡ 5 → Refuses (controls s)
+  refuses-sign : kind ≡ 5 → Refuses (controls s)
   unfolding head_at kind_head refused_head refused_prefix
-  refuses-sign e = rw (e, left_is)
+  refuses-sign e = rw (e, t)
 
-  pub refuses-space : kind ≡ 6 → Refuses (controls s)
+  refuses-space : kind ≡ 6 → Refuses (controls s)
   unfolding head_at kind_head refused_head refused_prefix
-  refuses-space e = rw (e, left_is)
+  refuses-space e = rw (e, t)
 
-  pub refuses-symbol : kind ≡ 7 → Refuses (controls s)
+  refuses-symbol : kind ≡ 7 → Refuses (controls s)
   unfolding head_at kind_head refused_head refused_prefix
-  refuses-symbol e = rw (e, left_is)
+  refuses-symbol e = rw (e, t)
 
-  pub refuses-func : kind ≡ 14 → Refuses (controls s)
+  refuses-func : kind ≡ 14 → Refuses (controls s)
   unfolding head_at kind_head refused_head refused_prefix
-  refuses-func e = rw (e, left_is)
+  refuses-func e = rw (e, t)
 
-  pub refuses-signed : kind ≡ 8 → Refuses (controls s)
+  refuses-signed : kind ≡ 8 → Refuses (controls s)
   unfolding head_at kind_head refused_head refused_prefix
-  refuses-signed e = rw (e, left_is) (sym (or-false _))
+  refuses-signed e = rw (e, t) (sym (or-false _))
 
-  pub refuses-ssigned : kind ≡ 9 → Refuses (controls s)
+  refuses-ssigned : kind ≡ 9 → Refuses (controls s)
   unfolding head_at kind_head refused_head refused_prefix
-  refuses-ssigned e = rw (e, left_is) (sym (or-false _))
+  refuses-ssigned e = rw (e, t) (sym (or-false _))
 
-  pub refuses-sfunc : kind ≡ 11 → Refuses (controls s)
+  refuses-sfunc : kind ≡ 11 → Refuses (controls s)
   unfolding head_at kind_head refused_head refused_prefix
-  refuses-sfunc e = rw (e, left_is) (sym (or-false _))
+  refuses-sfunc e = rw (e, t) (sym (or-false _))
+
+  pub refuses-plain : ((kind ≡ 1 → ⊥) → (kind ≡ 2 → ⊥) → (kind ≡ 3 → ⊥) → (kind ≡ 4 → ⊥) → (kind ≡ 5 → ⊥) → (kind ≡ 6 → ⊥) → (kind ≡ 7 → ⊥) → (kind ≡ 8 → ⊥) → (kind ≡ 9 → ⊥) → (kind ≡ 11 → ⊥) → (kind ≡ 14 → ⊥) → ⊥) → Refuses (controls s)
+  refuses-plain n =
+      by_eq kind 1 refuses-number (λ n1.
+      by_eq kind 2 refuses-text (λ n2.
+      by_eq kind 3 refuses-ident (λ n3.
+      by_eq kind 4 refuses-operator (λ n4.
+      by_eq kind 5 refuses-sign (λ n5.
+      by_eq kind 6 refuses-space (λ n6.
+      by_eq kind 7 refuses-symbol (λ n7.
+      by_eq kind 8 refuses-signed (λ n8.
+      by_eq kind 9 refuses-ssigned (λ n9.
+      by_eq kind 11 refuses-sfunc (λ n11.
+      by_eq kind 14 refuses-func (λ n14.
+      absurd (n n1 n2 n3 n4 n5 n6 n7 n8 n9 n11 n14))))))))))))
 
   pub refuses-unary : kind ≡ 10 → Refuses (unary_refused s)
   unfolding head_at kind_head refused_head refused_prefix
-  refuses-unary e = rw (e, left_is)
+  refuses-unary e = rw (e, t)
 
   pub refuses-binary : kind ≡ 12 → Refuses (binary_refused s)
   unfolding head_at kind_head refused_head refused_prefix
-  refuses-binary e = rw (e, left_is)
+  refuses-binary e = rw (e, t)
 
-  pub refuses-group : {r : List ℕ} → r ≡ own text (right_span all) → kind ≡ 15 → Refuses (brackets_refused s r)
+  pub refuses-group : {r : List ℕ} → r ≡ own text (right_span (drop head words)) → kind ≡ 15 → Refuses (brackets_refused s r)
   unfolding head_at kind_head refused_head refused_prefix
-  refuses-group b e = rw (e, b, w, left_is)
+  refuses-group b e = rw (e, b, t)
 
-  pub refuses-matrix : {r : List ℕ} {cols : ℕ} {lines : List ℕ} → r ≡ own text (right_span all) → cols ≡ get_or all 6 0 → lines ≡ lines_of words (headed_at words head) → kind ≡ 16 → Refuses (matrix_refused s r cols lines)
+  pub refuses-matrix : {r : List ℕ} {cols : ℕ} {lines : List ℕ} → r ≡ own text (right_span (drop head words)) → cols ≡ get_or (drop head words) 6 0 → lines ≡ lines_of words (headed_at words head) → kind ≡ 16 → Refuses (matrix_refused s r cols lines)
   unfolding head_at kind_head refused_head refused_prefix
-  refuses-matrix b c l e = rw (e, b, c, l, w, left_is)
+  refuses-matrix b c l e = rw (e, b, c, l, t)
 
   pub refuses-other : (kind ≡ 1 → ⊥) → (kind ≡ 2 → ⊥) → (kind ≡ 3 → ⊥) → (kind ≡ 4 → ⊥) → (kind ≡ 5 → ⊥) → (kind ≡ 6 → ⊥) → (kind ≡ 7 → ⊥) → (kind ≡ 8 → ⊥) → (kind ≡ 9 → ⊥) → (kind ≡ 10 → ⊥) → (kind ≡ 11 → ⊥) → (kind ≡ 12 → ⊥) → (kind ≡ 14 → ⊥) → (kind ≡ 15 → ⊥) → (kind ≡ 16 → ⊥) → Refuses false
   unfolding head_at

@@ -7,16 +7,15 @@ ghost use Rattle.mathml_rules.specs.Mathml.{text_mode, simple_mode, func_mode, h
 ghost use Rattle.mathml_rules.specs.Parts.{between_func, between_rows, before, swaps, cols_of, cells_left};
 ghost use Rattle.mathml_heads.specs.Spans.{script_of};
 
+use crate::node::Node;
 use crate::script::{arguments_of, put_finish_script};
-use crate::span::left_text;
 use mathml_commands::binary::is_exchanging;
 use mathml_commands::unary::is_text;
 use mathml_rules::Mode;
-use mathml_tags::elements;
+use mathml_tags::elements::Element;
 use mathml_tags::leaf::put_apply;
 use mathml_tags::tags::{put_end, put_start};
 use tree::kinds::{NODE_BINARY, NODE_FRAC, NODE_FUNC, NODE_MATRIX, NODE_SIMPLE, NODE_UNARY};
-use tree::walk::{own_words, word};
 
 // Before a function's argument: the end tag of the script's element, then the sign of application.
 fn put_between_func(out: &mut [u8], at: usize, script: u32, name: &[u8], i: usize) -> usize
@@ -34,44 +33,10 @@ fn put_between_rows(out: &mut [u8], at: usize, left: usize) -> usize
     ensures { Put out.old at out.new result (written (between_rows left)) }
 {
     if left == 0 {
-        let end = put_end(out, at, elements::MTR);
-        return put_start(out, end, elements::MTR);
+        let end = put_end(out, at, Element::Mtr);
+        return put_start(out, end, Element::Mtr);
     }
     at
-}
-
-// What stands before child i, with so many cells left in its row.
-pub fn put_before(
-    words: &[u32],
-    text: &[u8],
-    out: &mut [u8],
-    at: usize,
-    kind: u32,
-    head: usize,
-    i: usize,
-    left: usize,
-) -> usize
-    ensures { Put out.old at out.new result (written (before text.now (head_at words.now kind head) i left)) }
-{
-    match kind {
-        NODE_FUNC => {
-            let own = own_words(words, head);
-            put_between_func(out, at, word(own, 3), left_text(text, own), i)
-        }
-        NODE_MATRIX => put_between_rows(out, at, left),
-        _ => at,
-    }
-}
-
-// The columns of a matrix; 0 for any other node.
-pub fn columns(words: &[u32], kind: u32, head: usize) -> usize
-    ensures { result ≡ cols_of (head_at words.now kind head) }
-{
-    if kind == NODE_MATRIX {
-        word(own_words(words, head), 6) as usize
-    } else {
-        0
-    }
 }
 
 // How many cells are left in the row behind the next one.
@@ -80,10 +45,8 @@ pub fn cells_left(cols: usize, left: usize) -> usize
 {
     if left > 0 {
         left - 1
-    } else if cols > 0 {
-        cols - 1
     } else {
-        0
+        cols.saturating_sub(1)
     }
 }
 
@@ -119,28 +82,46 @@ fn func_mode(script: u32, i: usize) -> Mode
     }
 }
 
-// The mode of child i, where the node's own is m.
-pub fn mode_below(words: &[u32], text: &[u8], kind: u32, head: usize, m: Mode, i: usize) -> Mode
-    ensures { result ≡ handed text.now m (head_at words.now kind head) i }
-{
-    let own = own_words(words, head);
-    match kind {
-        NODE_UNARY => text_mode(left_text(text, own)),
-        NODE_BINARY => Mode::Argument,
-        NODE_SIMPLE => simple_mode(word(own, 3), m, i),
-        NODE_FUNC => func_mode(word(own, 3), i),
-        NODE_FRAC => Mode::Argument,
-        _ => Mode::Keep,
+impl Node<'_> {
+    // What stands before child i, with so many cells left in its row.
+    pub fn put_before(&self, out: &mut [u8], at: usize, i: usize, left: usize) -> usize
+        ensures { Put out.old at out.new result (written (before self.now.text.now (head_at self.now.words.now self.now.kind self.now.head) i left)) }
+    {
+        match self.kind {
+            NODE_FUNC => put_between_func(out, at, self.word(3), self.left_text(), i),
+            NODE_MATRIX => put_between_rows(out, at, left),
+            _ => at,
+        }
     }
-}
 
-// root, stackrel, overset and underset have their children exchanged.
-pub fn swaps_children(words: &[u32], text: &[u8], kind: u32, head: usize) -> bool
-    ensures { result ≡ swaps text.now (head_at words.now kind head) }
-{
-    if kind == NODE_BINARY {
-        is_exchanging(left_text(text, own_words(words, head)))
-    } else {
-        false
+    // The columns of a matrix; 0 for any other node.
+    pub fn columns(&self) -> usize
+        ensures { result ≡ cols_of (head_at self.now.words.now self.now.kind self.now.head) }
+    {
+        if self.kind == NODE_MATRIX {
+            self.word(6) as usize
+        } else {
+            0
+        }
+    }
+
+    // The mode of child i, where the node's own is m.
+    pub fn mode_below(&self, m: Mode, i: usize) -> Mode
+        ensures { result ≡ handed self.now.text.now m (head_at self.now.words.now self.now.kind self.now.head) i }
+    {
+        match self.kind {
+            NODE_UNARY => text_mode(self.left_text()),
+            NODE_BINARY | NODE_FRAC => Mode::Argument,
+            NODE_SIMPLE => simple_mode(self.word(3), m, i),
+            NODE_FUNC => func_mode(self.word(3), i),
+            _ => Mode::Keep,
+        }
+    }
+
+    // root, stackrel, overset and underset have their children exchanged.
+    pub fn swaps_children(&self) -> bool
+        ensures { result ≡ swaps self.now.text.now (head_at self.now.words.now self.now.kind self.now.head) }
+    {
+        self.kind == NODE_BINARY && is_exchanging(self.left_text())
     }
 }

@@ -4,7 +4,7 @@
 
 pub mod below;
 pub mod closing;
+pub mod node;
 pub mod opening;
 pub mod refusal;
 mod script;
-mod span;

@@ -6,16 +6,16 @@ ghost use Rattle.mathml_rules.specs.Mathml.{arguments};
 ghost use Rattle.mathml_rules.specs.Parts.{begin_script, finish_script};
 ghost use Rattle.mathml_heads.specs.Spans.{script_of};
 
-use mathml_tags::elements;
+use mathml_tags::elements::Element;
 use mathml_tags::tags::{put_end, put_start};
 
 pub(crate) fn put_begin_script(out: &mut [u8], at: usize, script: u32) -> usize
     ensures { Put out.old at out.new result (written (begin_script (script_of script))) }
 {
     match script {
-        1 => put_start(out, at, elements::MSUB),
-        2 => put_start(out, at, elements::MSUP),
-        3 => put_start(out, at, elements::MSUBSUP),
+        1 => put_start(out, at, Element::Msub),
+        2 => put_start(out, at, Element::Msup),
+        3 => put_start(out, at, Element::Msubsup),
         _ => at,
     }
 }
@@ -24,9 +24,9 @@ pub(crate) fn put_finish_script(out: &mut [u8], at: usize, script: u32) -> usize
     ensures { Put out.old at out.new result (written (finish_script (script_of script))) }
 {
     match script {
-        1 => put_end(out, at, elements::MSUB),
-        2 => put_end(out, at, elements::MSUP),
-        3 => put_end(out, at, elements::MSUBSUP),
+        1 => put_end(out, at, Element::Msub),
+        2 => put_end(out, at, Element::Msup),
+        3 => put_end(out, at, Element::Msubsup),
         _ => at,
     }
 }
@@ -36,8 +36,7 @@ pub(crate) fn arguments_of(script: u32) -> usize
     ensures { result ≡ arguments (script_of script) }
 {
     match script {
-        1 => 1,
-        2 => 1,
+        1 | 2 => 1,
         3 => 2,
         _ => 0,
     }

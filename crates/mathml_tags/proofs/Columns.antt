@@ -4,52 +4,45 @@ use mathlib.Core.Path.{◌≡◌, refl, ap, sym, ◌∙◌}
 use mathlib.Core.List.{List, [], ◌∷◌, ◌++◌, append_assoc, append-nil}
 use native.Mathlib.Omega.{arith}
 use native.Mathlib.Numerals.{add-one}
-use lib.ListN.{length, get_or, drop, drop_of_length-le}
-use lib.Seq.{drop-cons}
-use borrow.Author.Tests.{eq-eqb, ne_eqb, lt-ltb, le-ltb}
+use lib.ListN.{length, get_or, take, drop, length-drop, drop_of_length-le}
+use lib.Seq.{drop-cons, take_all}
+use borrow.Author.Tests.{lt-ltb, le-ltb}
 use Rattle.tokens.specs.Bytes.{bytes}
 use Rattle.mathml_rules.specs.Elements.{elements, element_of}
 use Rattle.mathml_rules.specs.Pieces.{Piece, bytes_of}
 use Rattle.mathml_rules.specs.Parts.{not_before, first_is, entry_for, entries_from, line_attribute}
 
 module _ (lines : List ℕ) (j k : ℕ) where
-  pub before-none : length lines ≤ k → drop k lines ≡ not_before j (drop k lines)
+  pub before-none : length lines ≤ k → [] ≡ not_before j (drop k lines)
   unfolding not_before
   before-none h = rw (drop_of_length-le lines h)
 
-  pub before_here : k < length lines → j ≤ get_or lines k 0 → drop k lines ≡ not_before j (drop k lines)
+  pub before_here : k < length lines → j ≤ get_or lines k 0 → take (length lines - k) (drop k lines) ≡ not_before j (drop k lines)
   unfolding not_before
-  before_here h l = rw (drop-cons lines k 0 h) (rw (le-ltb (get_or lines k 0) j l, not_before))
+  before_here h l =
+      take_all (length lines - k) (drop k lines) (omega (arith, length-drop k lines))
+      ∙ rw (drop-cons lines k 0 h) (rw (le-ltb (get_or lines k 0) j l, not_before))
 
   pub before-next : k < length lines → get_or lines k 0 < j → not_before j (drop k lines) ≡ not_before j (drop (suc k) lines)
   unfolding not_before
   before-next h l = rw (drop-cons lines k 0 h) (rw (lt-ltb (get_or lines k 0) j l, not_before))
 
-  pub entry-solid : k < length lines → get_or lines k 0 ≡ j → bytes "solid" ≡ entry_for (first_is j (drop k lines))
-  entry-solid h e = rw (drop-cons lines k 0 h) (rw (eq-eqb (get_or lines k 0) j e))
-
-  pub entry_other : k < length lines → (get_or lines k 0 ≡ j → ⊥) → bytes "none" ≡ entry_for (first_is j (drop k lines))
-  entry_other h e = rw (drop-cons lines k 0 h) (rw (ne_eqb (get_or lines k 0) j e))
-
-  pub entry_past : length lines ≤ k → bytes "none" ≡ entry_for (first_is j (drop k lines))
-  entry_past h = rw (drop_of_length-le lines h)
-
 -- what is put and what is left to put, to boundary `cols`, are all entries
-module _ (lines done all : List ℕ) (cols j i : ℕ) where
-  pub entries_next : (k : ℕ) → j < cols → drop k lines ≡ not_before j (drop i lines) → done ++ entries_from j (cols - j) (drop i lines) ≡ all →
-      (done ++ (32 ∷ entry_for (first_is j (drop k lines)))) ++ entries_from (j + 1) (cols - (j + 1)) (drop k lines) ≡ all
+module _ (done all rest : List ℕ) (cols j : ℕ) where
+  pub entries_next : (new : List ℕ) → j < cols → new ≡ not_before j rest → done ++ entries_from j (cols - j) rest ≡ all →
+      (done ++ (32 ∷ entry_for (first_is j new))) ++ entries_from (j + 1) (cols - (j + 1)) new ≡ all
   unfolding entries_from
-  entries_next k l e h =
+  entries_next new l e h =
       let n : cols - j ≡ suc (cols - (j + 1)) = omega arith in
-      let h' : done ++ entries_from j (suc (cols - (j + 1))) (drop i lines) ≡ all = rw n at h in
-      append_assoc done (32 ∷ entry_for (first_is j (drop k lines))) (entries_from (j + 1) (cols - (j + 1)) (drop k lines)) ∙
+      let h' : done ++ entries_from j (suc (cols - (j + 1))) rest ≡ all = rw n at h in
+      append_assoc done (32 ∷ entry_for (first_is j new)) (entries_from (j + 1) (cols - (j + 1)) new) ∙
       (rw (e, add-one j) (rw (add-one j) at h'))
 
-  pub entries-all : cols ≤ j → done ++ entries_from j (cols - j) (drop i lines) ≡ all → done ≡ all
+  pub entries-all : cols ≤ j → done ++ entries_from j (cols - j) rest ≡ all → done ≡ all
   unfolding entries_from
   entries-all l h =
       let n : cols - j ≡ 0 = omega arith in
-      let h' : done ++ entries_from j 0 (drop i lines) ≡ all = rw n at h in
+      let h' : done ++ entries_from j 0 rest ≡ all = rw n at h in
       sym (append-nil done) ∙ h'
 
 pub table-few : (lines : List ℕ) (cols : ℕ) → cols < 2 → bytes "<mtable>" ≡ bytes_of (Piece.start 31 (line_attribute cols lines))
@@ -67,10 +60,10 @@ table_of : (l : List ℕ) (n : ℕ) →
 unfolding bytes_of element_of elements
 table_of l n = ap (λ (y : List ℕ). bytes "<mtable columnlines=\"" ++ y) (quoted (entry_for (first_is 1 l)) (entries_from 2 n l))
 
-pub table-many : (lines : List ℕ) (cols i : ℕ) → 2 ≤ cols → drop i lines ≡ not_before 1 lines →
-    bytes "<mtable columnlines=\"" ++ (entry_for (first_is 1 (drop i lines)) ++ (entries_from 2 (cols - 2) (drop i lines) ++ bytes "\">")) ≡
+pub table-many : (lines rest : List ℕ) (cols : ℕ) → 2 ≤ cols → rest ≡ not_before 1 lines →
+    bytes "<mtable columnlines=\"" ++ (entry_for (first_is 1 rest) ++ (entries_from 2 (cols - 2) rest ++ bytes "\">")) ≡
     bytes_of (Piece.start 31 (line_attribute cols lines))
 unfolding line_attribute
-table-many lines zero i h e = absurd (omega arith)
-table-many lines (suc zero) i h e = absurd (omega arith)
-table-many lines (suc (suc n)) i h e = let k : suc (suc n) - 2 ≡ n = omega arith in rw (k, e) (table_of (not_before 1 lines) n)
+table-many lines rest zero h e = absurd (omega arith)
+table-many lines rest (suc zero) h e = absurd (omega arith)
+table-many lines rest (suc (suc n)) h e = let k : suc (suc n) - 2 ≡ n = omega arith in rw (k, e) (table_of (not_before 1 lines) n)

@@ -5,6 +5,8 @@ use mathlib.Core.List.{List, [], ◌∷◌, ◌++◌, append_assoc, append-nil}
 use lib.ListN.{length, get_or, take}
 use lib.Seq.{take-suc}
 use borrow.Author.Tests.{ne_eqb}
+use Rattle.tokens.proofs.Cases.{by_eq}
+use Rattle.mathml_rules.specs.Utf8.{utf8, encoded}
 use Rattle.mathml_rules.specs.Pieces.{Escape, escapes, escaped_by, escaped, esc}
 
 module _ (c : ℕ) where
@@ -41,3 +43,12 @@ esc-take s i h =
 pub esc-none : [] ≡ esc []
 unfolding esc
 esc-none = refl
+
+-- a byte that is one of the blanks
+pub blank : (c : ℕ) → ((c ≡ 9 → ⊥) → (c ≡ 10 → ⊥) → (c ≡ 13 → ⊥) → (c ≡ 32 → ⊥) → ⊥) → 194 ∷ 160 ∷ [] ≡ escaped c
+unfolding escaped_by escapes utf8 encoded
+blank c n =
+    by_eq c 9 (λ e. ap escaped (sym e))
+    (λ f. by_eq c 10 (λ e. ap escaped (sym e))
+    (λ g. by_eq c 13 (λ e. ap escaped (sym e))
+    (λ h. by_eq c 32 (λ e. ap escaped (sym e)) (λ k. absurd (n f g h k)))))

@@ -1,1 +1,2 @@
 pub mod Application
+pub mod Element

@@ -1,67 +1,86 @@
-// The elements by their numbers: crates/mathml_rules/specs/Elements.antt. Several have one name.
-pub const MROW_MISSING: usize = 0;
+// The elements, in the order of their numbers in crates/mathml_rules/specs/Elements.antt. Several have one name.
+ghost use Rattle.std.specs.Prelude.{◌≡◌};
+ghost use Rattle.mathml_rules.specs.Elements.{element_of};
+ghost use Rattle.mathml_tags.specs.Element.{element_number};
 
-pub const MN: usize = 1;
+#[derive(Clone, Copy, PartialEq, Eq)]
+pub enum Element {
+    MrowMissing,
+    Mn,
+    Mtext,
+    Mi,
+    Mo,
+    MoSign,
+    Mspace,
+    MoSymbol,
+    MrowSigned,
+    MrowSsigned,
+    MrowFenced,
+    MrowSfunc,
+    MfracCommand,
+    Msub,
+    MrowFunc,
+    MrowGroup,
+    MrowMatrix,
+    Mtd,
+    Mfrac,
+    Math,
+    Msup,
+    Msubsup,
+    // without the space around it that an operator has, and with a thin one behind it
+    MoTight,
+    MoSpaced,
+    Msqrt,
+    Menclose,
+    MoverAccent,
+    MunderAccent,
+    Mover,
+    Munder,
+    Mroot,
+    Mtable,
+    Mtr,
+}
 
-pub const MTEXT: usize = 2;
+// The element of a number, for any number: past the table all are an mrow.
+impl From<usize> for Element {
+    ghost from_gives = { λ n e. element_of (element_number e) ≡ element_of n };
 
-pub const MI: usize = 3;
-
-pub const MO: usize = 4;
-
-pub const MO_SIGN: usize = 5;
-
-pub const MSPACE: usize = 6;
-
-pub const MO_SYMBOL: usize = 7;
-
-pub const MROW_SIGNED: usize = 8;
-
-pub const MROW_SSIGNED: usize = 9;
-
-pub const MROW_FENCED: usize = 10;
-
-pub const MROW_SFUNC: usize = 11;
-
-pub const MFRAC_COMMAND: usize = 12;
-
-pub const MSUB: usize = 13;
-
-pub const MROW_FUNC: usize = 14;
-
-pub const MROW_GROUP: usize = 15;
-
-pub const MROW_MATRIX: usize = 16;
-
-pub const MTD: usize = 17;
-
-pub const MFRAC: usize = 18;
-
-pub const MATH: usize = 19;
-
-pub const MSUP: usize = 20;
-
-pub const MSUBSUP: usize = 21;
-
-// without the space around it that an operator has, and with a thin one behind it
-pub const MO_TIGHT: usize = 22;
-
-pub const MO_SPACED: usize = 23;
-
-pub const MSQRT: usize = 24;
-
-pub const MENCLOSE: usize = 25;
-
-pub const MOVER_ACCENT: usize = 26;
-
-pub const MUNDER_ACCENT: usize = 27;
-
-pub const MOVER: usize = 28;
-
-pub const MUNDER: usize = 29;
-
-pub const MROOT: usize = 30;
-
-pub const MTABLE: usize = 31;
-
-pub const MTR: usize = 32;
+    fn from(n: usize) -> Element {
+        match n {
+            0 => Element::MrowMissing,
+            1 => Element::Mn,
+            2 => Element::Mtext,
+            3 => Element::Mi,
+            4 => Element::Mo,
+            5 => Element::MoSign,
+            6 => Element::Mspace,
+            7 => Element::MoSymbol,
+            8 => Element::MrowSigned,
+            9 => Element::MrowSsigned,
+            10 => Element::MrowFenced,
+            11 => Element::MrowSfunc,
+            12 => Element::MfracCommand,
+            13 => Element::Msub,
+            14 => Element::MrowFunc,
+            15 => Element::MrowGroup,
+            16 => Element::MrowMatrix,
+            17 => Element::Mtd,
+            18 => Element::Mfrac,
+            19 => Element::Math,
+            20 => Element::Msup,
+            21 => Element::Msubsup,
+            22 => Element::MoTight,
+            23 => Element::MoSpaced,
+            24 => Element::Msqrt,
+            25 => Element::Menclose,
+            26 => Element::MoverAccent,
+            27 => Element::MunderAccent,
+            28 => Element::Mover,
+            29 => Element::Munder,
+            30 => Element::Mroot,
+            31 => Element::Mtable,
+            32 => Element::Mtr,
+            33.. => Element::MrowMissing,
+        }
+    }
+}

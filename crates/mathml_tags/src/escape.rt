@@ -4,15 +4,15 @@ ghost use Rattle.mathml_rules.specs.Pieces.{escaped, esc};
 
 use writer::put_bytes;
 
+#[tactic(auto, unfolding(mathml_rules::specs::Pieces::escaped_by, mathml_rules::specs::Pieces::escapes, mathml_rules::specs::Utf8::utf8, mathml_rules::specs::Utf8::encoded))]
 fn put_escape(out: &mut [u8], at: usize, b: u8) -> usize
     ensures { Put out.old at out.new result (escaped b) }
 {
     match b {
-        60 => put_bytes(out, at, b"&lt;"),
-        62 => put_bytes(out, at, b"&gt;"),
-        38 => put_bytes(out, at, b"&amp;"),
-        9 | 13 | 32 => put_bytes(out, at, &[194, 160]),
-        10 => put_bytes(out, at, &[194, 160]),
+        b'<' => put_bytes(out, at, b"&lt;"),
+        b'>' => put_bytes(out, at, b"&gt;"),
+        b'&' => put_bytes(out, at, b"&amp;"),
+        b'\t' | b'\n' | b'\r' | b' ' => put_bytes(out, at, b"\xc2\xa0"),
         _ => put_bytes(out, at, &[b]),
     }
 }
@@ -21,10 +21,8 @@ pub fn put_escaped(out: &mut [u8], at: usize, s: &[u8]) -> usize
     ensures { Put out.old at out.new result (esc s.now) }
 {
     let mut end = at;
-    let mut i = 0;
-    while i < s.len() {
-        end = put_escape(out, end, s[i]);
-        i += 1;
+    for &b in s {
+        end = put_escape(out, end, b);
     }
     end
 }

@@ -8,16 +8,17 @@ use native.Mathlib.Omega.{arith}
 use lib.ListN.{length}
 use lib.Seq.{sets, length-sets}
 use Rattle.tokens.specs.declared.token.Token.TheVariants as token
-use Rattle.tree.specs.Tree.{Script, Head, Prefix, node, end, ◌▸◌, one}
+use Rattle.tree.specs.Tree.{Script, Head, Prefix, node, end, ◌▸◌}
 use Rattle.tree.specs.Words.{encode, encodes, prefix_kind}
 use Rattle.reading.specs.Reading.{argument, next_script, or_missing, ends_operand, look}
-use Rattle.parse.specs.declared.cursor.Cursor.{Cursor}
-use Rattle.parse.specs.declared.cursor.Step.TheVariants.{Found, Nothing}
+use Rattle.reading_cursor.specs.declared.Cursor.{Cursor}
+use Rattle.std.specs.Prelude.{Ok, Err}
 use Rattle.parse.specs.declared.cursor.Part.{Part}
 use Rattle.parse.specs.Buffer.{Wrote}
 use Rattle.lookahead.specs.Tests.{test_at, is_kind, marks_kind}
 use Rattle.leaves.specs.Leaves.{node_words}
-use Rattle.parse.specs.Meet.{Simple, ScriptFunc, Argument, Operand, Scripts, Unary, Binary, prefix_of, onward, seen}
+use Rattle.parse.specs.Meet.{Simple, ScriptFunc, Argument, Operand, Scripts, Unary, Binary, prefix_of}
+use Rattle.reading_cursor.specs.Moves.{onward, seen}
 use Rattle.parse.proofs.Buffer.{push, fill, seq, wrote_none}
 use Rattle.lookahead.proofs.Testing.{test_below}
 use Rattle.reading_words.specs.Meet.{Known}
@@ -27,17 +28,17 @@ use Rattle.reading_words.proofs.Kit.{bind, ret, if_true, if_false, tick, at_tick
 abbrev zeros : List ℕ
 zeros = 0 ∷ 0 ∷ 0 ∷ 0 ∷ 0 ∷ 0 ∷ []
 
-abbrev bare_simple : List ℕ
-bare_simple = 13 ∷ 0 ∷ 0 ∷ 0 ∷ 0 ∷ 0 ∷ []
+abbrev bare_part : List ℕ
+bare_part = 13 ∷ 0 ∷ 0 ∷ 0 ∷ 0 ∷ 0 ∷ zeros
 
 module _ {X t : List ℕ} {n : ℕ} {K L : List ℕ} (stop : Bool) {c : Cursor} {e : ℕ} {x y : List ℕ} where
-  pub argument-found : {b : Cursor} {E : ℕ} {f : Bool} → Simple X t n K L stop true c e x y (Found b E f) → Argument X t n K L stop c e x y (record { cur = b; end = E; ends = f })
+  pub argument-found : {g : Part} → Simple X t n K L stop true c e x y (Ok g) → Argument X t n K L stop c e x y g
   argument-found p = record {
     moves = record { within = p.0.within; on = omega (arith, p.0.on); depth = p.0.depth; room = omega (arith, p.0.room); long = p.0.long; kept = p.0.kept; known = p.0.known };
     means = λ I s at. let q = p.1 I s at in record { answer = some q.node; state = q.state; runs = q.runs; at = q.at; tree = q.tree; besides = q.besides };
   }
 
-  pub argument-missing : {b : Cursor} {z : List ℕ} → Simple X t n K L stop true c e x y (Nothing b) → z ≡ sets y e zeros → e + 6 ≤ length x
+  pub argument-missing : {b : Cursor} {z : List ℕ} → Simple X t n K L stop true c e x y (Err b) → z ≡ sets y e zeros → e + 6 ≤ length x
       → Argument X t n K L stop c e x z (record { cur = b; end = e + 6; ends = false })
   unfolding encode ends_operand look
   argument-missing {b} {z} p hz h = record {
@@ -52,26 +53,25 @@ module _ {X t : List ℕ} {n : ℕ} {K L : List ℕ} (stop : Bool) {c : Cursor} 
     };
   }
 
-  pub operand_found : {b : Cursor} {E : ℕ} {f : Bool} → ScriptFunc X t n K L stop true c e x y (Found b E f) → Operand X t n K L stop c e x y (record { cur = b; end = E; ends = f })
+  pub operand_found : {g : Part} → ScriptFunc X t n K L stop true c e x y (Ok g) → Operand X t n K L stop c e x y g
   operand_found p = record {
     moves = record { within = p.0.within; on = omega (arith, p.0.on); depth = p.0.depth; room = omega (arith, p.0.room); long = p.0.long; kept = p.0.kept; known = p.0.known };
     means = λ I s at. let q = p.1 I s at in record { answer = some q.node; state = q.state; runs = q.runs; at = q.at; tree = q.tree; besides = q.besides.0 };
   }
 
-  pub operand_missing : {b : Cursor} {z w : List ℕ} → ScriptFunc X t n K L stop true c e x y (Nothing b) → z ≡ sets y e bare_simple → w ≡ sets z (e + 6) zeros → e + 12 ≤ length x
-      → Operand X t n K L stop c e x w (record { cur = b; end = e + 12; ends = false })
+  pub operand_missing : {b : Cursor} {z : List ℕ} → ScriptFunc X t n K L stop true c e x y (Err b) → z ≡ sets y e bare_part → e + 12 ≤ length x
+      → Operand X t n K L stop c e x z (record { cur = b; end = e + 12; ends = false })
   unfolding encode ends_operand look
-  operand_missing {b} {z} {w} p hz hw h =
-      let one : Wrote y e z (e + 6) bare_simple = rw hz (push y e _ (e + 6) refl (omega (arith, p.0.long))) in
-      let two : Wrote z (e + 6) w (e + 12) zeros = rw hw (push z (e + 6) zeros (e + 12) (omega arith) (omega (arith, p.0.long, one.long))) in
+  operand_missing {b} {z} p hz h =
+      let one : Wrote y e z (e + 12) bare_part = rw hz (push y e _ (e + 12) refl (omega (arith, p.0.long))) in
       record {
-        moves = record { within = p.0.within; on = omega (arith, p.0.on); depth = p.0.depth; room = omega (arith, p.0.room); long = two.long ∙ one.long ∙ p.0.long; kept = p.0.kept; known = p.0.known };
+        moves = record { within = p.0.within; on = omega (arith, p.0.on); depth = p.0.depth; room = omega (arith, p.0.room); long = one.long ∙ p.0.long; kept = p.0.kept; known = p.0.known };
         means = λ I s at. let q = p.1 I s at in record {
           answer = none;
           state = q.state;
           runs = q.runs;
           at = q.at;
-          tree = seq q.tree (seq one two);
+          tree = seq q.tree one;
           besides = refl;
         };
       }

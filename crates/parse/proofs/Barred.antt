@@ -13,8 +13,8 @@ use Rattle.tree.specs.Tree.{Head, node, Nodes, end, ◌▸◌, count}
 use Rattle.tree.specs.Words.{encode, encode_items}
 use Rattle.reading.specs.Entries.{Entry}
 use Rattle.reading.specs.Reading.{made, lost, nought, any, open_mark, slot, is_at, is_bar, bar_body, next_open_close_group, next_bracket, glyph_of, ends_operand, look, atom_ends, prefixes}
-use Rattle.parse.specs.declared.cursor.Cursor.{Cursor}
-use Rattle.parse.specs.declared.cursor.Step.TheVariants.{Found, Nothing}
+use Rattle.reading_cursor.specs.declared.Cursor.{Cursor}
+use Rattle.std.specs.Prelude.{Ok, Err}
 use Rattle.parse.specs.declared.cursor.Part.{Part}
 use Rattle.parse.specs.declared.cursor.Items.{Items}
 use Rattle.parse.specs.Buffer.{Wrote}
@@ -24,7 +24,8 @@ use Rattle.marks.specs.Marks.{is_marked, with_mark}
 use Rattle.leaves.specs.Leaves.{leaf_ends, leaf_words}
 use Rattle.nodes.specs.Nodes.{group_words}
 use Rattle.marks.specs.Marks as entry
-use Rattle.parse.specs.Meet.{Intermediates, OpenGroup, Bracket, TryMatrix, Bars, onward, rewound}
+use Rattle.parse.specs.Meet.{Intermediates, OpenGroup, Bracket, TryMatrix, Bars}
+use Rattle.reading_cursor.specs.Moves.{onward, rewound}
 use Rattle.parse.proofs.Buffer.{push, fill, seq, back}
 use Rattle.parse.proofs.Scripting.{closed-words, group-size}
 use Rattle.reading_words.specs.Meet.{Row, Known, readers, stop_of}
@@ -141,13 +142,13 @@ module _ {X t : List ℕ} {n : ℕ} {K : List ℕ} (i : ℕ) (stop : Bool) {c : 
           })
 
 module _ {X t : List ℕ} {n : ℕ} {K L : List ℕ} (i : ℕ) (stop : Bool) {c : Cursor} {e : ℕ} {x y : List ℕ} where
-  pub bracket-matrix : (k : ℕ) {b : Cursor} {E : ℕ} {f : Bool} → TryMatrix X t n K L i c e x y (Found b E f) → Bracket X t n K L i k stop c e x y (record { cur = b; end = E; ends = f })
+  pub bracket-matrix : (k : ℕ) {g : Part} → TryMatrix X t n K L i c e x y (Ok g) → Bracket X t n K L i k stop c e x y g
   bracket-matrix k p = record {
     moves = record { within = p.0.within; on = omega (arith, p.0.on); depth = p.0.depth; room = p.0.room; long = p.0.long; kept = p.0.kept; known = p.0.known };
     means = λ I s at en there. let q = p.1 I s at en there in record { answer = q.node; state = q.state; runs = matrix-runs (eqb k 20) c.depth stop i I en s q.state q.node q.runs; at = q.at; tree = q.tree; besides = q.besides };
   }
 
-  module _ {b : Cursor} (p : TryMatrix X t n K L i c e x y (Nothing b)) {J z : List ℕ} {g : Part} where
+  module _ {b : Cursor} (p : TryMatrix X t n K L i c e x y (Err b)) {J z : List ℕ} {g : Part} where
     by_group : OpenGroup X t n L J i b e y z g → Bracket X t n K J i 20 stop c e x z g
     unfolding next_bracket
     by_group p2 = record {

@@ -12,20 +12,22 @@ use borrow.Author.Tests.{eqb-true}
 use Rattle.tokens.specs.declared.token.Token.{Token}
 use Rattle.tokens.specs.declared.token.Token.TheVariants as token
 use Rattle.tokens.specs.Kinds.{number_of}
-use Rattle.tree.specs.Tree.{Head, Prefix, Node, end, leaf, one}
+use Rattle.tree.specs.Tree.{Head, Prefix, Node, leaf, one}
 use Rattle.tree.specs.Words.{encode, atom_kind, class_word}
 use Rattle.reading.specs.Stop.{Stop}
 use Rattle.reading.specs.Entries.{Entry}
 use Rattle.reading.specs.Reading.{State, M, argument, begun, next_simple, or_missing, ends_operand, look}
 use Rattle.tokens.specs.Bytes.{same}
-use Rattle.parse.specs.declared.cursor.Cursor.{Cursor}
-use Rattle.parse.specs.declared.cursor.Step.TheVariants.{Found, Nothing}
+use Rattle.reading_cursor.specs.declared.Cursor.{Cursor}
+use Rattle.std.specs.Prelude.{Ok, Err}
 use Rattle.parse.specs.declared.cursor.Part.{Part}
 use Rattle.parse.specs.Buffer.{Wrote}
 use Rattle.records.specs.Record.{kind_of}
 use Rattle.lookahead.specs.Tests.{test_at, begins_kind, opening}
 use Rattle.leaves.specs.Leaves.{leaf_kind, leaf_class, leaf_ends, leaf_words}
-use Rattle.parse.specs.Meet.{Began, Simple, Begun, Bracket, Unary, Binary, onward, seen, inner, at_depth}
+use Rattle.parse.specs.Meet.{Began, Simple, Begun, Bracket, Unary, Binary}
+use Rattle.parse.specs.Meet.{part_at}
+use Rattle.reading_cursor.specs.Moves.{onward, seen, inner}
 use Rattle.parse.proofs.Buffer.{push, wrote_none}
 use Rattle.lookahead.proofs.Testing.{test_below}
 use Rattle.parse.proofs.Scripting.{found_of}
@@ -36,7 +38,7 @@ use Rattle.reading_words.proofs.Sorts.{is-Sign, is-Function, is-Unary, is-Binary
 use Rattle.reading_words.proofs.Steps.{by_kind, never21, never23}
 
 module _ {X t : List ℕ} {n : ℕ} {K : List ℕ} (stop sg : Bool) {c : Cursor} {e : ℕ} {x : List ℕ} (deep : c.depth < 256) where
-  pub simple-nothing : test_at t K n (begins_kind stop) c.pos ≡ false → c.pos ≤ n → Known X t n K → Simple X t n K K stop sg c e x x (Nothing (seen n c))
+  pub simple-nothing : test_at t K n (begins_kind stop) c.pos ≡ false → c.pos ≤ n → Known X t n K → Simple X t n K K stop sg c e x x (Err (seen n c))
   unfolding next_simple
   simple-nothing h k kn = (
     record { within = k; on = omega arith; depth = refl; room = omega arith; long = refl; kept = kept_refl K; known = kn },
@@ -46,7 +48,7 @@ module _ {X t : List ℕ} {n : ℕ} {K : List ℕ} (stop sg : Bool) {c : Cursor}
   )
 
   pub simple-begun : {L y : List ℕ} {g : Part} → test_at t K n (begins_kind stop) c.pos ≡ true
-      → Begun X t n K L c.pos stop sg (inner (onward c)) e x y g → Simple X t n K L stop sg c e x y (Found (at_depth c.depth g.cur) g.end g.ends)
+      → Begun X t n K L c.pos stop sg (inner (onward c)) e x y g → Simple X t n K L stop sg c e x y (Ok (part_at c.depth g))
   unfolding next_simple
   simple-begun {L} {y} {g} h p =
       let b : c.pos < n = test_below t K n (begins_kind stop) c.pos h in (

@@ -1,5 +1,5 @@
 -- The calls' tests and answers: what each says of the refusals, and what is left when none is met.
-use Prim.Native.Nat.{ℕ, suc, ◌+◌, ◌-◌, ◌*◌, ◌≤◌, ◌<◌}
+use Prim.Native.Nat.{ℕ, suc, ◌+◌, ◌*◌, ◌≤◌, ◌<◌}
 use mathlib.Core.Path.{◌≡◌, refl, sym, ap, ◌∙◌, subst}
 use mathlib.Core.Bool.{Bool, false}
 use mathlib.Core.List.{List, [], ◌∷◌, ◌++◌}
@@ -29,10 +29,12 @@ use Rattle.tokens.proofs.Accepted as lists
 use Rattle.tokens.proofs.Accepted.{met}
 use Rattle.records.specs.Record.{record_words}
 use Rattle.parse.specs.declared.ParsedTokens.{ParsedTokens}
-use Rattle.parse.specs.declared.ParsedTokens.TheVariants as read
+use Rattle.std.specs.Prelude.{Result, Ok, Err}
+use Rattle.refusals.specs.declared.refusal.Refusal.{Refusal}
+use Rattle.refusals.specs.Refusal.{refusal_number, numbered}
 use Rattle.parse.specs.declared.top.Reading.{Reading}
 use Rattle.parse.specs.Top.{TopReady, Reads}
-use Rattle.parse.specs.Call.{list_answer_of, parse_refusal, parse_refusal_by, parse_tokens_refusal, parse_tokens_refusal_by, values, work_after, tree_after, parsed_text, parsed_text_by, parsed_tokens, parsed_tokens_by}
+use Rattle.parse.specs.Call.{list_values, list_answer_of, parse_refusal, parse_refusal_by, parse_tokens_refusal, parse_tokens_refusal_by, values, work_after, tree_after, parsed_text, parsed_text_by, parsed_tokens, parsed_tokens_by}
 use Rattle.bounds.proofs.Theorems.{entries-count}
 use Rattle.closers_pass.specs.declared.top.Pass.{Pass}
 use Rattle.closers_pass.specs.declared.top.Pass.TheVariants as pass
@@ -47,14 +49,14 @@ use Rattle.parse.proofs.Second.{both_read}
 -- what the bracket pass over an accepted list answers, and what the second part needs of the records that it leaves
 module _ (text table : List ℕ) (count : ℕ) (work tree : List ℕ) (ok : list_refusal text count table ≡ none)
     (fit : room_refusal (count_others (token_list count table)) (length work) (length tree) ≡ none)
-    (r : Pass) (L : List ℕ) (c : (r, L) ≡ paired_list text table count false work) where
+    (r : Result Pass Refusal) (L : List ℕ) (c : (numbered r, L) ≡ paired_list text table count false work) where
   abbrev ts : List Lexeme
   ts = token_list count table
 
   room : (record_words (count_others ts + 1) ≤ length work) × (32 * (count_others ts + 1) ≤ length tree)
   room = has_room_lem entry_words (count_others ts) (length work) (length tree) fit
 
-  pub not_refused : {A : Type 0} (k : ℕ) → r ≡ pass.Refused k → A
+  pub not_refused : {A : Type 0} (k : Refusal) → r ≡ Err k → A
   not_refused = passed.not_refused text table count ok work room.0 false r L c
 
   -- the records as `prepare` makes them
@@ -64,7 +66,7 @@ module _ (text table : List ℕ) (count : ℕ) (work tree : List ℕ) (ok : list
   pub few-here : length (entries nowhere ts) ≤ 4096
   few-here = omega (arith, passed.few text table count ok, entries-count nowhere ts)
 
-  module _ (n : ℕ) (q : r ≡ pass.Plain n) where
+  module _ (n : ℕ) (q : r ≡ Ok (pass.Plain n)) where
     is : (n ≡ count_others ts) × (L ≡ passed.made-words text table count ok work room.0)
     is = passed.plain-is text table count ok work room.0 false r L c n q
 
@@ -81,7 +83,7 @@ module _ (text table : List ℕ) (count : ℕ) (work tree : List ℕ) (ok : list
         h (input_of text ts) (rw (is.0, is.1) (passed.made-given text table count ok work room.0)) (replicate (3 * n) false)
         (rw (is.0, is.1) (passed.made-blank text table count ok work room.0))
 
-  module _ (n takes : ℕ) (q : r ≡ pass.Read n takes) where
+  module _ (n takes : ℕ) (q : r ≡ Ok (pass.Read n takes)) where
     are : (n ≡ count_others ts) × (takes ≡ (read_to text ts).takes) × (L ≡ passed.read-words text table count ok work room.0)
     are = passed.read_is text table count ok work room.0 false r L c n takes q
 
@@ -212,20 +214,29 @@ module _ (words : ℕ) (text table work tree : List ℕ) where
 
 -- what the tokenizer has answered; the buffers have room for fewer than `room` tokens other than Space
 module _ (text table work tree : List ℕ) where
-  module _ (room : ℕ) (r : TokenizedUnder) (next : List ℕ) (c : (r, next) ≡ tokenized_under text table room) where
-    pub tokens-refused : (k : ℕ) → r ≡ under.Refused k
-        → ◌≡◌ {A = Answer × List ℕ × List ℕ × List ℕ} (refused k, next, work, tree) (parsed_text text table work tree)
+  module _ (room : ℕ) (r : Result TokenizedUnder Refusal) (next : List ℕ) (c : (numbered r, next) ≡ tokenized_under text table room) where
+    by_number : {x : Result TokenizedUnder Refusal} → r ≡ x → numbered r ≡ numbered x
+    by_number = ap numbered
+
+    pub tokens-refused : (k : Refusal) → r ≡ Err k
+        → ◌≡◌ {A = Answer × List ℕ × List ℕ × List ℕ} (refused (refusal_number k), next, work, tree) (parsed_text text table work tree)
     tokens-refused k q =
+        let f = by_number q in
         by_answer text table room r next c
-        (λ j e p n. let j-is : j ≡ k = cc in rw n (text-when_refused entry_words text table work tree k (text-refused entry_words text _ _ _ k (e ∙ ap some j-is))))
-        (λ ok h p n. let k_is : 7 ≡ k = cc in rw (n, ← k_is) (text-when_refused entry_words text table work tree 7 (table-short entry_words text _ _ _ ok h)))
+        (λ j e p n.
+        let j-is : j ≡ refusal_number k = cc in
+        rw n (text-when_refused entry_words text table work tree (refusal_number k) (text-refused entry_words text _ _ _ (refusal_number k) (e ∙ ap some j-is))))
+        (λ ok h p n.
+        let k_is : 7 ≡ refusal_number k = cc in
+        rw (n, ← k_is) (text-when_refused entry_words text table work tree 7 (table-short entry_words text _ _ _ ok h)))
         (λ ok h l p n. apart cc)
         (λ ok h l p n. apart cc)
 
-    pub tokens-many : (m k : ℕ) → r ≡ under.Many m
+    pub tokens-many : (m k : ℕ) → r ≡ Ok (under.Many m)
         → room ≡ room_for (length work) (length tree) → k ≡ lacking_for m (length work)
         → ◌≡◌ {A = Answer × List ℕ × List ℕ × List ℕ} (refused k, next, work, tree) (parsed_text text table work tree)
     tokens-many m k q b lacks =
+        let f = by_number q in
         by_answer text table room r next c
         (λ j e p n. apart cc)
         (λ ok h p n. apart cc)
@@ -236,7 +247,7 @@ module _ (text table work tree : List ℕ) where
         (table-long entry_words text _ _ _ ok h ∙ one-short (count_others (tokens text)) (length work) (length tree) (omega (arith, b, l)))))
         (λ ok h l p n. apart cc)
 
-    module _ (m others : ℕ) (q : r ≡ under.Tokens m others)
+    module _ (m others : ℕ) (q : r ≡ Ok (under.Tokens m others))
         (b : room ≡ room_for (length work) (length tree)) where
       abbrev facts : listed.Listed text table room r next c m others q
       facts = listed.facts text table room r next c m others q
@@ -256,21 +267,21 @@ module _ (text table work tree : List ℕ) where
       pub list-fits : room_refusal (count_others (token_list m next)) (length work) (length tree) ≡ none
       list-fits = rw list-is fits
 
-      module _ (a : ParsedTokens) (L y : List ℕ) (d : (list_answer_of a, L, y) ≡ parsed_tokens text next m work tree) where
+      module _ (a : Result ParsedTokens Refusal) (L y : List ℕ) (d : (list_answer_of a, L, y) ≡ parsed_tokens text next m work tree) where
         read_is : ◌≡◌ {A = Answer × List ℕ × List ℕ} (list_answer_of a, L, y) (accepted (values text (tokens text)), work_after (length work), tree_after text (tokens text) (length tree))
         read_is = rw list-is at (d ∙ list_read text next m work tree list-accepted list-fits)
 
         answer-is : list_answer_of a ≡ accepted (values text (tokens text))
         answer-is = ap (λ (x : Answer × List ℕ × List ℕ). x.0) read_is
 
-        pub list-not_refused : {A : Type 0} (k : ℕ) → a ≡ read.Refused k → A
+        pub list-not_refused : {A : Type 0} (k : Refusal) → a ≡ Err k → A
         list-not_refused k e = let p = rw e at answer-is in apart cc
 
-        pub list-was_read : (takes items : ℕ) (b : Bool) → a ≡ read.Read takes items b
-            → ◌≡◌ {A = Answer × List ℕ × List ℕ × List ℕ} (accepted (m ∷ takes ∷ items ∷ bit b ∷ []), next, L, y) (parsed_text text table work tree)
-        list-was_read takes items b e =
-            let p = rw e at answer-is in
-            let v : takes ∷ items ∷ bit b ∷ [] ≡ values text (tokens text) = cc in
+        pub list-was_read : (p : ParsedTokens) → a ≡ Ok p
+            → ◌≡◌ {A = Answer × List ℕ × List ℕ × List ℕ} (accepted (m ∷ list_values p), next, L, y) (parsed_text text table work tree)
+        list-was_read p e =
+            let z = rw e at answer-is in
+            let v : list_values p ≡ values text (tokens text) = cc in
             let l : L ≡ work_after (length work) = ap (λ (x : Answer × List ℕ × List ℕ). x.1) read_is in
             let t : y ≡ tree_after text (tokens text) (length tree) = ap (λ (x : Answer × List ℕ × List ℕ). x.2) read_is in
             rw (text-read entry_words text table work tree enough, facts.all-is, v, facts.next-is, l, t)

@@ -10,22 +10,22 @@ use lib.Dec.{ltb}
 use lib.Seq.{sets, length-sets}
 use borrow.Author.Tests.{ltb-true, ltb-false, lt-ltb, le-ltb}
 use Rattle.tokens.specs.declared.token.Token.TheVariants as token
-use Rattle.tree.specs.Tree.{Head, node, Nodes, end, ◌▸◌, ◌⧺◌, count, one}
+use Rattle.tree.specs.Tree.{Head, node, Nodes, end, ◌▸◌, ◌⧺◌, count}
 use Rattle.tree.specs.Words.{encode, encodes, encode_items}
 use Rattle.reading.specs.Stop.{Stop}
 use Rattle.reading.specs.Entries.{Entry}
 use Rattle.reading.specs.Reading.{State, intermediates, prefixes, row_cells, next_matrix_row}
-use Rattle.parse.specs.declared.cursor.Cursor.{Cursor}
+use Rattle.reading_cursor.specs.declared.Cursor.{Cursor}
 use Rattle.parse.specs.declared.cursor.Items.{Items}
 use Rattle.parse.specs.Buffer.{Wrote}
 use Rattle.lookahead.specs.Tests.{test_at, is_kind}
-use Rattle.parse.specs.Meet.{Each, Intermediates, onward, passing}
+use Rattle.parse.specs.Meet.{Each, Intermediates}
+use Rattle.reading_cursor.specs.Moves.{onward, passing}
 use Rattle.parse.proofs.Buffer.{fill, seq, back, wrote_none}
 use Rattle.lookahead.proofs.Testing.{test_below}
 use Rattle.parse.proofs.Whole.{whole-items}
-use Rattle.parse.specs.declared.cursor.Close.{Close}
-use Rattle.parse.specs.declared.cursor.Close.TheVariants as close
-use Rattle.parse.specs.declared.cursor.Cells.{Cells}
+use Rattle.std.specs.declared.option.Option as rust
+use Rattle.std.specs.declared.option.Option.TheVariants.{Some, None}
 use Rattle.columns.specs.Rows as columns
 use Rattle.parse.specs.Matrix.{Filled, Fails, RowCells, MatrixRow}
 use Rattle.parse.proofs.Scripting.{encodes-append, count-append}
@@ -167,7 +167,7 @@ module _ {X t : List ℕ} {n : ℕ} {K : List ℕ} (c : Cursor) (e : ℕ) (x : L
         })
 
     module _ (h : test_at t J n (is_kind 3) g.cur.pos ≡ false) where
-      pub cells-shut : test_at t J n (is_kind 21) g.cur.pos ≡ true → RowCells X t n K J c e x z (record { cur = passing n g.cur; end = g.end; count = num + 1; close = close.At g.cur.pos })
+      pub cells-shut : test_at t J n (is_kind 21) g.cur.pos ≡ true → RowCells X t n K J c e x z (record { cur = passing n g.cur; end = g.end; count = num + 1; close = Some g.cur.pos })
       cells-shut k =
           let b : g.cur.pos < n = test_below t J n (is_kind 21) g.cur.pos k in
           rw (passing-in n g.cur b) (
@@ -191,7 +191,7 @@ module _ {X t : List ℕ} {n : ℕ} {K : List ℕ} (c : Cursor) (e : ℕ) (x : L
                 },
           )
 
-      pub cells-broken : test_at t J n (is_kind 21) g.cur.pos ≡ false → RowCells X t n K J c e x z (record { cur = passing n g.cur; end = g.end; count = num + 1; close = close.Broken })
+      pub cells-broken : test_at t J n (is_kind 21) g.cur.pos ≡ false → RowCells X t n K J c e x z (record { cur = passing n g.cur; end = g.end; count = num + 1; close = None })
       cells-broken k = (
         record { within = passing-within n g.cur p.moves.within; depth = passing-depth n g.cur ∙ p.moves.depth ∙ i.moves.depth; long = long-z; kept = kept_trans i.moves.kept p.moves.kept; known = p.moves.known },
         λ I s at.
@@ -222,9 +222,9 @@ module _ {X t : List ℕ} {n : ℕ} {K : List ℕ} (c : Cursor) (e : ℕ) (x : L
 
 -- a row: its bracket and its cells
 module _ (X t : List ℕ) (n : ℕ) (K : List ℕ) (c : Cursor) (e : ℕ) (x : List ℕ) where
-  pub row-met : (L y : List ℕ) (k : ℕ) (d : Cursor) (E : ℕ) (f : Close) → test_at t K n (is_kind 20) c.pos ≡ true → RowCells X t n K L (onward c) e x y (record { cur = d; end = E; count = k; close = f })
+  pub row-met : (L y : List ℕ) (k : ℕ) (d : Cursor) (E : ℕ) (f : rust.Option ℕ) → test_at t K n (is_kind 20) c.pos ≡ true → RowCells X t n K L (onward c) e x y (record { cur = d; end = E; count = k; close = f })
       → MatrixRow X t n K L c e x y (record { cur = d; end = E; count = k; close = f })
-  row-met L y k d E (close.At q) h p =
+  row-met L y k d E (Some q) h p =
       let b : c.pos < n = test_below t K n (is_kind 20) c.pos h in (
         record { within = p.0.within; on = omega (arith, p.0.on); depth = p.0.depth; room = omega (arith, p.0.room); long = p.0.long; kept = p.0.kept; known = p.0.known },
         p.1,
@@ -245,7 +245,7 @@ module _ (X t : List ℕ) (n : ℕ) (K : List ℕ) (c : Cursor) (e : ℕ) (x : L
               tree = w.tree;
             },
       )
-  row-met L y k d E close.Broken h p =
+  row-met L y k d E None h p =
       let b : c.pos < n = test_below t K n (is_kind 20) c.pos h in (
         record { within = p.0.within; depth = p.0.depth; long = p.0.long; kept = p.0.kept; known = p.0.known },
         λ I s at.
@@ -259,7 +259,7 @@ module _ (X t : List ℕ) (n : ℕ) (K : List ℕ) (c : Cursor) (e : ℕ) (x : L
             },
       )
 
-  pub row-none : test_at t K n (is_kind 20) c.pos ≡ false → c.pos ≤ n → Known X t n K → MatrixRow X t n K K c e x x (record { cur = passing n c; end = e; count = 0; close = close.Broken })
+  pub row-none : test_at t K n (is_kind 20) c.pos ≡ false → c.pos ≤ n → Known X t n K → MatrixRow X t n K K c e x x (record { cur = passing n c; end = e; count = 0; close = None })
   unfolding next_matrix_row
   row-none h k kn = (
     record { within = passing-within n c k; depth = passing-depth n c; long = refl; kept = kept_refl K; known = kn },

@@ -12,7 +12,7 @@ use types.Run.{OneOf}
 use denote.Enum.Declared.{tag_of}
 use borrow.Author.Tests.{eqb-true}
 use Rattle.tree.specs.Words.{prefix_kind}
-use Rattle.parse.specs.declared.cursor.Cursor.{Cursor}
+use Rattle.reading_cursor.specs.declared.Cursor.{Cursor}
 use Rattle.parse.specs.declared.cursor.Part.{Part}
 use Rattle.parse.specs.declared.cursor.Items.{Items}
 use Rattle.parse.specs.declared.cursor.Why.{Why}
@@ -21,10 +21,12 @@ use Rattle.parse.specs.contracts.cursor.Why.{the_type}
 use Rattle.records.specs.Record.{kind_of}
 use Rattle.lookahead.specs.Tests.{test_at, is_kind, prefix_stop}
 use Rattle.nodes.specs.Nodes.{group_words}
-use Rattle.parse.specs.Meet.{Each, Intermediates, OpenGroup, Begun, Unary, prefix_of, onward, seen}
+use Rattle.parse.specs.Meet.{Each, Intermediates, OpenGroup, Begun, Unary, prefix_of}
+use Rattle.reading_cursor.specs.Moves.{onward, seen}
 use Rattle.parse.specs.Matrix.{Broke, Fails, MatrixRows'}
 use Rattle.reading_words.specs.Meet.{rows_at}
-use Rattle.parse.specs.Choices.{prefix_number}
+use Rattle.std.specs.Prelude.{Option, Some, None}
+use Rattle.parse.specs.Choices.{prefix_number, prefix_node}
 use Rattle.parse.proofs.Begins.{begun-unary, begun-function, begun-sign}
 use Rattle.parse.proofs.Scripting.{group-shut, group-open}
 
@@ -53,6 +55,30 @@ leaf-kinds k sg h = (
   λ z. let w : ◌≡◌ {A = ℕ} 11 0 = ap (λ (m : ℕ). prefix_number m sg) (sym z) ∙ h in omega arith,
   λ z. signless sg (ap (λ (m : ℕ). prefix_number m sg) (sym z) ∙ h),
 )
+
+-- the node kind where there is one, and none where it is 0
+abbrev node_of : Bool → Bool → Bool → Bool → Option ℕ
+node_of a b d s = cond a (Some 10) (cond b (Some 11) (cond d (cond s (Some 9) None) None))
+
+some_of : (a b d s : Bool) {kind : ℕ} → Some kind ≡ node_of a b d s → (kind ≡ number a b d s) × (number a b d s ≡ 0 → ⊥)
+some_of true b d s h = (cc, λ z. omega arith)
+some_of false true d s h = (cc, λ z. omega arith)
+some_of false false true true h = (cc, λ z. omega arith)
+some_of false false true false h = absurd cc
+some_of false false false s h = absurd cc
+
+none_of : (a b d s : Bool) → None ≡ node_of a b d s → number a b d s ≡ 0
+none_of true b d s h = absurd cc
+none_of false true d s h = absurd cc
+none_of false false true true h = absurd cc
+none_of false false true false h = refl
+none_of false false false s h = refl
+
+pub prefix-some : (k : ℕ) (sg : Bool) {kind : ℕ} → Some kind ≡ prefix_node k sg → (kind ≡ prefix_number k sg) × (prefix_number k sg ≡ 0 → ⊥)
+prefix-some k sg h = some_of (eqb k 18) (eqb k 17) (eqb k 16) sg h
+
+pub prefix-none : (k : ℕ) (sg : Bool) → None ≡ prefix_node k sg → prefix_number k sg ≡ 0
+prefix-none k sg h = none_of (eqb k 18) (eqb k 17) (eqb k 16) sg h
 
 module _ {X t : List ℕ} {n : ℕ} {K L : List ℕ} (i : ℕ) (stop sg : Bool) {c : Cursor} {e : ℕ} {x y : List ℕ} {g : Part} (inside : i < n) where
   pub begun-prefix : {k kind : ℕ} {st : Bool} → k ≡ kind_of t K i → kind ≡ prefix_number k sg → st ≡ prefix_stop k stop → (kind ≡ 0 → ⊥)

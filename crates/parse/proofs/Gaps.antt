@@ -2,14 +2,14 @@
 use Prim.Native.Nat.{ℕ, ◌+◌, ◌≤◌}
 use mathlib.Core.Path.{◌≡◌, refl, sym}
 use mathlib.Core.List.{List, [], ◌∷◌}
-use mathlib.Core.Bool.{Bool, true, false}
+use mathlib.Core.Bool.{Bool, true, false, cond}
 use native.Mathlib.Omega.{arith}
 use lib.ListN.{length}
 use lib.Dec.{eqb}
 use Rattle.records.specs.Record.{space_start, space_len}
 use Rattle.buffer.specs.Buffer.{stored}
 use Rattle.nodes.specs.Nodes.{gap_len, gap_words, gap_items}
-use Rattle.buffer.proofs.Stores.{stored-in, stored-none}
+use Rattle.buffer.proofs.Stores.{stored_in, stored_none}
 use Rattle.parse.specs.Meet.{Gapped}
 use Rattle.parse.proofs.Buffer.{push, wrote_none}
 
@@ -30,17 +30,17 @@ module _ (t K : List ℕ) (n : ℕ) (first : Bool) (i : ℕ) where
   unfolding gap_items
   items-some h = rw h
 
-  module _ {e r : ℕ} {x y : List ℕ} (number : r ≡ gap_items t K n first i) (words : y ≡ stored x e (gap_words t K n first i)) where
-    pub gap-none : r ≡ 0 → Gapped t K n first i e x y (record { end = e; items = 0 })
+  module _ {e : ℕ} {r : Bool} {x y : List ℕ} (number : cond r 1 0 ≡ gap_items t K n first i) (words : y ≡ stored x e (gap_words t K n first i)) where
+    pub gap-none : r ≡ false → Gapped t K n first i e x y (record { end = e; items = 0 })
     gap-none h = go (eqb (gap_len t K n first i) 0) refl
       where
         go : (b : Bool) → eqb (gap_len t K n first i) 0 ≡ b → Gapped t K n first i e x y (record { end = e; items = 0 })
-        go true q = record { tree = rw (words, words-none q, stored-none x e) (wrote_none x e); items = sym (items-none q); few = omega arith; short = omega arith }
-        go false q = absurd (omega (arith, items-some q))
+        go true q = record { tree = rw (words, words-none q, stored_none x e) (wrote_none x e); items = sym (items-none q); few = omega arith; short = omega arith }
+        go false q = let z : ◌≡◌ {A = ℕ} 0 (gap_items t K n first i) = rw h at number in absurd (omega (arith, z, items-some q))
 
-    pub gap-some : (r ≡ 0 → ⊥) → e + 7 ≤ length x → Gapped t K n first i e x y (record { end = e + 7; items = 1 })
+    pub gap-some : r ≡ true → e + 7 ≤ length x → Gapped t K n first i e x y (record { end = e + 7; items = 1 })
     gap-some h fit = go (eqb (gap_len t K n first i) 0) refl
       where
         go : (b : Bool) → eqb (gap_len t K n first i) 0 ≡ b → Gapped t K n first i e x y (record { end = e + 7; items = 1 })
-        go true q = absurd (h (omega (arith, items-none q)))
-        go false q = record { tree = rw (words, words-some q, stored-in x e _ fit) (push x e _ (e + 7) refl fit); items = sym (items-some q); few = omega arith; short = omega arith }
+        go true q = let z : ◌≡◌ {A = ℕ} 1 (gap_items t K n first i) = rw h at number in absurd (omega (arith, z, items-none q))
+        go false q = record { tree = rw (words, words-some q, stored_in x e _ fit) (push x e _ (e + 7) refl fit); items = sym (items-some q); few = omega arith; short = omega arith }

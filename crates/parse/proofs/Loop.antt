@@ -8,12 +8,12 @@ use native.Mathlib.Omega.{arith}
 use lib.ListN.{length, get_elem?}
 use lib.Dec.{eqb, ltb}
 use borrow.Author.Tests.{ltb-true, ltb-false, ne_eqb}
-use Rattle.tree.specs.Tree.{Head, Atom, Node, node, Nodes, end, ◌▸◌, ◌⧺◌, count, leaf}
+use Rattle.tree.specs.Tree.{Head, Atom, Node, Nodes, end, ◌▸◌, ◌⧺◌, count, leaf}
 use Rattle.tree.specs.Words.{encode_item, encode_items}
 use Rattle.reading.specs.Entries.{Entry}
 use Rattle.reading.specs.Reading.{State, at_open_close, next_intermediate, prefixes, spaced}
-use Rattle.parse.specs.declared.cursor.Cursor.{Cursor}
-use Rattle.parse.specs.declared.cursor.Step.TheVariants.{Found, Nothing}
+use Rattle.reading_cursor.specs.declared.Cursor.{Cursor}
+use Rattle.std.specs.Prelude.{Ok, Err}
 use Rattle.parse.specs.declared.cursor.Gap.{Gap}
 use Rattle.parse.specs.Buffer.{Wrote}
 use Rattle.records.specs.Record.{space_len}
@@ -101,7 +101,7 @@ module _ {X t : List ℕ} {n : ℕ} {K : List ℕ} (u : ℕ) (stop first₀ sign
 
   module _ {L y y2 y3 : List ℕ} {cur : Cursor} {stp num : ℕ} {first sign : Bool} {g : Gap} (i : Inv X t n K L u stop first₀ sign₀ c e x y cur stp num first sign) (gp : Gapped t L n first cur.pos stp y y2 g)
       (room : stp + 14 + 32 * (n - cur.pos) ≤ length y) (unmet : bar_at X t L n (cond first n u) cur.pos ≡ false) where
-    pub along-more : {J : List ℕ} {b : Cursor} {E : ℕ} {f : Bool} → Intermediate X t n L J stop sign cur g.end y2 y3 (Found b E f) → Inv X t n K J u stop first₀ sign₀ c e x y3 b E (num + (1 + g.items)) false (not f)
+    pub along-more : {J : List ℕ} {b : Cursor} {E : ℕ} {f : Bool} → Intermediate X t n L J stop sign cur g.end y2 y3 (Ok (record { cur = b; end = E; ends = f })) → Inv X t n K J u stop first₀ sign₀ c e x y3 b E (num + (1 + g.items)) false (not f)
     unfolding encode_items prefixes
     along-more {J} {b} {E} {f} p = record {
       moves = record { within = p.0.within; on = omega (arith, p.0.on, i.moves.on); depth = p.0.depth ∙ i.moves.depth; room = omega (arith, p.0.room, gp.short, i.moves.room); long = p.0.long ∙ gp.tree.long ∙ i.moves.long; kept = kept_trans i.moves.kept p.0.kept; known = p.0.known };
@@ -133,7 +133,7 @@ module _ {X t : List ℕ} {n : ℕ} {K : List ℕ} (u : ℕ) (stop first₀ sign
           };
     }
 
-    pub along-nothing : {J : List ℕ} {b : Cursor} → Intermediate X t n L J stop sign cur g.end y2 y3 (Nothing b) → Intermediates X t n K J u stop first₀ sign₀ c e x y3 (record { cur = b; end = stp; count = num; sign = sign })
+    pub along-nothing : {J : List ℕ} {b : Cursor} → Intermediate X t n L J stop sign cur g.end y2 y3 (Err b) → Intermediates X t n K J u stop first₀ sign₀ c e x y3 (record { cur = b; end = stp; count = num; sign = sign })
     along-nothing {J} {b} p = record {
       moves = record { within = p.0.within; on = omega (arith, p.0.on, i.moves.on); depth = p.0.depth ∙ i.moves.depth; room = omega (arith, p.0.on, i.moves.room); long = p.0.long ∙ gp.tree.long ∙ i.moves.long; kept = kept_trans i.moves.kept p.0.kept; known = p.0.known };
       few = omega (arith, i.few, p.0.on);

@@ -9,30 +9,30 @@ use lib.ListN.{length, get_elem?}
 use lib.Dec.{eqb}
 use borrow.Author.Tests.{eq-eqb}
 use Rattle.tokens.specs.declared.token.Token.TheVariants as token
-use Rattle.tree.specs.Tree.{Nodes, end, ◌⧺◌, count}
+use Rattle.tree.specs.Tree.{Nodes, ◌⧺◌, count}
 use Rattle.tree.specs.Words.{encodes}
 use Rattle.reading.specs.Entries.{Entry, is}
 use Rattle.reading.specs.Reading.{State, is_at, any, advance, Rows, join_rows, more_rows, next_matrix_rows, alike}
-use Rattle.parse.specs.declared.cursor.Cursor.{Cursor}
+use Rattle.reading_cursor.specs.declared.Cursor.{Cursor}
 use Rattle.parse.specs.Buffer.{Wrote}
 use Rattle.lookahead.specs.Tests.{test_at, is_kind}
 use Rattle.rows.specs.Rows.{pair_at, round_at}
-use Rattle.parse.specs.Meet.{Each, onward}
+use Rattle.parse.specs.Meet.{Each}
+use Rattle.reading_cursor.specs.Moves.{onward}
 use Rattle.parse.proofs.Buffer.{seq, back, wrote_none}
 use Rattle.lookahead.proofs.Testing.{test_below}
 use Rattle.reading.specs.Reading as reading
-use Rattle.parse.specs.declared.cursor.Close.TheVariants as close
-use Rattle.parse.specs.declared.cursor.Cells.{Cells}
+use Rattle.std.specs.declared.option.Option.TheVariants.{Some, None}
 use Rattle.parse.specs.declared.cursor.Why.{Why}
 use Rattle.parse.specs.declared.cursor.Why.TheVariants as why
 use Rattle.parse.specs.declared.cursor.Rows as rows
 use Rattle.columns.specs.Rows as columns
 use Rattle.parse.specs.Matrix.{Broke, Filled, why_more, why_more_at, why_rows_at, Fails, HasRow, MatrixRow, MoreRows, MoreRows', MatrixRows, MatrixRows'}
 use Rattle.parse.proofs.Scripting.{encodes-append, count-append}
-use Rattle.reading_words.specs.Meet.{Input, Row, At, Known, readers, row_at, First, more_at, rows_at}
+use Rattle.reading_words.specs.Meet.{Input, At, Known, readers, row_at, First, more_at, rows_at}
 use Rattle.stores.proofs.Stores.{kept_refl, kept_trans}
 use Rattle.reading_words.proofs.Kit.{bind, ret, at_here, if_true, if_false, tick, at_tick}
-use Rattle.reading_words.proofs.Steps.{alike-pair, brackets-are, is_at_is, joined, nodes-assoc, nodes-nil, pair_is, turn-broken, turn-differs, turn-done, turn_more, with_row, with_rows, took-any}
+use Rattle.reading_words.proofs.Steps.{alike-pair, brackets-are, is_at_is, nodes-assoc, nodes-nil, pair_is, turn-broken, turn-differs, turn-done, turn_more, with_row, with_rows, took-any}
 
 -- rows put together
 joined_snoc : (acc : List Nodes) (r : Nodes) → columns.joined (acc ++ (r ∷ [])) ≡ columns.joined acc ⧺ r
@@ -130,7 +130,7 @@ module _ {X t : List ℕ} {n : ℕ} {K : List ℕ} (cols l : ℕ) (round : Bool)
       inside = test_below t L n (is_kind 3) cur.pos k
 
       -- whatever the cells and the end that a broken row left
-      pub rows-broken : {J z : List ℕ} (m : ℕ) (d : Cursor) (E v F : ℕ) → MatrixRow X t n L J (onward cur) stp y z (record { cur = d; end = E; count = m; close = close.Broken })
+      pub rows-broken : {J z : List ℕ} (m : ℕ) (d : Cursor) (E v F : ℕ) → MatrixRow X t n L J (onward cur) stp y z (record { cur = d; end = E; count = m; close = None })
           → MoreRows X t n K J cols l round c e x z (record { cur = d; end = F; cells = v; cols = cols; left = l; why = why.Broken })
       rows-broken m d E v F p = (
         record { cols' = refl; left' = refl },
@@ -154,7 +154,7 @@ module _ {X t : List ℕ} {n : ℕ} {K : List ℕ} (cols l : ℕ) (round : Bool)
             a.reason ∙ why_broken I c.depth a.left h a.state (sep-there a.at) u.1 q.runs,
       )
 
-      module _ {J z : List ℕ} {m q E : ℕ} {d : Cursor} (p : MatrixRow X t n L J (onward cur) stp y z (record { cur = d; end = E; count = m; close = close.At q })) where
+      module _ {J z : List ℕ} {m q E : ℕ} {d : Cursor} (p : MatrixRow X t n L J (onward cur) stp y z (record { cur = d; end = E; count = m; close = Some q })) where
         alike-row : {I : Input} {s : State} {h : reading.Row} (row : reading.Row) → At X t n J d.pos d.takes I s → First I cols round h → get_elem? I.es (cur.pos + 1) ≡ some row.left → get_elem? I.es q ≡ some row.right → m ≡ count row.cells
             → alike I.text I.es h row ≡ cond (eqb cols m) (pair_at X t J round (cur.pos + 1) q) false
         alike-row {I} {s} {h} row a fst tl tr hm = alike-pair I round h row fst.pair fst.number hm ∙ ap (λ (b : Bool). cond (eqb cols m) b false) (pair_is round row a.given p.2 p.3 tl tr)
@@ -212,7 +212,7 @@ module _ {X t : List ℕ} {n : ℕ} {K : List ℕ} (cols l : ℕ) (round : Bool)
 
 -- all rows: the first, and the others
 module _ (X t : List ℕ) (n : ℕ) (K L : List ℕ) (c : Cursor) (e : ℕ) (x y : List ℕ) where
-  pub matrix-broken : (m : ℕ) (d : Cursor) (E v F k l : ℕ) → MatrixRow X t n K L c e x y (record { cur = d; end = E; count = m; close = close.Broken })
+  pub matrix-broken : (m : ℕ) (d : Cursor) (E v F k l : ℕ) → MatrixRow X t n K L c e x y (record { cur = d; end = E; count = m; close = None })
       → MatrixRows X t n K L c e x y (record { cur = d; end = F; cells = v; cols = k; left = l; why = why.Broken })
   unfolding next_matrix_rows why_rows_at
   matrix-broken m d E v F k l p = (
@@ -223,7 +223,7 @@ module _ (X t : List ℕ) (n : ℕ) (K L : List ℕ) (c : Cursor) (e : ℕ) (x y
     λ I s at. let q = p.1 I s at in ap first (bind _ _ s q.runs ∙ ret _ _),
   )
 
-  module _ (m q E : ℕ) (d : Cursor) (p : MatrixRow X t n K L c e x y (record { cur = d; end = E; count = m; close = close.At q })) (room : e + 32 * (n - c.pos) ≤ length x) where
+  module _ (m q E : ℕ) (d : Cursor) (p : MatrixRow X t n K L c e x y (record { cur = d; end = E; count = m; close = Some q })) (room : e + 32 * (n - c.pos) ≤ length x) where
     pub matrix-differs : pair_at X t L (round_at X t L c.pos) c.pos q ≡ false → (v F k l : ℕ) → MatrixRows X t n K L c e x y (record { cur = d; end = F; cells = v; cols = k; left = l; why = why.Differs })
     unfolding next_matrix_rows why_rows_at
     matrix-differs df v F k l = (

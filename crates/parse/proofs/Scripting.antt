@@ -14,10 +14,10 @@ use Rattle.tree.specs.Tree.{nowhere, Script, Head, Prefix, Node, node, Nodes, en
 use Rattle.tree.specs.Words.{encode, encodes, encode_item, encode_items}
 use Rattle.reading.specs.Stop.{Stop}
 use Rattle.reading.specs.Entries.{Entry}
-use Rattle.reading.specs.Reading.{State, M, Scripted, next_script_func, next_intermediate, next_open_group, or_missing_part, ends_operand, ends_first, ends_second, look, prefixes}
-use Rattle.parse.specs.declared.cursor.Cursor.{Cursor}
-use Rattle.parse.specs.declared.cursor.Step.{Step}
-use Rattle.parse.specs.declared.cursor.Step.TheVariants.{Found, Nothing}
+use Rattle.reading.specs.Reading.{State, M, next_script_func, next_intermediate, next_open_group, or_missing_part, ends_operand, ends_first, ends_second, look, prefixes}
+use Rattle.reading_cursor.specs.declared.Cursor.{Cursor}
+use Rattle.parse.specs.Meet.{Step}
+use Rattle.std.specs.Prelude.{Ok, Err}
 use Rattle.parse.specs.declared.cursor.Part.{Part}
 use Rattle.parse.specs.declared.cursor.Scripted as code
 use Rattle.parse.specs.declared.cursor.Items.{Items}
@@ -26,7 +26,8 @@ use Rattle.records.specs.Record.{start_of, len_of}
 use Rattle.lookahead.specs.Tests.{test_at, is_kind, heads_kind}
 use Rattle.leaves.specs.Leaves.{node_words}
 use Rattle.nodes.specs.Nodes.{group_words}
-use Rattle.parse.specs.Meet.{Finds, Simple, ScriptFunc, Term, Intermediate, Operand, Scripts, Intermediates, Headed, OpenGroup, With, words_of, onward, seen, inner, at_depth, step_at}
+use Rattle.parse.specs.Meet.{Finds, Simple, ScriptFunc, Term, Intermediate, Operand, Scripts, Intermediates, Headed, OpenGroup, With, words_of, part_at, step_at}
+use Rattle.reading_cursor.specs.Moves.{onward, seen, inner, at_depth}
 use Rattle.parse.proofs.Buffer.{fill, seq, back, wrote_none}
 use Rattle.parse.proofs.Whole.{whole-items}
 use Rattle.lookahead.proofs.Testing.{test_below}
@@ -46,13 +47,13 @@ count-append (x ▸ l) m = omega (arith, count-append l m)
 
 -- too deep
 module _ {X t : List ℕ} {n : ℕ} {K : List ℕ} (stop sg : Bool) {c : Cursor} {e : ℕ} {x : List ℕ} (h : 256 ≤ c.depth) (k : c.pos ≤ n) (kn : Known X t n K) where
-  pub simple-deep : Simple X t n K K stop sg c e x x (Nothing c)
+  pub simple-deep : Simple X t n K K stop sg c e x x (Err c)
   simple-deep = (
     record { within = k; on = omega arith; depth = refl; room = omega arith; long = refl; kept = kept_refl K; known = kn },
     λ I s at. record { state = s; runs = ap (λ (f : Stop → Bool → M (Option Node)). f (stop_of stop) sg s) (deep-simple I c.depth h) ∙ ret _ _; at = at; tree = wrote_none x e },
   )
 
-  pub script-deep : ScriptFunc X t n K K stop sg c e x x (Nothing c)
+  pub script-deep : ScriptFunc X t n K K stop sg c e x x (Err c)
   script-deep = (
     record { within = k; on = omega arith; depth = refl; room = omega arith; long = refl; kept = kept_refl K; known = kn },
     λ I s at. record { state = s; runs = ap (λ (f : Stop → Bool → M (Option Node)). f (stop_of stop) sg s) (deep-script_func I c.depth h) ∙ ret _ _; at = at; tree = wrote_none x e },
@@ -79,14 +80,14 @@ found_of {u = u} (some a) r at w bs = record { node = a; state = u; runs = r; at
 
 -- a simple expression and its scripts
 module _ {X t : List ℕ} {n : ℕ} {K : List ℕ} (stop sg : Bool) {c : Cursor} {e : ℕ} {x : List ℕ} where
-  pub term_nothing : {L y : List ℕ} {b : Cursor} → e + 6 + 32 * (n - c.pos) ≤ length x → Simple X t n K L stop sg c (e + 6) x y (Nothing b) → Term X t n K L stop sg c e x y (Nothing b)
+  pub term_nothing : {L y : List ℕ} {b : Cursor} → e + 6 + 32 * (n - c.pos) ≤ length x → Simple X t n K L stop sg c (e + 6) x y (Err b) → Term X t n K L stop sg c e x y (Err b)
   term_nothing k p = (
     record { within = p.0.within; on = p.0.on; depth = p.0.depth; room = omega (arith, p.0.on); long = p.0.long; kept = p.0.kept; known = p.0.known },
     λ I s at. let q = p.1 I s at in record { state = q.state; runs = bind _ _ s q.runs ∙ ret _ _; at = q.at; tree = back e q.tree (omega arith) (omega arith) },
   )
 
   pub term_scripted : {L J y z w : List ℕ} {b : Cursor} {E : ℕ} {f : Bool} {g : code.Scripted} → e + 6 + 32 * (n - c.pos) ≤ length x
-      → Simple X t n K L stop sg c (e + 6) x y (Found b E f) → Scripts X t n L J b E y z g → w ≡ sets z e (13 ∷ 0 ∷ 0 ∷ g.script ∷ 0 ∷ 0 ∷ []) → Term X t n K J stop sg c e x w (Found g.cur g.end f)
+      → Simple X t n K L stop sg c (e + 6) x y (Ok (record { cur = b; end = E; ends = f })) → Scripts X t n L J b E y z g → w ≡ sets z e (13 ∷ 0 ∷ 0 ∷ g.script ∷ 0 ∷ 0 ∷ []) → Term X t n K J stop sg c e x w (Ok (record { cur = g.cur; end = g.end; ends = f }))
   unfolding encode encodes ends_operand look ends_first encode_item
   term_scripted {L} {J} {y} {z} {w} {b} {E} {f} {g} k p p2 hw = (
     record { within = p2.moves.within; on = omega (arith, p.0.on, p2.moves.on); depth = p2.moves.depth ∙ p.0.depth; room = omega (arith, p.0.room, p2.moves.room); long = ap length hw ∙ length-sets z e (13 ∷ 0 ∷ 0 ∷ g.script ∷ 0 ∷ 0 ∷ []) ∙ p2.moves.long ∙ p.0.long; kept = kept_trans p.0.kept p2.moves.kept; known = p2.moves.known },
@@ -104,9 +105,9 @@ module _ {X t : List ℕ} {n : ℕ} {K : List ℕ} (stop sg : Bool) {c : Cursor}
   )
 
 module _ {X t : List ℕ} {n : ℕ} {K : List ℕ} (stop sg : Bool) {c : Cursor} {e : ℕ} {x : List ℕ} (deep : c.depth < 256) where
-  pub script-nothing : {L y : List ℕ} {a b : Cursor} → a ≡ inner (seen n c) → test_at t K n (heads_kind sg) c.pos ≡ false → Term X t n K L stop sg a e x y (Nothing b) → ScriptFunc X t n K L stop sg c e x y (Nothing (at_depth c.depth b))
+  pub script-nothing : {L y : List ℕ} {a b : Cursor} → a ≡ inner (seen n c) → test_at t K n (heads_kind sg) c.pos ≡ false → Term X t n K L stop sg a e x y (Err b) → ScriptFunc X t n K L stop sg c e x y (Err (at_depth c.depth b))
   unfolding next_script_func
-  script-nothing {L} {y} {a} {b} ha h p₀ = let p = subst (λ (w : Cursor). Term X t n K L stop sg w e x y (Nothing b)) ha p₀ in (
+  script-nothing {L} {y} {a} {b} ha h p₀ = let p = subst (λ (w : Cursor). Term X t n K L stop sg w e x y (Err b)) ha p₀ in (
     record { within = p.0.within; on = p.0.on; depth = refl; room = omega (arith, p.0.room); long = p.0.long; kept = p.0.kept; known = p.0.known },
     λ I s at.
         let r = passed (heads_kind sg) at (same-heads sg) h in
@@ -114,9 +115,9 @@ module _ {X t : List ℕ} {n : ℕ} {K : List ℕ} (stop sg : Bool) {c : Cursor}
         record { state = q.state; runs = script-runs c.depth stop sg deep I s (bind _ _ s r.runs ∙ q.runs); at = q.at; tree = q.tree },
   )
 
-  pub script-term : {L y : List ℕ} {a b : Cursor} {E : ℕ} {f : Bool} → a ≡ inner (seen n c) → test_at t K n (heads_kind sg) c.pos ≡ false → Term X t n K L stop sg a e x y (Found b E f) → ScriptFunc X t n K L stop sg c e x y (Found (at_depth c.depth b) E f)
+  pub script-term : {L y : List ℕ} {a b : Cursor} {E : ℕ} {f : Bool} → a ≡ inner (seen n c) → test_at t K n (heads_kind sg) c.pos ≡ false → Term X t n K L stop sg a e x y (Ok (record { cur = b; end = E; ends = f })) → ScriptFunc X t n K L stop sg c e x y (Ok (record { cur = at_depth c.depth b; end = E; ends = f }))
   unfolding next_script_func
-  script-term {L} {y} {a} {b} {E} {f} ha h p₀ = let p = subst (λ (w : Cursor). Term X t n K L stop sg w e x y (Found b E f)) ha p₀ in (
+  script-term {L} {y} {a} {b} {E} {f} ha h p₀ = let p = subst (λ (w : Cursor). Term X t n K L stop sg w e x y (Ok (record { cur = b; end = E; ends = f }))) ha p₀ in (
     record { within = p.0.within; on = p.0.on; depth = refl; room = p.0.room; long = p.0.long; kept = p.0.kept; known = p.0.known },
     λ I s at.
         let r = passed (heads_kind sg) at (same-heads sg) h in
@@ -125,7 +126,7 @@ module _ {X t : List ℕ} {n : ℕ} {K : List ℕ} (stop sg : Bool) {c : Cursor}
   )
 
   pub script-headed : {L y : List ℕ} {g : Part} → test_at t K n (heads_kind sg) c.pos ≡ true
-      → Headed X t n K L c.pos stop (inner (onward c)) e x y g → ScriptFunc X t n K L stop sg c e x y (Found (at_depth c.depth g.cur) g.end g.ends)
+      → Headed X t n K L c.pos stop (inner (onward c)) e x y g → ScriptFunc X t n K L stop sg c e x y (Ok (part_at c.depth g))
   unfolding next_script_func
   script-headed {L} {y} {g} h p =
       let b : c.pos < n = test_below t K n (heads_kind sg) c.pos h in (
@@ -138,8 +139,8 @@ module _ {X t : List ℕ} {n : ℕ} {K : List ℕ} (stop sg : Bool) {c : Cursor}
 
 pub script-back : (X t : List ℕ) (n : ℕ) (K L : List ℕ) (stop sg : Bool) (a c : Cursor) (e : ℕ) (x y : List ℕ) (r : Step) → c.depth < 256 → a ≡ inner (seen n c) → test_at t K n (heads_kind sg) c.pos ≡ false
     → Term X t n K L stop sg a e x y r → ScriptFunc X t n K L stop sg c e x y (step_at c.depth r)
-script-back X t n K L stop sg a c e x y (Nothing b) deep ha h p = script-nothing stop sg deep ha h p
-script-back X t n K L stop sg a c e x y (Found b E f) deep ha h p = script-term stop sg deep ha h p
+script-back X t n K L stop sg a c e x y (Err b) deep ha h p = script-nothing stop sg deep ha h p
+script-back X t n K L stop sg a c e x y (Ok g) deep ha h p = script-term stop sg deep ha h p
 
 -- a function with its scripts and its argument; a sign with its argument
 module _ {X t : List ℕ} {n : ℕ} {K : List ℕ} (i : ℕ) (stop : Bool) {c : Cursor} {e : ℕ} {x : List ℕ} (inside : i < n) (room : e + 18 + 32 * (n - c.pos) ≤ length x) where
@@ -186,15 +187,15 @@ module _ {X t : List ℕ} {n : ℕ} {K : List ℕ} (i : ℕ) (stop : Bool) {c : 
 
 -- items
 module _ {X t : List ℕ} {n : ℕ} {K : List ℕ} (stop sg : Bool) {c : Cursor} {e : ℕ} {x : List ℕ} (room : e + 7 + 32 * (n - c.pos) ≤ length x) where
-  pub item-nothing : {L y : List ℕ} {b : Cursor} → ScriptFunc X t n K L stop sg c (e + 1) x y (Nothing b) → Intermediate X t n K L stop sg c e x y (Nothing b)
+  pub item-nothing : {L y : List ℕ} {b : Cursor} → ScriptFunc X t n K L stop sg c (e + 1) x y (Err b) → Intermediate X t n K L stop sg c e x y (Err b)
   unfolding next_intermediate
   item-nothing p = (
     record { within = p.0.within; on = p.0.on; depth = p.0.depth; room = omega (arith, p.0.on); long = p.0.long; kept = p.0.kept; known = p.0.known },
     λ I s at. let q = p.1 I s at in record { state = q.state; runs = bind _ _ s q.runs ∙ ret _ _; at = q.at; tree = back e q.tree (omega arith) (omega arith) },
   )
 
-  pub item-plain : {L y z : List ℕ} {b : Cursor} {E : ℕ} {f : Bool} → ScriptFunc X t n K L stop sg c (e + 1) x y (Found b E f) → test_at t L n (is_kind 0) b.pos ≡ false → z ≡ sets y e (0 ∷ [])
-      → Intermediate X t n K L stop sg c e x z (Found (seen n b) E f)
+  pub item-plain : {L y z : List ℕ} {b : Cursor} {E : ℕ} {f : Bool} → ScriptFunc X t n K L stop sg c (e + 1) x y (Ok (record { cur = b; end = E; ends = f })) → test_at t L n (is_kind 0) b.pos ≡ false → z ≡ sets y e (0 ∷ [])
+      → Intermediate X t n K L stop sg c e x z (Ok (record { cur = seen n b; end = E; ends = f }))
   unfolding next_intermediate
   item-plain {L} {y} {z} {b} {E} {f} p h hz = (
     record { within = p.0.within; on = p.0.on; depth = p.0.depth; room = omega (arith, p.0.room); long = ap length hz ∙ length-sets y e (0 ∷ []) ∙ p.0.long; kept = p.0.kept; known = p.0.known },
@@ -211,8 +212,8 @@ module _ {X t : List ℕ} {n : ℕ} {K : List ℕ} (stop sg : Bool) {c : Cursor}
         },
   )
 
-  pub item-over : {L J y z w : List ℕ} {b : Cursor} {E : ℕ} {f : Bool} {g : Part} → ScriptFunc X t n K L stop sg c (e + 1) x y (Found b E f) → test_at t L n (is_kind 0) b.pos ≡ true → z ≡ sets y e (1 ∷ [])
-      → Operand X t n L J false (onward b) E z w g → Intermediate X t n K J stop sg c e x w (Found g.cur g.end g.ends)
+  pub item-over : {L J y z w : List ℕ} {b : Cursor} {E : ℕ} {f : Bool} {g : Part} → ScriptFunc X t n K L stop sg c (e + 1) x y (Ok (record { cur = b; end = E; ends = f })) → test_at t L n (is_kind 0) b.pos ≡ true → z ≡ sets y e (1 ∷ [])
+      → Operand X t n L J false (onward b) E z w g → Intermediate X t n K J stop sg c e x w (Ok g)
   unfolding next_intermediate encode_item encodes ends_operand look ends_first ends_second
   item-over {L} {J} {y} {z} {w} {b} {E} {f} {g} p h hz p2 =
       let l : b.pos < n = test_below t L n (is_kind 0) b.pos h in (

@@ -13,11 +13,12 @@ use Rattle.tree.specs.Words.{encode, encodes, encode_item, encode_items}
 use Rattle.reading.specs.Stop.{Stop}
 use Rattle.reading.specs.Entries.{Entry}
 use Rattle.reading.specs.Reading.{State, level, intermediates, unscripted, prefixes, parse, last_of}
-use Rattle.parse.specs.declared.cursor.Cursor.{Cursor}
+use Rattle.reading_cursor.specs.declared.Cursor.{Cursor}
 use Rattle.parse.specs.declared.cursor.Items.{Items}
 use Rattle.records.specs.Record.{after_close, sep_of, marks_of, kind_of, start_of, len_of, InHalf, Whole, with_close, with_sep, Kept}
 use Rattle.lookahead.specs.Tests.{test_at, is_kind}
-use Rattle.parse.specs.Meet.{Intermediates, onward, seen}
+use Rattle.parse.specs.Meet.{Intermediates}
+use Rattle.reading_cursor.specs.Moves.{onward, seen}
 use Rattle.lookahead.proofs.Testing.{test_below}
 use Rattle.stores.proofs.Stores.{close-length, close-same, close_other, place-of_close, sep-of_close, marks-of_close, sep-length, sep-same, sep-other, place-of_sep, close-of_sep, marks-of_sep}
 use Rattle.parse.proofs.Whole.{whole-items}

@@ -9,7 +9,7 @@ use lib.ListN.{length}
 use Rattle.tree.specs.Tree.{Node, count}
 use Rattle.tree.specs.Words.{encode_items}
 use Rattle.reading.specs.Reading.{State, prefixes}
-use Rattle.parse.specs.declared.cursor.Cursor.{Cursor}
+use Rattle.reading_cursor.specs.declared.Cursor.{Cursor}
 use Rattle.parse.specs.declared.cursor.Items.{Items}
 use Rattle.parse.specs.Meet.{Gives, Intermediates}
 use Rattle.reading_words.specs.Meet.{Input, At, last_after, is_none, items_at}

@@ -6,7 +6,7 @@ use mathlib.Core.Bool.{Bool}
 use native.Mathlib.Omega.{arith}
 use lib.ListN.{length, length-append, set, take, drop, replicate}
 use lib.Seq.{sets, length-sets, paste, take-paste, take-append-le, take_at, length-take-le}
-use Rattle.tree.specs.Tree.{Nodes, end, count}
+use Rattle.tree.specs.Tree.{Nodes}
 use Rattle.tree.specs.Words.{encode_items}
 use Rattle.reading.specs.Reading.{State}
 use Rattle.parse.specs.Buffer.{Wrote}
@@ -59,16 +59,14 @@ pub record Stage (t K : List ℕ) (n : ℕ) (ws : List Wrap) (x y : List ℕ) (i
   pub least : bound ≤ n
   pub tree : y ≡ sets x 0 (wraps_words t K done)
 
-pub record Putting (t K : List ℕ) (n : ℕ) (wraps last : ℕ) (x y : List ℕ) (i at k : ℕ) : Type 0 where
-  pub place : at ≡ 13 * k
+pub record Putting (t K : List ℕ) (n : ℕ) (wraps last : ℕ) (x y : List ℕ) (i k : ℕ) : Type 0 where
   pub within : k ≤ wraps
   pub long : length y ≡ length x
   pub along : (p : Noted n t K wraps last) → Stage t K n p.list x y i k
 
-pub putting-none : (t K : List ℕ) (n wraps last : ℕ) (x : List ℕ) → Putting t K n wraps last x x last 0 0
+pub putting-none : (t K : List ℕ) (n wraps last : ℕ) (x : List ℕ) → Putting t K n wraps last x x last 0
 unfolding wraps_words
 putting-none t K n wraps last x = record {
-  place = omega arith;
   within = omega arith;
   long = refl;
   along = λ p. record { done = []; rest = p.list; bound = n; joined = refl; number = refl; chain = p.chain; least = omega arith; tree = refl };
@@ -101,19 +99,18 @@ next_of {t} {K} {n} {ws} {x} {y} {i} {k} d (w ∷ r) b j h c l e s =
       };
     }
 
-pub next-wrap : {t K : List ℕ} {n wraps last : ℕ} {x y : List ℕ} {i at k : ℕ} → Putting t K n wraps last x y i at k → k < wraps → (p : Noted n t K wraps last) → Next t K n p.list x y i k
+pub next-wrap : {t K : List ℕ} {n wraps last : ℕ} {x y : List ℕ} {i k : ℕ} → Putting t K n wraps last x y i k → k < wraps → (p : Noted n t K wraps last) → Next t K n p.list x y i k
 next-wrap v h p = let a = v.along p in next_of a.done a.rest a.bound a.joined a.number a.chain a.least a.tree (omega (arith, p.number))
 
-pub putting-more : {t K : List ℕ} {n wraps last : ℕ} {x y z : List ℕ} {i at k j : ℕ} → Putting t K n wraps last x y i at k → k < wraps → z ≡ sets y at (wrap_words (sep_of K i) (start_of t K i) (len_of t K i)) → j ≡ after_close K i
-    → Putting t K n wraps last x z j (at + 13) (k + 1)
-putting-more {t} {K} {n} {x = x} {y} {i = i} {at} {k} v h hz hj = rw (hz, hj, v.place) (record {
-  place = omega arith;
+pub putting-more : {t K : List ℕ} {n wraps last : ℕ} {x y z : List ℕ} {i k j : ℕ} → Putting t K n wraps last x y i k → k < wraps → z ≡ sets y (13 * k) (wrap_words (sep_of K i) (start_of t K i) (len_of t K i)) → j ≡ after_close K i
+    → Putting t K n wraps last x z j (k + 1)
+putting-more {t} {K} {n} {x = x} {y} {i = i} {k} v h hz hj = rw (hz, hj) (record {
   within = omega arith;
   long = length-sets y (13 * k) (wrap_words (sep_of K i) (start_of t K i) (len_of t K i)) ∙ v.long;
   along = λ p. (next-wrap v h p).step;
 })
 
-pub putting-all : {t K : List ℕ} {n wraps last : ℕ} {x y : List ℕ} {i at k : ℕ} → Putting t K n wraps last x y i at k → wraps ≤ k → (p : Noted n t K wraps last) → y ≡ sets x 0 (wraps_words t K p.list)
+pub putting-all : {t K : List ℕ} {n wraps last : ℕ} {x y : List ℕ} {i k : ℕ} → Putting t K n wraps last x y i k → wraps ≤ k → (p : Noted n t K wraps last) → y ≡ sets x 0 (wraps_words t K p.list)
 putting-all {t} {K} {x = x} {k = k} v h p =
     let a = v.along p in
     a.tree ∙ ap (λ (w : List Wrap). sets x 0 (wraps_words t K w)) (sym (a.joined ∙ ends a.done a.rest (omega (arith, ap length a.joined, length-append a.done a.rest, p.number, a.number))))

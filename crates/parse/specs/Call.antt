@@ -1,5 +1,5 @@
 -- The calls on a text and on a token list: what they answer, and what they leave in the lent buffers.
-use Rattle.std.specs.Prelude.{true, false, List, [], ◌∷◌, ◌++◌, ℕ, ◌-◌, ◌*◌, ltb, length, drop, replicate}
+use Rattle.std.specs.Prelude.{true, false, List, [], ◌∷◌, ◌++◌, ℕ, ◌-◌, ◌*◌, ltb, length, drop, replicate, Result}
 use Rattle.std.proofs.Math.Option.{Option, none, some}
 use Rattle.tokens.specs.Lexeme.{Lexeme}
 use Rattle.lexing.specs.Rules.{tokens}
@@ -8,19 +8,23 @@ use Rattle.tokens.specs.Refusals.{Answer, accepted, refused, text_refusal, list_
 use Rattle.tree.specs.Tree.{count}
 use Rattle.tree.specs.Words.{encode_items}
 use Rattle.reading.specs.Reading.{read_tokens, blank}
+use Rattle.refusals.specs.declared.refusal.Refusal.{Refusal}
+use Rattle.refusals.specs.Refusal.{answered}
 use Rattle.parse.specs.declared.Parsed.{Parsed}
-use Rattle.parse.specs.declared.Parsed.TheVariants as parsed
 use Rattle.parse.specs.declared.ParsedTokens.{ParsedTokens}
-use Rattle.parse.specs.declared.ParsedTokens.TheVariants as list
 
 -- The code's answers in the words of document 01. Blank is 1 or 0.
-abbrev pub answer_of : Parsed → Answer
-answer_of (parsed.Read tokens takes items blank) = accepted (tokens ∷ takes ∷ items ∷ bit blank ∷ [])
-answer_of (parsed.Refused k) = refused k
+abbrev pub text_values : Parsed → List ℕ
+text_values read = read.tokens ∷ read.takes ∷ read.items ∷ bit read.blank ∷ []
 
-abbrev pub list_answer_of : ParsedTokens → Answer
-list_answer_of (list.Read takes items blank) = accepted (takes ∷ items ∷ bit blank ∷ [])
-list_answer_of (list.Refused k) = refused k
+abbrev pub answer_of : Result Parsed Refusal → Answer
+answer_of r = answered text_values r
+
+abbrev pub list_values : ParsedTokens → List ℕ
+list_values read = read.takes ∷ read.items ∷ bit read.blank ∷ []
+
+abbrev pub list_answer_of : Result ParsedTokens Refusal → Answer
+list_answer_of r = answered list_values r
 
 -- The definitions go by the words of work that an entry has, `entry_words` now and four before: "Two words a token, 2 × (n + 1) in all,
 -- must do for what four did". Only refusal 8 uses them (proofs/HalfWords.antt).

@@ -3,13 +3,13 @@ use Rattle.std.specs.Prelude.{ℕ, zero, suc, ◌+◌, ◌-◌, ◌*◌, ◌≤�
 use Rattle.std.proofs.Math.Option.{Option, none, some}
 use Rattle.std.proofs.Math.ListN.{get_elem?}
 use Rattle.tokens.specs.declared.token.Token.TheVariants as token
-use Rattle.tree.specs.Tree.{Nodes, end, count}
+use Rattle.tree.specs.Tree.{Nodes, count}
 use Rattle.tree.specs.Words.{encodes}
 use Rattle.reading.specs.Entries.{Entry, is}
 use Rattle.reading.specs.Reading.{State, M, return, ◌>>=◌, when◌then◌else◌, here, is_at, any, advance, Row, Rows, row_brackets, alike}
-use Rattle.parse.specs.declared.cursor.Cursor.{Cursor}
-use Rattle.parse.specs.declared.cursor.Close.{Close}
-use Rattle.parse.specs.declared.cursor.Close.TheVariants as close
+use Rattle.reading_cursor.specs.declared.Cursor.{Cursor}
+use Rattle.std.specs.declared.option.Option as rust
+use Rattle.std.specs.declared.option.Option.TheVariants.{Some, None}
 use Rattle.parse.specs.declared.cursor.Cells.{Cells}
 use Rattle.parse.specs.declared.cursor.Why.{Why}
 use Rattle.parse.specs.declared.cursor.Why.TheVariants as why
@@ -82,9 +82,9 @@ module _ (X t : List ℕ) (n : ℕ) where
     pub all : columns.Cells k cells
     pub tree : Wrote x e y E (encodes cells)
 
-  abbrev pub RowCells' : List ℕ → List ℕ → Cursor → ℕ → List ℕ → List ℕ → ℕ → Cursor → ℕ → Close → Type 0
-  RowCells' K L c e x y k d E (close.At q) = Filled X t n K L c e x y k d E × (1 ≤ k) × (q < n) × Each X t n K c (λ I s. HasCells L (cells_at c.depth I) I s e x y q k d E)
-  RowCells' K L c e x y k d E close.Broken = Broke X t n K L c e x y d × Each X t n K c (λ I s. Fails L (cells_at c.depth I) I s e x y d)
+  abbrev pub RowCells' : List ℕ → List ℕ → Cursor → ℕ → List ℕ → List ℕ → ℕ → Cursor → ℕ → rust.Option ℕ → Type 0
+  RowCells' K L c e x y k d E (Some q) = Filled X t n K L c e x y k d E × (1 ≤ k) × (q < n) × Each X t n K c (λ I s. HasCells L (cells_at c.depth I) I s e x y q k d E)
+  RowCells' K L c e x y k d E None = Broke X t n K L c e x y d × Each X t n K c (λ I s. Fails L (cells_at c.depth I) I s e x y d)
 
   abbrev pub RowCells : List ℕ → List ℕ → Cursor → ℕ → List ℕ → List ℕ → Cells → Type 0
   RowCells K L c e x y g = RowCells' K L c e x y g.count g.cur g.end g.close
@@ -101,9 +101,9 @@ module _ (X t : List ℕ) (n : ℕ) where
     pub all : columns.Cells k row.cells
     pub tree : Wrote x e y E (encodes row.cells)
 
-  abbrev pub MatrixRow' : List ℕ → List ℕ → Cursor → ℕ → List ℕ → List ℕ → ℕ → Cursor → ℕ → Close → Type 0
-  MatrixRow' K L c e x y k d E (close.At q) = Filled X t n K L c e x y k d E × (1 ≤ k) × (c.pos < n) × (q < n) × Each X t n K c (λ I s. HasRow L (row_at c.depth I) I s e x y c.pos q k d E)
-  MatrixRow' K L c e x y k d E close.Broken = Broke X t n K L c e x y d × Each X t n K c (λ I s. Fails L (row_at c.depth I) I s e x y d)
+  abbrev pub MatrixRow' : List ℕ → List ℕ → Cursor → ℕ → List ℕ → List ℕ → ℕ → Cursor → ℕ → rust.Option ℕ → Type 0
+  MatrixRow' K L c e x y k d E (Some q) = Filled X t n K L c e x y k d E × (1 ≤ k) × (c.pos < n) × (q < n) × Each X t n K c (λ I s. HasRow L (row_at c.depth I) I s e x y c.pos q k d E)
+  MatrixRow' K L c e x y k d E None = Broke X t n K L c e x y d × Each X t n K c (λ I s. Fails L (row_at c.depth I) I s e x y d)
 
   abbrev pub MatrixRow : List ℕ → List ℕ → Cursor → ℕ → List ℕ → List ℕ → Cells → Type 0
   MatrixRow K L c e x y g = MatrixRow' K L c e x y g.count g.cur g.end g.close

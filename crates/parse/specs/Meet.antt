@@ -1,23 +1,21 @@
 -- What the readers' contracts say: what a call needs, and how its answer and the tree's words meet the definition's reading. X is
 -- the text, t the words of the token table, n the number of entries; K and L are the work words before and after, x and y the
 -- tree's.
-use Rattle.std.specs.Prelude.{ℕ, ◌+◌, ◌-◌, ◌*◌, ◌≤◌, ◌≡◌, List, [], ◌∷◌, Bool, true, cond, length, eqb, ltb}
+use Rattle.std.specs.Prelude.{ℕ, ◌+◌, ◌-◌, ◌*◌, ◌≤◌, ◌≡◌, List, [], ◌∷◌, Bool, true, cond, length, eqb, Result, Ok, Err}
 use Rattle.std.proofs.Math.Option.{Option, none, some}
 use Rattle.std.proofs.Math.ListN.{get_elem?}
 use Rattle.tree.specs.Tree.{Head, Prefix, Node, node, end, ◌▸◌, count, one}
 use Rattle.tree.specs.Words.{encode, encodes, encode_item, encode_items, script_number}
 use Rattle.reading.specs.Entries.{Entry}
-use Rattle.reading.specs.Reading.{State, M, return, ◌>>=◌, Scripted, argument, next_open_group, try_matrix, begun, or_missing, or_missing_part, ends_operand, prefixes}
-use Rattle.parse.specs.declared.cursor.Cursor.{Cursor}
-use Rattle.parse.specs.declared.cursor.Step.{Step}
-use Rattle.parse.specs.declared.cursor.Step.TheVariants.{Found, Nothing}
+use Rattle.reading.specs.Reading.{State, M, return, ◌>>=◌, argument, next_open_group, try_matrix, begun, or_missing, or_missing_part, ends_operand, prefixes}
+use Rattle.reading_cursor.specs.declared.Cursor.{Cursor}
 use Rattle.parse.specs.declared.cursor.Part.{Part}
 use Rattle.parse.specs.declared.cursor.Scripted as code
 use Rattle.parse.specs.declared.cursor.Items.{Items}
 use Rattle.parse.specs.declared.cursor.Gap.{Gap}
 use Rattle.parse.specs.Buffer.{Wrote}
 use Rattle.nodes.specs.Nodes.{gap_words, gap_items}
-use Rattle.lookahead.specs.Takes.{taken, looked}
+use Rattle.reading_cursor.specs.Moves.{at_depth}
 use Rattle.records.specs.Record.{Kept}
 use Rattle.reading_words.specs.Entry.{Safe}
 use Rattle.reading_words.specs.Meet.{Input, stop_of, At, Known, readers, last_after, is_none, Until, simple_at, script_func_at, intermediate_at, script_at, items_from, term_at, headed_at, bars_at, bracket_at}
@@ -39,6 +37,10 @@ pub record Moves (X t : List ℕ) (gain more spare n : ℕ) (K L : List ℕ) (c 
   pub long : length y ≡ length x
   pub kept : Kept K L
   pub known : Known X t n L
+
+-- What a reader answers that may find no node: the node, or where the cursor stands.
+abbrev pub Step : Type 0
+Step = Result Part Cursor
 
 -- The flag says whether the node ends an operand; a scripted part is no fraction besides.
 abbrev pub Ending : Bool → Node → Type 0
@@ -100,8 +102,8 @@ module _ (X t : List ℕ) (n : ℕ) where
     pub means : Each K c (λ I s. Gives L (m I) words also I s e x y d E)
 
   abbrev pub Met : List ℕ → List ℕ → ℕ → (Input → M (Option Node)) → (Node → List ℕ) → (Bool → Node → Type 0) → Cursor → ℕ → List ℕ → List ℕ → Step → Type 0
-  Met K L spare m words also c e x y (Found d E f) = Moves X t 1 0 spare n K L c e x y d E × Each K c (λ I s. Finds L (m I) words also I s e x y d E f)
-  Met K L spare m words also c e x y (Nothing d) = Moves X t 0 0 0 n K L c e x y d e × Each K c (λ I s. Misses L (m I) I s e x y d)
+  Met K L spare m words also c e x y (Ok g) = Moves X t 1 0 spare n K L c e x y g.cur g.end × Each K c (λ I s. Finds L (m I) words also I s e x y g.cur g.end g.ends)
+  Met K L spare m words also c e x y (Err d) = Moves X t 0 0 0 n K L c e x y d e × Each K c (λ I s. Misses L (m I) I s e x y d)
 
   -- What the entry i begins, which the reader has just taken.
   abbrev pub EachOf : List ℕ → ℕ → Cursor → (Input → State → Entry → Type 0) → Type 0
@@ -112,8 +114,8 @@ module _ (X t : List ℕ) (n : ℕ) where
     pub means : EachOf K i c (λ I s en. Gives L (m I en) (words en) (also en) I s e x y d E)
 
   abbrev pub MetOf : List ℕ → List ℕ → ℕ → ℕ → (Input → Entry → M (Option Node)) → Cursor → ℕ → List ℕ → List ℕ → Step → Type 0
-  MetOf K L more i m c e x y (Found d E f) = Moves X t 1 more 0 n K L c e x y d E × EachOf K i c (λ I s en. Finds L (m I en) encode Ending I s e x y d E f)
-  MetOf K L more i m c e x y (Nothing d) = Moves X t 0 0 0 n K L c e x y d e × EachOf K i c (λ I s en. Misses L (m I en) I s e x y d)
+  MetOf K L more i m c e x y (Ok g) = Moves X t 1 more 0 n K L c e x y g.cur g.end × EachOf K i c (λ I s en. Finds L (m I en) encode Ending I s e x y g.cur g.end g.ends)
+  MetOf K L more i m c e x y (Err d) = Moves X t 0 0 0 n K L c e x y d e × EachOf K i c (λ I s en. Misses L (m I en) I s e x y d)
 
   -- The readers' contracts. A simple expression leaves 14 of its tokens' words: 6 for the part around it, 1 for the item, 7 for a
   -- Space before it; so a part leaves 8, an item 7. Missing has no token: 6 words, 12 as a part.
@@ -176,26 +178,10 @@ pub record Gapped (t K : List ℕ) (n : ℕ) (first : Bool) (i e : ℕ) (x y : L
   pub few : g.items ≤ 1
   pub short : g.end ≤ e + 7
 
--- The cursor's moves.
-abbrev pub onward : Cursor → Cursor
-onward c = record { pos = c.pos + 1; depth = c.depth; takes = taken c.takes }
-
-abbrev pub seen : ℕ → Cursor → Cursor
-seen n c = record { pos = c.pos; depth = c.depth; takes = looked n c.pos c.takes }
-
-unfoldable pub passing : ℕ → Cursor → Cursor
-passing n c = cond (ltb c.pos n) (onward c) c
-
-abbrev pub inner : Cursor → Cursor
-inner c = record { pos = c.pos; depth = c.depth + 1; takes = c.takes }
-
-abbrev pub at_depth : ℕ → Cursor → Cursor
-at_depth d c = record { pos = c.pos; depth = d; takes = c.takes }
-
-abbrev pub rewound : ℕ → Cursor → Cursor
-rewound p c = record { pos = p; depth = c.depth; takes = c.takes }
-
 -- The same answer in the reader of that depth.
+abbrev pub part_at : ℕ → Part → Part
+part_at d g = record { cur = at_depth d g.cur; end = g.end; ends = g.ends }
+
 abbrev pub step_at : ℕ → Step → Step
-step_at d (Found c E f) = Found (at_depth d c) E f
-step_at d (Nothing c) = Nothing (at_depth d c)
+step_at d (Ok g) = Ok (part_at d g)
+step_at d (Err c) = Err (at_depth d c)

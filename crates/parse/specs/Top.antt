@@ -69,3 +69,7 @@ pub record Reads (I : Input) (m : List Bool) (len : ℕ) (y : List ℕ) (r : Rea
   pub tree : y ≡ encode_items (read_from I m).0 ++ replicate (len - r.end) 0
   pub items : r.items ≡ count (read_from I m).0
   pub takes : r.takes ≡ (read_from I m).1.takes % 2 ^ 32
+
+-- The same of each input and its marks.
+abbrev pub ReadsEach : (n : ℕ) (X t K : List ℕ) (len : ℕ) (y : List ℕ) (r : Reading) → Type 0
+ReadsEach n X t K len y r = (I : Input) → Given X t n K I → (m : List Bool) → Marks n K m → Reads I m len y r

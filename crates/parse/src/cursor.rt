@@ -1,105 +1,10 @@
-// Where a reader stands, and what readers answer.
-ghost use Rattle.std.specs.Prelude.{◌≡◌, true, cond, ◌≤◌, ◌<◌};
-ghost use Rattle.parse.specs.Meet.{onward, seen, passing, inner, at_depth, rewound, step_at};
-ghost use Rattle.parse.specs.declared.cursor.Step.TheVariants.{Found};
+// What the readers answer.
+ghost use Rattle.std.specs.Prelude.{◌≡◌};
+ghost use Rattle.parse.specs.Meet.{part_at, step_at};
 
-use lookahead::takes::{count_look, count_take};
+use reading_cursor::Cursor;
 
-// The position, the depth of the readers, and the takes so far, counted round 2^32.
-#[derive(Clone, Copy)]
-pub(crate) struct Cursor {
-    pub pos: u16,
-    pub depth: u16,
-    pub takes: u32,
-}
-
-impl Cursor {
-    // Past the next token.
-    pub(crate) fn next(self) -> Cursor
-        requires { self.pos < 4096 }
-        ensures { result ≡ onward self }
-    {
-        Cursor {
-            pos: self.pos + 1,
-            depth: self.depth,
-            takes: count_take(self.takes),
-        }
-    }
-
-    // A look at the next token, counted if there is one.
-    pub(crate) fn look(self, n: usize) -> Cursor
-        ensures { result ≡ seen n self }
-    {
-        Cursor {
-            pos: self.pos,
-            depth: self.depth,
-            takes: count_look(self.takes, n, self.pos as usize),
-        }
-    }
-
-    // Past the next token, if there is one.
-    pub(crate) fn over(self, n: usize) -> Cursor
-        requires { n ≤ 4096 }
-        ensures { result ≡ passing n self }
-    {
-        if (self.pos as usize) < n {
-            self.next()
-        } else {
-            self
-        }
-    }
-
-    // Past the next token, if it is taken; else a look at it.
-    pub(crate) fn past(self, n: usize, taken: bool) -> Cursor
-        requires { taken ≡ true → self.pos < 4096 }
-        ensures { result ≡ cond taken (onward self) (seen n self) }
-    {
-        if taken { self.next() } else { self.look(n) }
-    }
-
-    // One reader deeper.
-    pub(crate) fn deeper(self) -> Cursor
-        requires { self.depth < 256 }
-        ensures { result ≡ inner self }
-    {
-        Cursor {
-            pos: self.pos,
-            depth: self.depth + 1,
-            takes: self.takes,
-        }
-    }
-
-    // Back in the reader of that depth.
-    pub(crate) fn at_depth(self, depth: u16) -> Cursor
-        ensures { result ≡ at_depth depth self }
-    {
-        Cursor {
-            pos: self.pos,
-            depth: depth,
-            takes: self.takes,
-        }
-    }
-
-    // Back at the position `pos`, the takes being kept.
-    pub(crate) fn rewind(self, pos: u16) -> Cursor
-        ensures { result ≡ rewound pos self }
-    {
-        Cursor {
-            pos: pos,
-            depth: self.depth,
-            takes: self.takes,
-        }
-    }
-}
-
-// A node was read, up to the word `end`, and whether it ends an operand; or none was there.
-#[derive(Clone, Copy)]
-pub(crate) enum Step {
-    Found(Cursor, usize, bool),
-    Nothing(Cursor),
-}
-
-// A node: the words end at `end`.
+// A node, up to the word `end`, and whether it ends an operand.
 #[derive(Clone, Copy)]
 pub(crate) struct Part {
     pub cur: Cursor,
@@ -107,27 +12,33 @@ pub(crate) struct Part {
     pub ends: bool,
 }
 
-impl Step {
+impl Part {
     // The same, back in the reader of that depth.
-    pub(crate) fn at_depth(self, depth: u16) -> Step
-        ensures { result ≡ step_at depth self }
+    pub(crate) fn at_depth(self, depth: u16) -> Part
+        ensures { result ≡ part_at depth self }
     {
-        match self {
-            Step::Found(d, e, f) => Step::Found(d.at_depth(depth), e, f),
-            Step::Nothing(d) => Step::Nothing(d.at_depth(depth)),
+        Part {
+            cur: self.cur.at_depth(depth),
+            ..self
         }
     }
 }
 
-// The node was read, back in the reader of that depth.
-pub(crate) fn found(g: Part, depth: u16) -> Step
-    ensures { result ≡ Found (at_depth depth g.cur) g.end g.ends }
+// A node was read; or none was there, and the cursor stands here.
+pub(crate) type Step = Result<Part, Cursor>;
+
+// The same, back in the reader of that depth.
+pub(crate) fn back(s: Step, depth: u16) -> Step
+    ensures { result ≡ step_at depth s }
 {
-    let gc = g.cur;
-    Step::Found(gc.at_depth(depth), g.end, g.ends)
+    match s {
+        Ok(g) => Ok(g.at_depth(depth)),
+        Err(d) => Err(d.at_depth(depth)),
+    }
 }
 
 // A script's number and its arguments.
+// kept: the numbers of scripts, kinds and classes are words of the tree, the C interface (docs/LAYOUT.md)
 #[derive(Clone, Copy)]
 pub(crate) struct Scripted {
     pub cur: Cursor,
@@ -144,27 +55,21 @@ pub(crate) struct Items {
     pub sign: bool,
 }
 
-// The Space before an item: the end of its words, and 1 if it is kept.
+// The Space before an item: the end of its words, and how many items it makes, 1 if it is kept.
+// kept: a count, which is added to the items' count, so a bool would be turned into it at each use
 #[derive(Clone, Copy)]
 pub(crate) struct Gap {
     pub end: usize,
     pub items: u32,
 }
 
-// How a row ended: at the closing bracket of that entry, or broken off.
-#[derive(Clone, Copy)]
-pub(crate) enum Close {
-    At(usize),
-    Broken,
-}
-
-// A row's cells.
+// A row's cells, and the entry of its closing bracket; none, if the row broke off.
 #[derive(Clone, Copy)]
 pub(crate) struct Cells {
     pub cur: Cursor,
     pub end: usize,
     pub count: usize,
-    pub close: Close,
+    pub close: Option<usize>,
 }
 
 // Why the rows ended: all are read, one differs from the first, or one is broken off.

@@ -3,29 +3,31 @@ ghost use Rattle.std.specs.Prelude.{◌≡◌, [], ◌∷◌, ◌+◌, ◌≤◌
 ghost use Rattle.std.proofs.lemmas.List.Edits.{sets};
 ghost use Rattle.records.specs.Record.{kind_of};
 ghost use Rattle.leaves.specs.Leaves.{leaf_words, leaf_ends};
-ghost use Rattle.parse.specs.Meet.{onward, seen};
+ghost use Rattle.reading_cursor.specs.Moves.{onward, seen};
 
-use crate::cursor::{Cursor, Part};
+use crate::cursor::Part;
 use leaves::{leaf_ends, put_plain};
+use lookahead::list::List;
+use reading_cursor::Cursor;
 use records::record::kind_at;
 
 // Its readers look for a head, take the leaf, and look for a script and for a fraction.
 pub(crate) fn plain_item(
-    tok: &[u32],
+    list: &List<'_>,
     work: &[u32],
-    n: usize,
     tree: &mut [u32],
     c: Cursor,
     e: usize,
 ) -> Part
     requires pos_bound { c.pos < 4096 }
     requires e_in_bounds { e + 13 ≤ length tree.old }
-    ensures value { result ≡ record { cur = seen n (seen n (onward (seen n c))); end = e + 13; ends = leaf_ends (kind_of tok.now work.now c.pos) } }
-    ensures tree_after { tree.new ≡ sets (sets (sets tree.old (e + 7) (leaf_words tok.now work.now c.pos (kind_of tok.now work.now c.pos))) (e + 1) (13 ∷ 0 ∷ 0 ∷ 0 ∷ 0 ∷ 0 ∷ [])) e (0 ∷ []) }
+    ensures value { result ≡ record { cur = seen list.now.n (seen list.now.n (onward (seen list.now.n c))); end = e + 13; ends = leaf_ends (kind_of list.now.tok.now work.now c.pos) } }
+    ensures tree_after { tree.new ≡ sets (sets (sets tree.old (e + 7) (leaf_words list.now.tok.now work.now c.pos (kind_of list.now.tok.now work.now c.pos))) (e + 1) (13 ∷ 0 ∷ 0 ∷ 0 ∷ 0 ∷ 0 ∷ [])) e (0 ∷ []) }
 {
+    let n = list.n;
     let i = c.pos as usize;
-    let k = kind_at(tok, work, i);
-    put_plain(tok, work, tree, e, i, k);
+    let k = kind_at(list.tok, work, i);
+    put_plain(list, work, tree, e, i, k);
     Part {
         cur: c.look(n).next().look(n).look(n),
         end: e + 13,

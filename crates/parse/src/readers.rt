@@ -6,18 +6,16 @@ ghost use Rattle.parse.specs.Meet.{Ready, Simple, ScriptFunc, Intermediate, Argu
 ghost use Rattle.tree.specs.Words.{prefix_kind};
 ghost use Rattle.parse.specs.Matrix.{RowCells, MatrixRow, MoreRows, MatrixRows};
 
-use crate::cursor::{Cells, Close, Cursor, Items, Part, Rows, Scripted, Step, Why, found};
+use crate::cursor::{Cells, Items, Part, Rows, Scripted, Step, Why, back};
 use crate::plain::plain_item;
-use crate::tests::{choose, head_kind, head_stop, prefix_kind, scripted};
-use crate::write::{
-    leaf, node_before, put_group, put_matrix, put_space, put1, put6, split_column_lines,
-};
+use crate::tests::{head_kind, head_stop, prefix_kind, scripted};
+use crate::write::{leaf, node_before, put, put_group, put_matrix, put_space, split_column_lines};
 use brackets::{bar_at, could_be_matrix, makes_matrix};
 use lookahead::depth::too_deep;
-use lookahead::tests::{
-    begins_at, heads_at, is_at, is_over, is_plain, marks_at, opens, prefix_stop,
-};
+use lookahead::list::{List, choose};
+use lookahead::tests::{opens, prefix_stop};
 use marks::{MATRIX_MARK, failed_at, mark_failed, open_mark};
+use reading_cursor::Cursor;
 use records::record::kind_at;
 use rows::{is_pair, is_round};
 use tokens::kinds::{
@@ -27,29 +25,16 @@ use tree::kinds::{NODE_BINARY, NODE_CELL, NODE_MISSING, NODE_SIMPLE};
 
 // A simple expression, or Missing.
 #[cycle(readers)]
-fn arg(
-    text: &[u8],
-    tok: &[u32],
-    n: usize,
-    work: &mut [u32],
-    tree: &mut [u32],
-    c: Cursor,
-    e: usize,
-    stop: bool,
-) -> Part
-    requires { Ready 6 n text.now tok.now work.old tree.old c e }
-    ensures { Argument text.now tok.now n work.old work.new stop c e tree.old tree.new result }
+fn arg(list: &List<'_>, work: &mut [u32], tree: &mut [u32], c: Cursor, e: usize, stop: bool) -> Part
+    requires { Ready 6 list.now.n list.now.text.now list.now.tok.now work.old tree.old c e }
+    ensures { Argument list.now.text.now list.now.tok.now list.now.n work.old work.new stop c e tree.old tree.new result }
 {
-    match next_simple(text, tok, n, work, tree, c, e, stop, true) {
-        Step::Found(d, e1, f) => Part {
-            cur: d,
-            end: e1,
-            ends: f,
-        },
-        Step::Nothing(d) => {
-            put6(tree, e, NODE_MISSING, 0, 0, 0, 0, 0);
+    match next_simple(list, work, tree, c, e, stop, true) {
+        Ok(g) => g,
+        Err(cur) => {
+            put(tree, e, &[NODE_MISSING, 0, 0, 0, 0, 0]);
             Part {
-                cur: d,
+                cur,
                 end: e + 6,
                 ends: false,
             }
@@ -60,29 +45,26 @@ fn arg(
 // A scripted part, or Missing.
 #[cycle(readers)]
 fn operand(
-    text: &[u8],
-    tok: &[u32],
-    n: usize,
+    list: &List<'_>,
     work: &mut [u32],
     tree: &mut [u32],
     c: Cursor,
     e: usize,
     stop: bool,
 ) -> Part
-    requires { Ready 12 n text.now tok.now work.old tree.old c e }
-    ensures { Operand text.now tok.now n work.old work.new stop c e tree.old tree.new result }
+    requires { Ready 12 list.now.n list.now.text.now list.now.tok.now work.old tree.old c e }
+    ensures { Operand list.now.text.now list.now.tok.now list.now.n work.old work.new stop c e tree.old tree.new result }
 {
-    match next_script_func(text, tok, n, work, tree, c, e, stop, true) {
-        Step::Found(d, e1, f) => Part {
-            cur: d,
-            end: e1,
-            ends: f,
-        },
-        Step::Nothing(d) => {
-            put6(tree, e, NODE_SIMPLE, 0, 0, 0, 0, 0);
-            put6(tree, e + 6, NODE_MISSING, 0, 0, 0, 0, 0);
+    match next_script_func(list, work, tree, c, e, stop, true) {
+        Ok(g) => g,
+        Err(cur) => {
+            put(
+                tree,
+                e,
+                &[NODE_SIMPLE, 0, 0, 0, 0, 0, NODE_MISSING, 0, 0, 0, 0, 0],
+            );
             Part {
-                cur: d,
+                cur,
                 end: e + 12,
                 ends: false,
             }
@@ -92,39 +74,30 @@ fn operand(
 
 // The scripts at the cursor.
 #[cycle(readers)]
-fn next_script(
-    text: &[u8],
-    tok: &[u32],
-    n: usize,
-    work: &mut [u32],
-    tree: &mut [u32],
-    c: Cursor,
-    e: usize,
-) -> Scripted
-    requires { Ready 0 n text.now tok.now work.old tree.old c e }
-    ensures { Scripts text.now tok.now n work.old work.new c e tree.old tree.new result }
+fn next_script(list: &List<'_>, work: &mut [u32], tree: &mut [u32], c: Cursor, e: usize) -> Scripted
+    requires { Ready 0 list.now.n list.now.text.now list.now.tok.now work.old tree.old c e }
+    ensures { Scripts list.now.text.now list.now.tok.now list.now.n work.old work.new c e tree.old tree.new result }
 {
     let pos = c.pos as usize;
-    if !marks_at(tok, work, n, pos) {
+    if !list.marks_at(work, pos) {
         return Scripted {
-            cur: c.look(n),
+            cur: c.look(list.n),
             end: e,
             script: 0,
         };
     }
-    let sup = is_at(tok, work, n, pos, SUPER);
-    let a = arg(text, tok, n, work, tree, c.next(), e, false);
+    let sup = list.is_at(work, pos, SUPER);
+    let a = arg(list, work, tree, c.next(), e, false);
     if sup {
         return scripted(a, 2);
     }
-    let ac = a.cur;
-    let at = ac.pos as usize;
-    if is_at(tok, work, n, at, SUPER) {
-        let b = arg(text, tok, n, work, tree, ac.next(), a.end, false);
+    let at = a.cur.pos as usize;
+    if list.is_at(work, at, SUPER) {
+        let b = arg(list, work, tree, a.cur.next(), a.end, false);
         return scripted(b, 3);
     }
     Scripted {
-        cur: ac.look(n),
+        cur: a.cur.look(list.n),
         end: a.end,
         script: 1,
     }
@@ -133,9 +106,7 @@ fn next_script(
 // A scripted part, which a function or a prefixing sign can head.
 #[cycle(readers)]
 fn next_script_func(
-    text: &[u8],
-    tok: &[u32],
-    n: usize,
+    list: &List<'_>,
     work: &mut [u32],
     tree: &mut [u32],
     c: Cursor,
@@ -143,28 +114,26 @@ fn next_script_func(
     stop: bool,
     sign: bool,
 ) -> Step
-    requires { Ready 6 n text.now tok.now work.old tree.old c e }
-    ensures { ScriptFunc text.now tok.now n work.old work.new stop sign c e tree.old tree.new result }
+    requires { Ready 6 list.now.n list.now.text.now list.now.tok.now work.old tree.old c e }
+    ensures { ScriptFunc list.now.text.now list.now.tok.now list.now.n work.old work.new stop sign c e tree.old tree.new result }
 {
     let depth = c.depth;
     if too_deep(depth) {
-        return Step::Nothing(c);
+        return Err(c);
     }
     let pos = c.pos as usize;
-    if heads_at(tok, work, n, pos, sign) {
-        let g = headed(text, tok, n, work, tree, c.next().deeper(), e, stop, pos);
-        return found(g, depth);
+    if list.heads_at(work, pos, sign) {
+        let g = headed(list, work, tree, c.next().deeper(), e, stop, pos);
+        return Ok(g.at_depth(depth));
     }
-    let s = term(text, tok, n, work, tree, c.look(n).deeper(), e, stop, sign);
-    s.at_depth(depth)
+    let s = term(list, work, tree, c.look(list.n).deeper(), e, stop, sign);
+    back(s, depth)
 }
 
 // A term: a simple expression with its scripts.
 #[cycle(readers)]
 fn term(
-    text: &[u8],
-    tok: &[u32],
-    n: usize,
+    list: &List<'_>,
     work: &mut [u32],
     tree: &mut [u32],
     c: Cursor,
@@ -172,32 +141,32 @@ fn term(
     stop: bool,
     sign: bool,
 ) -> Step
-    requires { Ready 6 n text.now tok.now work.old tree.old c e }
-    ensures { Term text.now tok.now n work.old work.new stop sign c e tree.old tree.new result }
+    requires { Ready 6 list.now.n list.now.text.now list.now.tok.now work.old tree.old c e }
+    ensures { Term list.now.text.now list.now.tok.now list.now.n work.old work.new stop sign c e tree.old tree.new result }
 {
-    match next_simple(text, tok, n, work, tree, c, e + 6, stop, sign) {
-        Step::Nothing(d) => Step::Nothing(d),
-        Step::Found(d, e1, f) => {
-            let at = d.pos as usize;
-            // as next_script would find it, without the call
-            if !marks_at(tok, work, n, at) {
-                put6(tree, e, NODE_SIMPLE, 0, 0, 0, 0, 0);
-                return Step::Found(d.look(n), e1, f);
-            }
-            let m = next_script(text, tok, n, work, tree, d, e1);
-            let mc = m.cur;
-            put6(tree, e, NODE_SIMPLE, 0, 0, m.script, 0, 0);
-            Step::Found(mc, m.end, f)
-        }
+    let s = next_simple(list, work, tree, c, e + 6, stop, sign)?;
+    let at = s.cur.pos as usize;
+    // as next_script would find it, without the call
+    if !list.marks_at(work, at) {
+        put(tree, e, &[NODE_SIMPLE, 0, 0, 0, 0, 0]);
+        return Ok(Part {
+            cur: s.cur.look(list.n),
+            ..s
+        });
     }
+    let m = next_script(list, work, tree, s.cur, s.end);
+    put(tree, e, &[NODE_SIMPLE, 0, 0, m.script, 0, 0]);
+    Ok(Part {
+        cur: m.cur,
+        end: m.end,
+        ends: s.ends,
+    })
 }
 
 // What the function or the sign at i heads.
 #[cycle(readers)]
 fn headed(
-    text: &[u8],
-    tok: &[u32],
-    n: usize,
+    list: &List<'_>,
     work: &mut [u32],
     tree: &mut [u32],
     c: Cursor,
@@ -205,30 +174,28 @@ fn headed(
     stop: bool,
     i: usize,
 ) -> Part
-    requires ready { Ready 18 n text.now tok.now work.old tree.old c e }
-    requires i_lt_n { i < n }
-    ensures { Headed text.now tok.now n work.old work.new i stop c e tree.old tree.new result }
+    requires ready { Ready 18 list.now.n list.now.text.now list.now.tok.now work.old tree.old c e }
+    requires i_lt_n { i < list.now.n }
+    ensures { Headed list.now.text.now list.now.tok.now list.now.n work.old work.new i stop c e tree.old tree.new result }
 {
-    let func = is_at(tok, work, n, i, FUNCTION);
-    let mut m = Scripted {
-        cur: c,
-        end: e + 6,
-        script: 0,
+    let func = list.is_at(work, i, FUNCTION);
+    let m = if func {
+        next_script(list, work, tree, c, e + 6)
+    } else {
+        Scripted {
+            cur: c,
+            end: e + 6,
+            script: 0,
+        }
     };
-    if func {
-        m = next_script(text, tok, n, work, tree, c, e + 6);
-    }
-    let mc = m.cur;
-    let g = operand(text, tok, n, work, tree, mc, m.end, head_stop(func, stop));
-    node_before(tok, work, tree, e, head_kind(func), i, m.script, g)
+    let g = operand(list, work, tree, m.cur, m.end, head_stop(func, stop));
+    node_before(list, work, tree, e, head_kind(func), i, m.script, g)
 }
 
 // One item: a scripted part, or a fraction of two.
 #[cycle(readers)]
 fn next_intermediate(
-    text: &[u8],
-    tok: &[u32],
-    n: usize,
+    list: &List<'_>,
     work: &mut [u32],
     tree: &mut [u32],
     c: Cursor,
@@ -236,32 +203,27 @@ fn next_intermediate(
     stop: bool,
     sign: bool,
 ) -> Step
-    requires { Ready 7 n text.now tok.now work.old tree.old c e }
-    ensures { Intermediate text.now tok.now n work.old work.new stop sign c e tree.old tree.new result }
+    requires { Ready 7 list.now.n list.now.text.now list.now.tok.now work.old tree.old c e }
+    ensures { Intermediate list.now.text.now list.now.tok.now list.now.n work.old work.new stop sign c e tree.old tree.new result }
 {
-    match next_script_func(text, tok, n, work, tree, c, e + 1, stop, sign) {
-        Step::Nothing(d) => Step::Nothing(d),
-        Step::Found(d, e1, f) => {
-            let pos = d.pos as usize;
-            if is_at(tok, work, n, pos, FRAC) {
-                put1(tree, e, 1);
-                let g = operand(text, tok, n, work, tree, d.next(), e1, false);
-                let gc = g.cur;
-                Step::Found(gc, g.end, g.ends)
-            } else {
-                put1(tree, e, 0);
-                Step::Found(d.look(n), e1, f)
-            }
-        }
+    let s = next_script_func(list, work, tree, c, e + 1, stop, sign)?;
+    let at = s.cur.pos as usize;
+    if list.is_at(work, at, FRAC) {
+        put(tree, e, &[1]);
+        Ok(operand(list, work, tree, s.cur.next(), s.end, false))
+    } else {
+        put(tree, e, &[0]);
+        Ok(Part {
+            cur: s.cur.look(list.n),
+            ..s
+        })
     }
 }
 
 // The items from the cursor on, up to a bar behind an item like that at `until`, if an entry is there. `first0`: none stands before them.
 #[cycle(readers)]
 pub(crate) fn extend(
-    text: &[u8],
-    tok: &[u32],
-    n: usize,
+    list: &List<'_>,
     work: &mut [u32],
     tree: &mut [u32],
     c: Cursor,
@@ -271,8 +233,8 @@ pub(crate) fn extend(
     first0: bool,
     sign0: bool,
 ) -> Items
-    requires { Ready 14 n text.now tok.now work.old tree.old c e }
-    ensures { Intermediates text.now tok.now n work.old work.new until stop first0 sign0 c e tree.old tree.new result }
+    requires { Ready 14 list.now.n list.now.text.now list.now.tok.now work.old tree.old c e }
+    ensures { Intermediates list.now.text.now list.now.tok.now list.now.n work.old work.new until stop first0 sign0 c e tree.old tree.new result }
 {
     let mut cur = c;
     let mut end = e;
@@ -281,14 +243,14 @@ pub(crate) fn extend(
     let mut sign = sign0;
     'items: loop {
         let pos = cur.pos as usize;
-        let bar = choose(first, n, until);
+        let bar = choose(first, list.n, until);
         let now = &*work;
-        if bar_at(text, tok, now, n, bar, pos) {
+        if bar_at(list, now, bar, pos) {
             break 'items;
         }
-        let g = put_space(tok, now, n, tree, pos, end, first);
-        if is_plain(tok, now, n, cur.depth as usize, pos) {
-            let p = plain_item(tok, now, n, tree, cur, g.end);
+        let g = put_space(list, now, tree, pos, end, first);
+        if list.is_plain(now, cur.depth as usize, pos) {
+            let p = plain_item(list, now, tree, cur, g.end);
             cur = p.cur;
             end = p.end;
             count += 1 + g.items;
@@ -296,104 +258,80 @@ pub(crate) fn extend(
             sign = !p.ends;
             continue 'items;
         }
-        if is_over(tok, now, n, cur.depth as usize, stop, pos) {
-            cur = cur.look(n).look(n);
+        if list.is_over(now, cur.depth as usize, stop, pos) {
+            cur = cur.look(list.n).look(list.n);
             break 'items;
         }
-        match next_intermediate(text, tok, n, work, tree, cur, g.end, stop, sign) {
-            Step::Found(d, e2, f) => {
-                cur = d;
-                end = e2;
+        match next_intermediate(list, work, tree, cur, g.end, stop, sign) {
+            Ok(p) => {
+                cur = p.cur;
+                end = p.end;
                 count += 1 + g.items;
                 first = false;
-                sign = !f;
+                sign = !p.ends;
             }
-            Step::Nothing(d) => {
+            Err(d) => {
                 cur = d;
                 break 'items;
             }
         }
     }
     Items {
-        cur: cur,
-        end: end,
-        count: count,
-        sign: sign,
+        cur,
+        end,
+        count,
+        sign,
     }
 }
 
 // The cells behind a row's bracket, up to its closing bracket.
 #[cycle(readers)]
-fn row_cells(
-    text: &[u8],
-    tok: &[u32],
-    n: usize,
-    work: &mut [u32],
-    tree: &mut [u32],
-    c: Cursor,
-    e: usize,
-) -> Cells
-    requires { Ready 20 n text.now tok.now work.old tree.old c e }
-    ensures { RowCells text.now tok.now n work.old work.new c e tree.old tree.new result }
+fn row_cells(list: &List<'_>, work: &mut [u32], tree: &mut [u32], c: Cursor, e: usize) -> Cells
+    requires { Ready 20 list.now.n list.now.text.now list.now.tok.now work.old tree.old c e }
+    ensures { RowCells list.now.text.now list.now.tok.now list.now.n work.old work.new c e tree.old tree.new result }
 {
     let mut cur = c;
     let mut end = e;
     let mut count: usize = 0;
     let close = 'cells: loop {
         let at = end;
-        let run = extend(text, tok, n, work, tree, cur, at + 6, n, true, true, true);
-        let rc = run.cur;
-        let p = rc.pos as usize;
+        let run = extend(list, work, tree, cur, at + 6, list.n, true, true, true);
+        let p = run.cur.pos as usize;
         end = run.end;
-        put6(
-            tree,
-            at,
-            NODE_CELL,
-            0,
-            0,
-            run.count,
-            (end - at - 6) as u32,
-            0,
-        );
+        let size = (end - at - 6) as u32;
+        put(tree, at, &[NODE_CELL, 0, 0, run.count, size, 0]);
         count += 1;
-        cur = rc.over(n);
-        if is_at(tok, work, n, p, SEP) {} else if is_at(tok, work, n, p, CLOSE_BRACKET) {
-            break 'cells Close::At(p);
-        } else {
-            break 'cells Close::Broken;
+        cur = run.cur.over(list.n);
+        if !list.is_at(work, p, SEP) {
+            if list.is_at(work, p, CLOSE_BRACKET) {
+                break 'cells Some(p);
+            }
+            break 'cells None;
         }
     };
     Cells {
-        cur: cur,
-        end: end,
-        count: count,
-        close: close,
+        cur,
+        end,
+        count,
+        close,
     }
 }
 
 // A matrix row; a token that opens none is taken too.
 #[cycle(readers)]
-fn next_row(
-    text: &[u8],
-    tok: &[u32],
-    n: usize,
-    work: &mut [u32],
-    tree: &mut [u32],
-    c: Cursor,
-    e: usize,
-) -> Cells
-    requires { Ready 0 n text.now tok.now work.old tree.old c e }
-    ensures { MatrixRow text.now tok.now n work.old work.new c e tree.old tree.new result }
+fn next_row(list: &List<'_>, work: &mut [u32], tree: &mut [u32], c: Cursor, e: usize) -> Cells
+    requires { Ready 0 list.now.n list.now.text.now list.now.tok.now work.old tree.old c e }
+    ensures { MatrixRow list.now.text.now list.now.tok.now list.now.n work.old work.new c e tree.old tree.new result }
 {
     let pos = c.pos as usize;
-    if is_at(tok, work, n, pos, OPEN_BRACKET) {
-        row_cells(text, tok, n, work, tree, c.next(), e)
+    if list.is_at(work, pos, OPEN_BRACKET) {
+        row_cells(list, work, tree, c.next(), e)
     } else {
         Cells {
-            cur: c.over(n),
+            cur: c.over(list.n),
             end: e,
             count: 0,
-            close: Close::Broken,
+            close: None,
         }
     }
 }
@@ -401,9 +339,7 @@ fn next_row(
 // The rows behind the first one, which opens at `left` and is of `cols` cells between round brackets, or else square ones.
 #[cycle(readers)]
 fn more_rows(
-    text: &[u8],
-    tok: &[u32],
-    n: usize,
+    list: &List<'_>,
     work: &mut [u32],
     tree: &mut [u32],
     c: Cursor,
@@ -412,152 +348,135 @@ fn more_rows(
     left: usize,
     round: bool,
 ) -> Rows
-    requires ready { Ready 0 n text.now tok.now work.old tree.old c e }
+    requires ready { Ready 0 list.now.n list.now.text.now list.now.tok.now work.old tree.old c e }
     requires cols_le_pos { cols ≤ c.pos }
-    ensures { MoreRows text.now tok.now n work.old work.new cols left round c e tree.old tree.new result }
+    ensures { MoreRows list.now.text.now list.now.tok.now list.now.n work.old work.new cols left round c e tree.old tree.new result }
 {
     let mut cur = c;
     let mut end = e;
     let mut cells = cols;
     let why = 'rows: loop {
         let p = cur.pos as usize;
-        if is_at(tok, work, n, p, SEP) {
-            let row = next_row(text, tok, n, work, tree, cur.next(), end);
-            cur = row.cur;
-            end = row.end;
-            let count = row.count;
-            let close = row.close;
-            match close {
-                Close::Broken => {
-                    break 'rows Why::Broken;
-                }
-                Close::At(q) => {
-                    cells += count;
-                    let differs = count != cols;
-                    if differs {
-                        break 'rows Why::Differs;
-                    }
-                    if is_pair(text, tok, work, round, p + 1, q) {} else {
-                        break 'rows Why::Differs;
-                    }
-                }
-            }
-        } else {
+        if !list.is_at(work, p, SEP) {
             break 'rows Why::Done;
+        }
+        let row = next_row(list, work, tree, cur.next(), end);
+        cur = row.cur;
+        end = row.end;
+        let Some(q) = row.close else {
+            break 'rows Why::Broken;
+        };
+        cells += row.count;
+        let differs = row.count != cols;
+        if differs {
+            break 'rows Why::Differs;
+        }
+        if !is_pair(list, work, round, p + 1, q) {
+            break 'rows Why::Differs;
         }
     };
     Rows {
-        cur: cur,
-        end: end,
-        cells: cells,
-        cols: cols,
-        left: left,
-        why: why,
+        cur,
+        end,
+        cells,
+        cols,
+        left,
+        why,
     }
 }
 
 // The rows of a matrix, up to its closing bracket.
 #[cycle(readers)]
-fn next_rows(
-    text: &[u8],
-    tok: &[u32],
-    n: usize,
-    work: &mut [u32],
-    tree: &mut [u32],
-    c: Cursor,
-    e: usize,
-) -> Rows
-    requires { Ready 0 n text.now tok.now work.old tree.old c e }
-    ensures { MatrixRows text.now tok.now n work.old work.new c e tree.old tree.new result }
+fn next_rows(list: &List<'_>, work: &mut [u32], tree: &mut [u32], c: Cursor, e: usize) -> Rows
+    requires { Ready 0 list.now.n list.now.text.now list.now.tok.now work.old tree.old c e }
+    ensures { MatrixRows list.now.text.now list.now.tok.now list.now.n work.old work.new c e tree.old tree.new result }
 {
     let left = c.pos as usize;
-    let row = next_row(text, tok, n, work, tree, c, e);
+    let row = next_row(list, work, tree, c, e);
     let cur = row.cur;
     let end = row.end;
     let cols = row.count;
-    let close = row.close;
-    let why = match close {
-        Close::Broken => Why::Broken,
-        Close::At(right) => {
-            let round = is_round(text, tok, work, left);
-            if is_pair(text, tok, work, round, left, right) {
-                return more_rows(text, tok, n, work, tree, cur, end, cols, left, round);
+    let why = match row.close {
+        None => Why::Broken,
+        Some(right) => {
+            let round = is_round(list, work, left);
+            if is_pair(list, work, round, left, right) {
+                return more_rows(list, work, tree, cur, end, cols, left, round);
             }
             Why::Differs
         }
     };
     Rows {
-        cur: cur,
-        end: end,
+        cur,
+        end,
         cells: cols,
-        cols: cols,
-        left: left,
-        why: why,
+        cols,
+        left,
+        why,
     }
 }
 
 // The matrix that the bracket at i opens, or nothing: a failed attempt is marked and given back.
 #[cycle(readers)]
 fn try_matrix(
-    text: &[u8],
-    tok: &[u32],
-    n: usize,
+    list: &List<'_>,
     work: &mut [u32],
     tree: &mut [u32],
     c: Cursor,
     e: usize,
     i: usize,
 ) -> Step
-    requires ready { Ready 20 n text.now tok.now work.old tree.old c e }
-    requires i_lt_n { i < n }
-    ensures { TryMatrix text.now tok.now n work.old work.new i c e tree.old tree.new result }
+    requires ready { Ready 20 list.now.n list.now.text.now list.now.tok.now work.old tree.old c e }
+    requires i_lt_n { i < list.now.n }
+    ensures { TryMatrix list.now.text.now list.now.tok.now list.now.n work.old work.new i c e tree.old tree.new result }
 {
     let old = &*work;
-    if !could_be_matrix(text, tok, old, n, i) {
-        return Step::Nothing(c);
+    if !could_be_matrix(list, old, i) {
+        return Err(c);
     }
     if failed_at(old, i, MATRIX_MARK) {
-        return Step::Nothing(c);
+        return Err(c);
     }
-    let rows = next_rows(text, tok, n, work, tree, c, e + 8);
+    let rows = next_rows(list, work, tree, c, e + 8);
     let cur = rows.cur;
-    let why = rows.why;
-    if let Why::Done = why {
+    if let Why::Done = rows.why {
         let p = cur.pos as usize;
-        let split = split_column_lines(text, tree, e + 8, rows.end, rows.cells, rows.cols);
+        let split = split_column_lines(list.text, tree, e + 8, rows.end, rows.cells, rows.cols);
         let now = &*work;
-        if makes_matrix(text, tok, now, n, i, rows.left, split.cells, p) {
-            put_matrix(tok, now, tree, e, i, p, split);
-            return Step::Found(cur.next(), split.end, true);
+        if makes_matrix(list, now, i, rows.left, split.cells, p) {
+            put_matrix(list, now, tree, e, i, p, split);
+            return Ok(Part {
+                cur: cur.next(),
+                end: split.end,
+                ends: true,
+            });
         }
     }
     mark_failed(work, i, MATRIX_MARK);
-    Step::Nothing(cur.rewind(c.pos))
+    Err(cur.rewind(c.pos))
 }
 
 // The group that the bracket at i opens.
 #[cycle(readers)]
 fn open_group(
-    text: &[u8],
-    tok: &[u32],
-    n: usize,
+    list: &List<'_>,
     work: &mut [u32],
     tree: &mut [u32],
     c: Cursor,
     e: usize,
     i: usize,
 ) -> Part
-    requires ready { Ready 20 n text.now tok.now work.old tree.old c e }
-    requires i_lt_n { i < n }
-    ensures { OpenGroup text.now tok.now n work.old work.new i c e tree.old tree.new result }
+    requires ready { Ready 20 list.now.n list.now.text.now list.now.tok.now work.old tree.old c e }
+    requires i_lt_n { i < list.now.n }
+    ensures { OpenGroup list.now.text.now list.now.tok.now list.now.n work.old work.new i c e tree.old tree.new result }
 {
-    let run = extend(text, tok, n, work, tree, c, e + 6, n, false, true, true);
+    let run = extend(list, work, tree, c, e + 6, list.n, false, true, true);
     let cur = run.cur;
     let at = cur.pos as usize;
-    let shut = is_at(tok, work, n, at, CLOSE_BRACKET);
-    put_group(tok, work, n, tree, e, i, choose(shut, at, n), run.count);
+    let shut = list.is_at(work, at, CLOSE_BRACKET);
+    put_group(list, work, tree, e, i, choose(shut, at, list.n), run.count);
     Part {
-        cur: cur.past(n, shut),
+        cur: cur.past(list.n, shut),
         end: run.end,
         ends: true,
     }
@@ -566,9 +485,7 @@ fn open_group(
 // The matrix or the group that the bracket of kind k at i opens, or a bar alone.
 #[cycle(readers)]
 fn bracket(
-    text: &[u8],
-    tok: &[u32],
-    n: usize,
+    list: &List<'_>,
     work: &mut [u32],
     tree: &mut [u32],
     c: Cursor,
@@ -577,21 +494,17 @@ fn bracket(
     i: usize,
     k: u32,
 ) -> Part
-    requires ready { Ready 20 n text.now tok.now work.old tree.old c e }
-    requires i_lt_n { i < n }
-    ensures { Bracket text.now tok.now n work.old work.new i k stop c e tree.old tree.new result }
+    requires ready { Ready 20 list.now.n list.now.text.now list.now.tok.now work.old tree.old c e }
+    requires i_lt_n { i < list.now.n }
+    ensures { Bracket list.now.text.now list.now.tok.now list.now.n work.old work.new i k stop c e tree.old tree.new result }
 {
-    match try_matrix(text, tok, n, work, tree, c, e, i) {
-        Step::Found(d, e1, f) => Part {
-            cur: d,
-            end: e1,
-            ends: f,
-        },
-        Step::Nothing(d) => {
+    match try_matrix(list, work, tree, c, e, i) {
+        Ok(g) => g,
+        Err(d) => {
             if k == OPEN_BRACKET {
-                open_group(text, tok, n, work, tree, d, e, i)
+                open_group(list, work, tree, d, e, i)
             } else {
-                bars(text, tok, n, work, tree, d, e, stop, i)
+                bars(list, work, tree, d, e, stop, i)
             }
         }
     }
@@ -600,9 +513,7 @@ fn bracket(
 // The group between the bar at i and another like it, or the bar alone: a failed attempt is marked and given back.
 #[cycle(readers)]
 fn bars(
-    text: &[u8],
-    tok: &[u32],
-    n: usize,
+    list: &List<'_>,
     work: &mut [u32],
     tree: &mut [u32],
     c: Cursor,
@@ -610,23 +521,23 @@ fn bars(
     stop: bool,
     i: usize,
 ) -> Part
-    requires ready { Ready 20 n text.now tok.now work.old tree.old c e }
-    requires i_lt_n { i < n }
-    ensures { Bars text.now tok.now n work.old work.new i stop c e tree.old tree.new result }
+    requires ready { Ready 20 list.now.n list.now.text.now list.now.tok.now work.old tree.old c e }
+    requires i_lt_n { i < list.now.n }
+    ensures { Bars list.now.text.now list.now.tok.now list.now.n work.old work.new i stop c e tree.old tree.new result }
 {
     let from = c.pos;
     let mark = open_mark(stop);
     if failed_at(work, i, mark) {
-        return leaf(tok, work, tree, c, e, i, OPEN_CLOSE_BRACKET);
+        return leaf(list, work, tree, c, e, i, OPEN_CLOSE_BRACKET);
     }
-    let run = extend(text, tok, n, work, tree, c, e + 6, i, stop, true, true);
+    let run = extend(list, work, tree, c, e + 6, i, stop, true, true);
     let cur = run.cur;
     let at = cur.pos as usize;
     let count = run.count;
     if count == 0 {
-        leaf(tok, work, tree, cur, e, i, OPEN_CLOSE_BRACKET)
-    } else if bar_at(text, tok, work, n, i, at) {
-        put_group(tok, work, n, tree, e, i, at, count);
+        leaf(list, work, tree, cur, e, i, OPEN_CLOSE_BRACKET)
+    } else if bar_at(list, work, i, at) {
+        put_group(list, work, tree, e, i, at, count);
         Part {
             cur: cur.next(),
             end: run.end,
@@ -634,16 +545,15 @@ fn bars(
         }
     } else {
         mark_failed(work, i, mark);
-        leaf(tok, work, tree, cur.rewind(from), e, i, OPEN_CLOSE_BRACKET)
+        let given_back = cur.rewind(from);
+        leaf(list, work, tree, given_back, e, i, OPEN_CLOSE_BRACKET)
     }
 }
 
 // The node of kind `kind` that the entry i prefixes, with one argument.
 #[cycle(readers)]
 fn unary(
-    text: &[u8],
-    tok: &[u32],
-    n: usize,
+    list: &List<'_>,
     work: &mut [u32],
     tree: &mut [u32],
     c: Cursor,
@@ -652,43 +562,38 @@ fn unary(
     i: usize,
     kind: u32,
 ) -> Part
-    requires ready { Ready 12 n text.now tok.now work.old tree.old c e }
-    requires i_lt_n { i < n }
+    requires ready { Ready 12 list.now.n list.now.text.now list.now.tok.now work.old tree.old c e }
+    requires i_lt_n { i < list.now.n }
     requires kind_value { prefix_kind (prefix_of kind) ≡ kind }
-    ensures { Unary text.now tok.now n work.old work.new i kind stop c e tree.old tree.new result }
+    ensures { Unary list.now.text.now list.now.tok.now list.now.n work.old work.new i kind stop c e tree.old tree.new result }
 {
-    let g = arg(text, tok, n, work, tree, c, e + 6, stop);
-    node_before(tok, work, tree, e, kind, i, 0, g)
+    let g = arg(list, work, tree, c, e + 6, stop);
+    node_before(list, work, tree, e, kind, i, 0, g)
 }
 
 // The binary operation at i, with its two arguments.
 #[cycle(readers)]
 fn binary(
-    text: &[u8],
-    tok: &[u32],
-    n: usize,
+    list: &List<'_>,
     work: &mut [u32],
     tree: &mut [u32],
     c: Cursor,
     e: usize,
     i: usize,
 ) -> Part
-    requires ready { Ready 18 n text.now tok.now work.old tree.old c e }
-    requires i_lt_n { i < n }
-    ensures { Binary text.now tok.now n work.old work.new i c e tree.old tree.new result }
+    requires ready { Ready 18 list.now.n list.now.text.now list.now.tok.now work.old tree.old c e }
+    requires i_lt_n { i < list.now.n }
+    ensures { Binary list.now.text.now list.now.tok.now list.now.n work.old work.new i c e tree.old tree.new result }
 {
-    let g = arg(text, tok, n, work, tree, c, e + 6, false);
-    let gc = g.cur;
-    let h = arg(text, tok, n, work, tree, gc, g.end, false);
-    node_before(tok, work, tree, e, NODE_BINARY, i, 0, h)
+    let g = arg(list, work, tree, c, e + 6, false);
+    let h = arg(list, work, tree, g.cur, g.end, false);
+    node_before(list, work, tree, e, NODE_BINARY, i, 0, h)
 }
 
 // What the entry i of another kind k, just taken, begins: an operation or a leaf.
 #[cycle(readers)]
 fn other(
-    text: &[u8],
-    tok: &[u32],
-    n: usize,
+    list: &List<'_>,
     work: &mut [u32],
     tree: &mut [u32],
     c: Cursor,
@@ -698,30 +603,26 @@ fn other(
     i: usize,
     k: u32,
 ) -> Part
-    requires ready { Ready 32 n text.now tok.now work.old tree.old c e }
-    requires i_value { test_at tok.now work.old n (begins_kind stop) i ≡ true }
-    requires i_lt_n { i < n }
-    requires k_value { k ≡ kind_of tok.now work.old i }
+    requires ready { Ready 32 list.now.n list.now.text.now list.now.tok.now work.old tree.old c e }
+    requires i_value { test_at list.now.tok.now work.old list.now.n (begins_kind stop) i ≡ true }
+    requires i_lt_n { i < list.now.n }
+    requires k_value { k ≡ kind_of list.now.tok.now work.old i }
     requires k_value_2 { opening k ≡ false }
-    ensures { Begun text.now tok.now n work.old work.new i stop sign c e tree.old tree.new result }
+    ensures { Begun list.now.text.now list.now.tok.now list.now.n work.old work.new i stop sign c e tree.old tree.new result }
 {
     if k == BINARY {
-        return binary(text, tok, n, work, tree, c, e, i);
+        return binary(list, work, tree, c, e, i);
     }
-    let kind = prefix_kind(k, sign);
-    if kind == NODE_MISSING {
-        return leaf(tok, work, tree, c, e, i, k);
+    match prefix_kind(k, sign) {
+        Some(kind) => unary(list, work, tree, c, e, prefix_stop(k, stop), i, kind),
+        None => leaf(list, work, tree, c, e, i, k),
     }
-    let within = prefix_stop(k, stop);
-    unary(text, tok, n, work, tree, c, e, within, i, kind)
 }
 
 // What the entry i, just taken, begins.
 #[cycle(readers)]
 fn begun(
-    text: &[u8],
-    tok: &[u32],
-    n: usize,
+    list: &List<'_>,
     work: &mut [u32],
     tree: &mut [u32],
     c: Cursor,
@@ -730,25 +631,23 @@ fn begun(
     sign: bool,
     i: usize,
 ) -> Part
-    requires ready { Ready 32 n text.now tok.now work.old tree.old c e }
-    requires i_value { test_at tok.now work.old n (begins_kind stop) i ≡ true }
-    requires i_lt_n { i < n }
-    ensures { Begun text.now tok.now n work.old work.new i stop sign c e tree.old tree.new result }
+    requires ready { Ready 32 list.now.n list.now.text.now list.now.tok.now work.old tree.old c e }
+    requires i_value { test_at list.now.tok.now work.old list.now.n (begins_kind stop) i ≡ true }
+    requires i_lt_n { i < list.now.n }
+    ensures { Begun list.now.text.now list.now.tok.now list.now.n work.old work.new i stop sign c e tree.old tree.new result }
 {
-    let k = kind_at(tok, work, i);
+    let k = kind_at(list.tok, work, i);
     if opens(k) {
-        bracket(text, tok, n, work, tree, c, e, stop, i, k)
+        bracket(list, work, tree, c, e, stop, i, k)
     } else {
-        other(text, tok, n, work, tree, c, e, stop, sign, i, k)
+        other(list, work, tree, c, e, stop, sign, i, k)
     }
 }
 
 // A simple expression. `sign`: a sign here prefixes what follows it.
 #[cycle(readers)]
 fn next_simple(
-    text: &[u8],
-    tok: &[u32],
-    n: usize,
+    list: &List<'_>,
     work: &mut [u32],
     tree: &mut [u32],
     c: Cursor,
@@ -756,28 +655,17 @@ fn next_simple(
     stop: bool,
     sign: bool,
 ) -> Step
-    requires { Ready 0 n text.now tok.now work.old tree.old c e }
-    ensures { Simple text.now tok.now n work.old work.new stop sign c e tree.old tree.new result }
+    requires { Ready 0 list.now.n list.now.text.now list.now.tok.now work.old tree.old c e }
+    ensures { Simple list.now.text.now list.now.tok.now list.now.n work.old work.new stop sign c e tree.old tree.new result }
 {
     let depth = c.depth;
     if too_deep(depth) {
-        return Step::Nothing(c);
+        return Err(c);
     }
     let pos = c.pos as usize;
-    if begins_at(tok, work, n, pos, stop) {
-        let g = begun(
-            text,
-            tok,
-            n,
-            work,
-            tree,
-            c.next().deeper(),
-            e,
-            stop,
-            sign,
-            pos,
-        );
-        return found(g, depth);
+    if list.begins_at(work, pos, stop) {
+        let g = begun(list, work, tree, c.next().deeper(), e, stop, sign, pos);
+        return Ok(g.at_depth(depth));
     }
-    Step::Nothing(c.look(n))
+    Err(c.look(list.n))
 }

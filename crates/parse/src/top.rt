@@ -1,17 +1,17 @@
 // The whole reading: the items, and the groups of closing brackets that nothing opened.
-ghost use Rattle.std.specs.Prelude.{◌≡◌, List, ◌++◌, Bool, ◌+◌, ◌*◌, ◌≤◌, length, take, replicate};
+ghost use Rattle.std.specs.Prelude.{◌≡◌, ◌++◌, ◌+◌, ◌*◌, ◌≤◌, length, take, replicate};
 ghost use Rattle.std.proofs.lemmas.List.Edits.{sets};
 ghost use Rattle.records.specs.Record.{sep_of, start_of, len_of, with_close, with_sep};
-ghost use Rattle.parse.specs.Top.{Noted, wrap_words, wraps_words, TopReady, Topped, Reads};
+ghost use Rattle.parse.specs.Top.{Noted, wrap_words, wraps_words, TopReady, Topped, ReadsEach};
 ghost use Rattle.reading_words.specs.Entry.{Placed};
-ghost use Rattle.reading_words.specs.Meet.{Input, Given, Marks};
 
-use crate::cursor::Cursor;
 use crate::readers::extend;
-use crate::write::{put1, put6};
+use crate::write::put;
 use buffer::{clear_from, shift};
 use fields::{after_close, sep_of};
-use lookahead::tests::is_at;
+use lookahead::depth::MOST_WRAPS;
+use lookahead::list::List;
+use reading_cursor::Cursor;
 use records::record::{len_at, start_at};
 use stores::{set_close, set_sep};
 use tokens::kinds::CLOSE_BRACKET;
@@ -34,9 +34,6 @@ pub(crate) struct Wrapped {
     pub last: usize,
 }
 
-// A closing bracket that nothing opened closes all before it so many times at most.
-const MOST_WRAPS: usize = 256;
-
 // Notes the wrap of `count` items that the closing bracket at i makes; the one before it is `last`.
 fn note_wrap(work: &mut [u32], i: usize, last: usize, count: u32)
     requires { last ≤ 4096 }
@@ -47,9 +44,9 @@ fn note_wrap(work: &mut [u32], i: usize, last: usize, count: u32)
 }
 
 // All items; a closing bracket that nothing opened closes all before it.
-fn read_items(text: &[u8], tok: &[u32], n: usize, work: &mut [u32], tree: &mut [u32]) -> Wrapped
-    requires { TopReady n text.now tok.now work.old tree.old }
-    ensures { Topped text.now tok.now n work.old work.new tree.new result }
+fn read_items(list: &List<'_>, work: &mut [u32], tree: &mut [u32]) -> Wrapped
+    requires { TopReady list.now.n list.now.text.now list.now.tok.now work.old tree.old }
+    ensures { Topped list.now.text.now list.now.tok.now list.now.n work.old work.new tree.new result }
 {
     let mut cur = Cursor {
         pos: 0,
@@ -63,15 +60,14 @@ fn read_items(text: &[u8], tok: &[u32], n: usize, work: &mut [u32], tree: &mut [
     let mut wraps: usize = 0;
     let mut last: usize = 0;
     'all: loop {
-        let run = extend(text, tok, n, work, tree, cur, end, n, false, first, sign);
-        let rc = run.cur;
-        let at = rc.pos as usize;
+        let run = extend(list, work, tree, cur, end, list.n, false, first, sign);
+        let at = run.cur.pos as usize;
         end = run.end;
         count += run.count;
         first = false;
         sign = run.sign;
-        if is_at(tok, work, n, at, CLOSE_BRACKET) {
-            cur = rc.next();
+        if list.is_at(work, at, CLOSE_BRACKET) {
+            cur = run.cur.next();
             if wraps < MOST_WRAPS {
                 note_wrap(work, at, last, count);
                 last = at;
@@ -80,16 +76,16 @@ fn read_items(text: &[u8], tok: &[u32], n: usize, work: &mut [u32], tree: &mut [
                 wraps += 1;
             }
         } else {
-            cur = rc.look(n);
+            cur = run.cur.look(list.n);
             break 'all;
         }
     }
     Wrapped {
-        cur: cur,
-        end: end,
-        count: count,
-        wraps: wraps,
-        last: last,
+        cur,
+        end,
+        count,
+        wraps,
+        last,
     }
 }
 
@@ -99,57 +95,62 @@ fn put_wrap(tok: &[u32], work: &[u32], tree: &mut [u32], at: usize, i: usize)
     requires at_in_bounds { at + 13 ≤ length tree.old }
     ensures { tree.new ≡ sets tree.old at (wrap_words (sep_of work.now i) (start_of tok.now work.now i) (len_of tok.now work.now i)) }
 {
-    put1(tree, at, 0);
-    put6(tree, at + 1, NODE_SIMPLE, 0, 0, 0, 0, 0);
-    put6(
+    let count = sep_of(work, i);
+    let start = start_at(tok, work, i);
+    let len = len_at(tok, work, i);
+    put(
         tree,
-        at + 7,
-        NODE_GROUP,
-        0,
-        0,
-        sep_of(work, i),
-        start_at(tok, work, i),
-        len_at(tok, work, i),
+        at,
+        &[
+            0,
+            NODE_SIMPLE,
+            0,
+            0,
+            0,
+            0,
+            0,
+            NODE_GROUP,
+            0,
+            0,
+            count,
+            start,
+            len,
+        ],
     );
 }
 
 // The headers of the wraps, the last first.
-fn put_wraps(tok: &[u32], work: &[u32], n: usize, tree: &mut [u32], wraps: usize, last: usize)
-    requires noted { Noted n tok.now work.now wraps last }
+fn put_wraps(list: &List<'_>, work: &[u32], tree: &mut [u32], wraps: usize, last: usize)
+    requires noted { Noted list.now.n list.now.tok.now work.now wraps last }
     requires wraps_in_bounds { 13 * wraps ≤ length tree.old }
-    ensures { (p : Noted n tok.now work.now wraps last) → tree.new ≡ sets tree.old 0 (wraps_words tok.now work.now p.list) }
+    ensures { (p : Noted list.now.n list.now.tok.now work.now wraps last) → tree.new ≡ sets tree.old 0 (wraps_words list.now.tok.now work.now p.list) }
 {
     let mut i = last;
-    let mut at = 0;
-    let mut k = 0;
-    while k < wraps {
-        put_wrap(tok, work, tree, at, i);
+    for k in 0..wraps {
+        put_wrap(list.tok, work, tree, 13 * k, i);
         i = after_close(work, i);
-        at += 13;
-        k += 1;
     }
 }
 
 // The wraps around the first `end` words.
 fn wrap_items(
-    tok: &[u32],
+    list: &List<'_>,
     work: &[u32],
-    n: usize,
     tree: &mut [u32],
     end: usize,
     wraps: usize,
     last: usize,
 )
-    requires noted { Noted n tok.now work.now wraps last }
+    requires noted { Noted list.now.n list.now.tok.now work.now wraps last }
     requires wraps_bound { wraps ≤ 256 }
     requires wraps_in_bounds { end + 13 * wraps ≤ length tree.old }
-    ensures { (p : Noted n tok.now work.now wraps last) → take (end + 13 * wraps) tree.new ≡ wraps_words tok.now work.now p.list ++ take end tree.old }
+    ensures { (p : Noted list.now.n list.now.tok.now work.now wraps last) → take (end + 13 * wraps) tree.new ≡ wraps_words list.now.tok.now work.now p.list ++ take end tree.old }
 {
     if wraps == 0 {
         return;
     }
     shift(tree, end, 13 * wraps);
-    put_wraps(tok, work, n, tree, wraps, last);
+    put_wraps(list, work, tree, wraps, last);
 }
 
 // The second part: the tree's words, read from the marks in the records, zeros behind them, and the work words all zero.
@@ -161,18 +162,18 @@ pub(crate) fn build_tree(
     tree: &mut [u32],
 ) -> Reading
     requires { TopReady n text.now tok.now work.old tree.old }
-    ensures reads { (I : Input) → Given text.now tok.now n work.old I → (m : List Bool) → Marks n work.old m → Reads I m (length tree.old) tree.new result }
+    ensures reads { ReadsEach n text.now tok.now work.old (length tree.old) tree.new result }
     ensures work_after { work.new ≡ replicate (length work.old) 0 }
 {
-    let run = read_items(text, tok, n, work, tree);
-    let cur = run.cur;
-    wrap_items(tok, work, n, tree, run.end, run.wraps, run.last);
+    let list = List { text, tok, n };
+    let run = read_items(&list, work, tree);
+    wrap_items(&list, work, tree, run.end, run.wraps, run.last);
     let end = run.end + 13 * run.wraps;
     clear_from(tree, end);
     clear_from(work, 0);
     Reading {
-        takes: cur.takes,
-        end: end,
+        takes: run.cur.takes,
+        end,
         items: run.count,
     }
 }

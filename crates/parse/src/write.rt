@@ -1,32 +1,29 @@
 // Words of the tree in the readers' buffer, which has room for all of them.
-ghost use Rattle.std.specs.Prelude.{◌≡◌, true, [], ◌∷◌, ◌+◌, ◌≤◌, length};
+ghost use Rattle.std.specs.Prelude.{◌≡◌, true, ◌+◌, ◌≤◌, length};
 ghost use Rattle.std.proofs.lemmas.List.Edits.{sets};
 ghost use Rattle.leaves.specs.Leaves.{node_words, leaf_ends, leaf_words};
 ghost use Rattle.nodes.specs.Nodes.{group_words, matrix_words};
 ghost use Rattle.parse.specs.Columns.{SplitReady, Splits};
 ghost use Rattle.parse.specs.Meet.{Gapped};
 
-use crate::cursor::{Cursor, Gap, Part};
+use crate::cursor::{Gap, Part};
 use columns::Split;
 use leaves::{leaf_ends, put_leaf, put_node};
+use lookahead::list::List;
+use reading_cursor::Cursor;
 
-pub(crate) fn put1(tree: &mut [u32], i: usize, a: u32)
-    requires { i + 1 ≤ length tree.old }
-    ensures { tree.new ≡ sets tree.old i (a ∷ []) }
+#[tactic(auto, using(buffer::proofs::Stores::stored_in))]
+pub(crate) fn put(tree: &mut [u32], i: usize, words: &[u32])
+    requires { i + length words.now ≤ length tree.old }
+    ensures { tree.new ≡ sets tree.old i words.now }
 {
-    buffer::put1(tree, i, a);
-}
-
-pub(crate) fn put6(tree: &mut [u32], i: usize, a: u32, b: u32, c: u32, d: u32, f: u32, g: u32)
-    requires { i + 6 ≤ length tree.old }
-    ensures { tree.new ≡ sets tree.old i (a ∷ b ∷ c ∷ d ∷ f ∷ g ∷ []) }
-{
-    buffer::put6(tree, i, a, b, c, d, f, g);
+    buffer::put(tree, i, words);
 }
 
 // The leaf of the entry i, of kind k.
+#[tactic(auto, using(buffer::proofs::Stores::stored_in))]
 pub(crate) fn leaf(
-    tok: &[u32],
+    list: &List<'_>,
     work: &[u32],
     tree: &mut [u32],
     c: Cursor,
@@ -36,9 +33,9 @@ pub(crate) fn leaf(
 ) -> Part
     requires { e + 6 ≤ length tree.old }
     ensures value { result ≡ record { cur = c; end = e + 6; ends = leaf_ends k } }
-    ensures tree_after { tree.new ≡ sets tree.old e (leaf_words tok.now work.now i k) }
+    ensures tree_after { tree.new ≡ sets tree.old e (leaf_words list.now.tok.now work.now i k) }
 {
-    put_leaf(tok, work, tree, e, i, k);
+    put_leaf(list, work, tree, e, i, k);
     Part {
         cur: c,
         end: e + 6,
@@ -47,8 +44,9 @@ pub(crate) fn leaf(
 }
 
 // The node of the entry i before its arguments, of which g is the last: its kind, its span and one word more.
+#[tactic(auto, using(buffer::proofs::Stores::stored_in))]
 pub(crate) fn node_before(
-    tok: &[u32],
+    list: &List<'_>,
     work: &[u32],
     tree: &mut [u32],
     e: usize,
@@ -59,22 +57,18 @@ pub(crate) fn node_before(
 ) -> Part
     requires { e + 6 ≤ length tree.old }
     ensures value { result ≡ record { cur = g.cur; end = g.end; ends = true } }
-    ensures tree_after { tree.new ≡ sets tree.old e (node_words tok.now work.now i kind extra) }
+    ensures tree_after { tree.new ≡ sets tree.old e (node_words list.now.tok.now work.now i kind extra) }
 {
-    put_node(tok, work, tree, e, kind, i, extra);
-    let gc = g.cur;
-    Part {
-        cur: gc,
-        end: g.end,
-        ends: true,
-    }
+    put_node(list, work, tree, e, kind, i, extra);
+    Part { ends: true, ..g }
 }
 
 // A group from the bracket i to the bracket j; to none, if j is no entry.
+#[tactic(auto, using(buffer::proofs::Stores::stored_in), unfolding(nodes::specs::Nodes::group_words))]
+#[inline(always)]
 pub(crate) fn put_group(
-    tok: &[u32],
+    list: &List<'_>,
     work: &[u32],
-    n: usize,
     tree: &mut [u32],
     e: usize,
     i: usize,
@@ -82,14 +76,15 @@ pub(crate) fn put_group(
     count: u32,
 )
     requires { e + 6 ≤ length tree.old }
-    ensures { tree.new ≡ sets tree.old e (group_words tok.now work.now n i j count) }
+    ensures { tree.new ≡ sets tree.old e (group_words list.now.tok.now work.now list.now.n i j count) }
 {
-    nodes::put_group(tok, work, n, tree, e, i, j, count);
+    nodes::put_group(list, work, tree, e, i, j, count);
 }
 
 // A matrix from the bracket i to the bracket j.
+#[tactic(auto, using(buffer::proofs::Stores::stored_in))]
 pub(crate) fn put_matrix(
-    tok: &[u32],
+    list: &List<'_>,
     work: &[u32],
     tree: &mut [u32],
     e: usize,
@@ -101,10 +96,10 @@ pub(crate) fn put_matrix(
     requires cells_bound { split.cells ≤ 4096 }
     requires cols_bound { split.cols ≤ 4096 }
     requires lines_bound { split.lines ≤ 4096 }
-    ensures { tree.new ≡ sets tree.old e (matrix_words tok.now work.now i j split.cells split.cols split.lines) }
+    ensures { tree.new ≡ sets tree.old e (matrix_words list.now.tok.now work.now i j split.cells split.cols split.lines) }
 {
     nodes::put_matrix(
-        tok,
+        list,
         work,
         tree,
         e,
@@ -118,24 +113,23 @@ pub(crate) fn put_matrix(
 
 // The Space before the entry i, if it is kept.
 pub(crate) fn put_space(
-    tok: &[u32],
+    list: &List<'_>,
     work: &[u32],
-    n: usize,
     tree: &mut [u32],
     i: usize,
     e: usize,
     first: bool,
 ) -> Gap
     requires { e + 7 ≤ length tree.old }
-    ensures { Gapped tok.now work.now n first i e tree.old tree.new result }
+    ensures { Gapped list.now.tok.now work.now list.now.n first i e tree.old tree.new result }
 {
-    if nodes::put_space(tok, work, n, tree, i, e, first) == 0 {
-        Gap { end: e, items: 0 }
-    } else {
+    if nodes::put_space(list, work, tree, i, e, first) {
         Gap {
             end: e + 7,
             items: 1,
         }
+    } else {
+        Gap { end: e, items: 0 }
     }
 }
 

@@ -1,18 +1,18 @@
 -- The call that prints a text's tree: what it answers, and what it leaves in the lent buffers.
-use Rattle.std.specs.Prelude.{List, [], ◌∷◌, ℕ, length}
+use Rattle.std.specs.Prelude.{List, [], ◌∷◌, ℕ, length, Result}
 use Rattle.lexing.specs.Rules.{tokens}
 use Rattle.tokens.specs.Refusals.{Answer, accepted, refused, entry_words, bit}
 use Rattle.reading.specs.Reading.{read_text, blank}
 use Rattle.parse.specs.Call.{parsed_text_by}
 use Rattle.line.specs.Print.{printed}
 use Rattle.printer.specs.Call.{fitted}
+use Rattle.refusals.specs.declared.refusal.Refusal.{Refusal}
+use Rattle.refusals.specs.Refusal.{answered}
 use Rattle.print.specs.declared.Printed.{Printed}
-use Rattle.print.specs.declared.Printed.TheVariants.{Whole, Refused}
 
 -- The code's answer in the words of document 01. Blank is 1 or 0.
-abbrev pub answer_of : Printed → Answer
-answer_of (Whole len takes blank) = accepted (len ∷ takes ∷ bit blank ∷ [])
-answer_of (Refused k) = refused k
+abbrev pub answer_of : Result Printed Refusal → Answer
+answer_of r = answered (λ (p : Printed). p.len ∷ p.takes ∷ bit p.blank ∷ []) r
 
 -- "the whole print, first line included", of a text that is read
 unfoldable pub print_of : List ℕ → List ℕ

@@ -5,15 +5,15 @@ ghost use Rattle.std.specs.Prelude.{◌≡◌};
 ghost use Rattle.print.specs.Call.{answer_of, printed_text};
 
 use parse::{Parsed, parse};
-use printer::{Fitted, print_tree};
+use printer::print_tree;
+use refusals::refusal::Refusal;
 
-// What the call answers.
-#[derive(Clone, Copy)]
-pub enum Printed {
-    // How many bytes the print has, takes, and whether the root has no items.
-    Whole { len: usize, takes: u64, blank: bool },
-    // The refusal's number.
-    Refused(u8),
+// What the call answers: how many bytes the print has, takes, and whether the root has no items.
+#[derive(Clone, Copy, PartialEq, Eq)]
+pub struct Printed {
+    pub len: usize,
+    pub takes: u64,
+    pub blank: bool,
 }
 
 // Reads a text and prints its tree: the print's bytes first in `out`, or a refusal by 1, 2, 7, 8, 9 or 10.
@@ -23,20 +23,16 @@ pub fn print(
     work: &mut [u32],
     tree: &mut [u32],
     out: &mut [u8],
-) -> Printed
+) -> Result<Printed, Refusal>
     ensures { (answer_of result, table.new, work.new, tree.new, out.new)
         ≡ printed_text text.now table.old work.old tree.old out.old }
 {
-    match parse(text, table, work, tree) {
-        Parsed::Refused(k) => Printed::Refused(k),
-        Parsed::Read {
-            tokens,
-            takes,
-            items,
-            blank,
-        } => match print_tree(tree, out, text.len(), tokens, takes, items as usize) {
-            Fitted::Whole(len) => Printed::Whole { len, takes, blank },
-            Fitted::Refused(k) => Printed::Refused(k),
-        },
-    }
+    let Parsed {
+        tokens,
+        takes,
+        items,
+        blank,
+    } = parse(text, table, work, tree)?;
+    let len = print_tree(tree, out, text.len(), tokens, takes, items as usize)?;
+    Ok(Printed { len, takes, blank })
 }

@@ -9,8 +9,7 @@ use lib.Dec.{eqb}
 use borrow.Author.Tests.{eqb-true}
 use Rattle.tokens.proofs.Cases.{by_test, clash}
 use Rattle.tree.specs.declared.walk.Opened.{Opened}
-use Rattle.tree.specs.declared.walk.Step.{Step}
-use Rattle.tree.specs.declared.walk.Step.TheVariants.{Node, End}
+use Rattle.std.proofs.Common.{Option, Some, None}
 use Rattle.tree.specs.Walk.{step_at, past_of}
 use Rattle.tree.proofs.Steps.{step-within, step_end}
 use Rattle.printer.specs.declared.row.Reached.{Reached}
@@ -19,9 +18,9 @@ use Rattle.line.specs.Lines.{line_of}
 use Rattle.printer.specs.Rows.{Row, RowPut, no_row, node_row, last_of, row_within, row_of}
 use Rattle.writer.proofs.Puts.{none, then, put_as}
 
-by_step : {A : Type 0} (s : Step) → (s ≡ End → A) → ((o : Opened) → s ≡ Node o → A) → A
-by_step End f g = f refl
-by_step (Node o) f g = g o refl
+by_step : {A : Type 0} (s : Option Opened) → (s ≡ None → A) → ((o : Opened) → s ≡ Some o → A) → A
+by_step None f g = f refl
+by_step (Some o) f g = g o refl
 
 module _ (words : List ℕ) where
   -- the row behind a node, where the row below it ends
@@ -37,13 +36,13 @@ module _ (words : List ℕ) where
     none_within zero = refl
     none_within (suc f) = refl
 
-    end-within : (f n : ℕ) → step_at words at items ≡ End → row_within f words at n items depth ≡ no_row at
+    end-within : (f n : ℕ) → step_at words at items ≡ None → row_within f words at n items depth ≡ no_row at
     unfolding row_within
     end-within zero n e = refl
     end-within (suc f) zero e = refl
     end-within (suc f) (suc n) e = rw (e, row_within)
 
-    node-within : (f n : ℕ) (o : Opened) → step_at words at items ≡ Node o →
+    node-within : (f n : ℕ) (o : Opened) → step_at words at items ≡ Some o →
         row_within (suc f) words at (suc n) items depth
         ≡ node_row words o depth (below_of f o depth) (behind_of f o (below_of f o depth).end n items depth)
     unfolding row_within
@@ -109,11 +108,11 @@ module _ (words : List ℕ) where
     unfolding row_of
     row-none z = let e : n ≡ 0 = omega arith in rw e (none_within at items depth (length words))
 
-    pub row-end : End ≡ step_at words at items → row_of words at n items depth ≡ no_row at
+    pub row-end : None ≡ step_at words at items → row_of words at n items depth ≡ no_row at
     unfolding row_of
     row-end e = end-within at items depth (length words) n (sym e)
 
-    pub row-node : (o : Opened) → 0 < n → Node o ≡ step_at words at items →
+    pub row-node : (o : Opened) → 0 < n → Some o ≡ step_at words at items →
         row_of words at n items depth
         ≡ (let below = row_of words o.from o.count o.items (depth + 1) in
         node_row words o depth below (row_of words (past_of (length words) below.end o.tail) (n - 1) items depth))
@@ -165,11 +164,11 @@ module _ {words before : List ℕ} {from place : ℕ} {row : Row} {out : List �
   done z = closed (row-none words at left items depth z)
 
   -- no node is there though one is left
-  pub cut : End ≡ step_at words at items → RowPut before place row out (record { at = at; end = to })
+  pub cut : None ≡ step_at words at items → RowPut before place row out (record { at = at; end = to })
   cut e = closed (row-end words at left items depth e)
 
   -- one node more, whose line is put
-  module _ {o : Opened} {out₁ : List ℕ} {to₁ : ℕ} (e : Node o ≡ step_at words at items) (p : Put out to out₁ to₁ (line_of words o depth)) where
+  module _ {o : Opened} {out₁ : List ℕ} {to₁ : ℕ} (e : Some o ≡ step_at words at items) (p : Put out to out₁ to₁ (line_of words o depth)) where
     abbrev below : Row
     below = row_of words o.from o.count o.items (depth + 1)
 

@@ -1,7 +1,6 @@
 -- The lines of a row of nodes and of all below them, from any words: what no tree has put there is walked as the words say.
-use Rattle.std.specs.Prelude.{ℕ, zero, suc, ◌+◌, ◌≡◌, Bool, false, cond, List, [], ◌++◌, length, eqb}
+use Rattle.std.specs.Prelude.{ℕ, zero, suc, ◌+◌, ◌≡◌, Bool, false, cond, Some, None, List, [], ◌++◌, length, eqb}
 use Rattle.tree.specs.declared.walk.Opened.{Opened}
-use Rattle.tree.specs.declared.walk.Step.TheVariants.{Node, End}
 use Rattle.tree.specs.Walk.{step_at, past_of}
 use Rattle.printer.specs.declared.row.Reached.{Reached}
 use Rattle.line.specs.Lines.{line_of}
@@ -34,8 +33,8 @@ row_within zero words at count items depth = no_row at
 row_within (suc bound) words at zero items depth = no_row at
 row_within (suc bound) words at (suc count) items depth =
     elim (step_at words at items) [
-      | End ↦ no_row at
-      | Node o ↦
+      | None ↦ no_row at
+      | Some o ↦
           let below = row_within bound words o.from o.count o.items (depth + 1) in
           node_row words o depth below
           (row_within bound words (past_of (length words) below.end o.tail) count items depth)

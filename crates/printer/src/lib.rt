@@ -8,17 +8,9 @@ ghost use Rattle.writer.specs.Put.{Put};
 ghost use Rattle.line.specs.Print.{first};
 ghost use Rattle.printer.specs.Call.{answer_of, print_words, fitted};
 
+use refusals::refusal::Refusal;
 use row::put_row;
 use writer::{put_bytes, put_number};
-
-// What the call answers.
-#[derive(Clone, Copy)]
-pub enum Fitted {
-    // How many bytes the print has.
-    Whole(usize),
-    // The refusal's number.
-    Refused(u8),
-}
 
 fn put_first(out: &mut [u8], text: usize, tokens: usize, takes: u64, items: usize) -> usize
     ensures { Put out.old 0 out.new result (first text tokens takes items) }
@@ -42,11 +34,10 @@ fn put_tree(
     ensures { Put out.old 0 out.new result (print_words words.now text tokens takes items) }
 {
     let end = put_first(out, text, tokens, takes, items);
-    let r = put_row(words, out, 0, end, items, true, 0);
-    r.end
+    put_row(words, out, 0, end, items, true, 0).end
 }
 
-// Prints the tree whose words stand first in `words`: the print's bytes first in `out`, or a refusal by 10. The length is found first,
+// Prints the tree whose words stand first in `words`: the print's bytes first in `out`, and how many they are. The length is found first,
 // with a buffer of one byte, so that a buffer that is too short stays as it was.
 pub fn print_tree(
     words: &[u32],
@@ -55,15 +46,15 @@ pub fn print_tree(
     tokens: usize,
     takes: u64,
     items: usize,
-) -> Fitted
+) -> Result<usize, Refusal>
     ensures { (answer_of result, out.new) ≡ fitted (print_words words.now text tokens takes items) out.old }
 {
     let mut probe = [0u8; 1];
     let need = put_tree(words, &mut probe, text, tokens, takes, items);
     if need <= out.len() {
         put_tree(words, out, text, tokens, takes, items);
-        Fitted::Whole(need)
+        Ok(need)
     } else {
-        Fitted::Refused(10)
+        Err(Refusal::ShortPrint)
     }
 }

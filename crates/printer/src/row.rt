@@ -3,7 +3,7 @@ ghost use Rattle.std.specs.Prelude.{◌≤◌, length, ◌≡◌};
 ghost use Rattle.printer.specs.Rows.{last_of, row_of, RowPut};
 
 use line::put_line;
-use tree::walk::{Step, node_at, past};
+use tree::walk::{node_at, past};
 
 // Where the words read and the bytes put end.
 #[derive(Clone, Copy)]
@@ -16,7 +16,7 @@ pub(crate) struct Reached {
 fn is_last(left: usize, tail: usize) -> bool
     ensures { result ≡ last_of left tail }
 {
-    if left == 1 { tail == 0 } else { false }
+    left == 1 && tail == 0
 }
 
 // The lines of `count` nodes and of all below them. The nodes below the last one take the place of its row, so that no call waits for
@@ -40,27 +40,24 @@ pub(crate) fn put_row(
     let mut left = count;
     let mut sort = items;
     let mut level = depth;
+    // kept: no `for`, since the nodes below a last one take its row's place, and with it what is left
     'all: while left > 0 {
-        match node_at(words, at, sort) {
-            Step::Node(o) => {
-                if is_last(left, o.tail) {
-                    end = put_line(words, out, end, o, level);
-                    at = o.from;
-                    left = o.count;
-                    sort = o.items;
-                    level += 1;
-                } else {
-                    let behind = put_line(words, out, end, o, level);
-                    let r = put_row(words, out, o.from, behind, o.count, o.items, level + 1);
-                    at = past(words, r.at, o.tail);
-                    end = r.end;
-                    left -= 1;
-                }
-            }
-            Step::End => {
-                break 'all;
-            }
+        let Some(o) = node_at(words, at, sort) else {
+            break;
+        };
+        if is_last(left, o.tail) {
+            end = put_line(words, out, end, o, level);
+            at = o.from;
+            left = o.count;
+            sort = o.items;
+            level += 1;
+        } else {
+            let behind = put_line(words, out, end, o, level);
+            let r = put_row(words, out, o.from, behind, o.count, o.items, level + 1);
+            at = past(words, r.at, o.tail);
+            end = r.end;
+            left -= 1;
         }
     }
-    Reached { at: at, end: end }
+    Reached { at, end }
 }

@@ -2,14 +2,14 @@
 use Prim.Native.Nat.{ℕ, ◌+◌, ◌*◌, ◌/◌, ◌≤◌, ◌<◌}
 use mathlib.Core.Path.{◌≡◌, refl, sym, ap, ◌∙◌}
 use mathlib.Core.Bool.{Bool}
-use mathlib.Core.List.{List, ◌++◌}
+use mathlib.Core.List.{List, [], ◌∷◌, ◌++◌}
 use mathlib.Core.Option.{none, some}
 use native.Mathlib.Omega.{arith}
 use lib.Dec.{ltb}
 use lib.ListN.{length, drop, length-append}
 use lib.Seq.{take_at, sets-eq}
 use borrow.Author.Tests.{lt-ltb, le-ltb}
-use Rattle.tokens.specs.Refusals.{accepted, refused, ascii, text_refusal, entry_words}
+use Rattle.tokens.specs.Refusals.{bit, accepted, refused, ascii, text_refusal, entry_words}
 use Rattle.tokens.specs.Table.{count_others}
 use Rattle.room.proofs.Lengths.{room-enough}
 use Rattle.lexing.specs.Rules.{tokens}
@@ -18,7 +18,9 @@ use Rattle.tokens.proofs.Cases.{by_lt, by_option, by_test, apart}
 use Rattle.parse.specs.Call.{parse_refusal}
 use Rattle.parse.proofs.Calls.{text-refused, table-long, others-within}
 use Rattle.print.specs.declared.Printed.{Printed}
-use Rattle.print.specs.declared.Printed.TheVariants.{Whole, Refused}
+use Rattle.std.specs.Prelude.{Result, Ok, Err}
+use Rattle.refusals.specs.declared.refusal.Refusal.{Refusal}
+use Rattle.refusals.specs.Refusal.{refusal_number}
 use Rattle.writer.specs.Put.{Put}
 use Rattle.print.specs.Call.{answer_of, print_of, values, printed_text}
 use Rattle.writer.proofs.Decimals.{small, large}
@@ -87,7 +89,7 @@ module _ (text table work tree out : List ℕ) (few : length text ≤ most) (ta 
   enough : text_refusal text ≡ none → parse_refusal text (length table) (length work) (length tree) ≡ none
   enough e = any-text text (length table) (length work) (length tree) e (omega arith) (omega arith) (omega arith)
 
-  module _ (r : Printed) (t w y z : List ℕ) (e : (answer_of r, t, w, y, z) ≡ printed_text text table work tree out) where
+  module _ (r : Result Printed Refusal) (t w y z : List ℕ) (e : (answer_of r, t, w, y, z) ≡ printed_text text table work tree out) where
     answer : answer_of r ≡ (printed_text text table work tree out).0
     answer = ap (λ (x : LeftAll). x.0) e
 
@@ -100,8 +102,9 @@ module _ (text table work tree out : List ℕ) (few : length text ≤ most) (ta 
         ap (λ (x : LeftAll). x.0)
         (refused-so text table work tree out k (text-refused entry_words text (length table) (length work) (length tree) k h))
 
-    pub when_refused : (k : ℕ) → r ≡ Refused k → (k < 100) × (reply_to text ≡ refusal k)
-    when_refused k q =
+    pub when_refused : (why : Refusal) → r ≡ Err why → (refusal_number why < 100) × (reply_to text ≡ refusal (refusal_number why))
+    when_refused why q =
+        let k = refusal_number why in
         by_option (text_refusal text)
         (λ h.
         by_lt (length out) (length (print_of text))
@@ -117,25 +120,25 @@ module _ (text table work tree out : List ℕ) (few : length text ≤ most) (ta 
         let n : k ≡ j = cc in
         (omega (arith, few-numbers text j h), rw n (reply_refused j h)))
 
-    pub printed-whole : (len takes : ℕ) (b : Bool) → r ≡ Whole len takes b → Written (reply_to text) z len
+    pub printed-whole : (p : Printed) → r ≡ Ok p → Written (reply_to text) z p.len
     unfolding values
-    printed-whole len takes b q =
+    printed-whole p q =
         by_option (text_refusal text)
         (λ h.
         by_lt (length out) (length (print_of text))
         (λ l.
-        let d : answer_of (Whole len takes b) ≡ refused 10 = ap answer_of (sym q) ∙ answer ∙ short-so text table work tree out (enough h) l in
+        let d : accepted (p.len ∷ p.takes ∷ bit p.blank ∷ []) ≡ refused 10 = ap answer_of (sym q) ∙ answer ∙ short-so text table work tree out (enough h) l in
         apart cc)
         (λ l.
-        let d : answer_of (Whole len takes b) ≡ accepted (values text) = ap answer_of (sym q) ∙ answer ∙ ap (λ (x : LeftAll). x.0) (whole-so text table work tree out (enough h) l) in
-        let n : len ≡ length (print_of text) = cc in
+        let d : accepted (p.len ∷ p.takes ∷ bit p.blank ∷ []) ≡ accepted (values text) = ap answer_of (sym q) ∙ answer ∙ ap (λ (x : LeftAll). x.0) (whole-so text table work tree out (enough h) l) in
+        let n : p.len ≡ length (print_of text) = cc in
         let s : z ≡ print_of text ++ drop (length (print_of text)) out = left ∙ ap (λ (x : LeftAll). x.4) (whole-so text table work tree out (enough h) l) in
-        let p = reply_whole h (omega arith) in
+        let said = reply_whole h (omega arith) in
         record {
-          count = n ∙ ap length (sym p);
+          count = n ∙ ap length (sym said);
           fits = rw s (omega (arith, length-append (print_of text) (drop (length (print_of text)) out)));
-          first = rw (s, p) (take_at (print_of text) (drop (length (print_of text)) out) len (sym n));
+          first = rw (s, said) (take_at (print_of text) (drop (length (print_of text)) out) p.len (sym n));
         }))
         (λ j h.
-        let d : answer_of (Whole len takes b) ≡ refused j = ap answer_of (sym q) ∙ by_refusal j h in
+        let d : accepted (p.len ∷ p.takes ∷ bit p.blank ∷ []) ≡ refused j = ap answer_of (sym q) ∙ by_refusal j h in
         apart cc)

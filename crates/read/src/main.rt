@@ -4,9 +4,9 @@
 ghost use Rattle.std.specs.Prelude.{◌≡◌, ◌≤◌, ◌<◌, length};
 ghost use Rattle.read.specs.Reply.{Written, print_room, reply_to};
 
-use print::Printed;
-use read_input::{Input, MOST, read_input};
-use read_output::{put_refusal, write_answer};
+use read_input::MOST;
+use read_output::{answer_input, put_refusal};
+use refusals::refusal::Refusal;
 
 // What the program writes for a text, first in `out`; how many bytes. The buffers are long enough for any text of MOST bytes.
 fn reply(text: &[u8], out: &mut [u8]) -> usize
@@ -14,28 +14,17 @@ fn reply(text: &[u8], out: &mut [u8]) -> usize
     ensures { Written (reply_to text.now) out.new result }
 {
     if MOST < text.len() {
-        return put_refusal(out, 1);
+        return put_refusal(out, Refusal::LongText.number());
     }
     let mut table = [0u32; 3 * MOST];
     let mut work = [0u32; 2 * (MOST + 1)];
     let mut tree = [0u32; 32 * (MOST + 1)];
     match print::print(text, &mut table, &mut work, &mut tree, out) {
-        Printed::Whole {
-            len,
-            takes: _,
-            blank: _,
-        } => len,
-        Printed::Refused(number) => put_refusal(out, number),
+        Ok(printed) => printed.len,
+        Err(refusal) => put_refusal(out, refusal.number()),
     }
 }
 
-// One byte more than the most tells a text that is too long.
 fn main(rt: HostRuntime) {
-    let mut input = [0u8; MOST + 1];
-    let Input::Bytes(n) = read_input(&rt, &mut input) else {
-        return;
-    };
-    let mut out = [0u8; 65536];
-    let len = reply(&input[..n], &mut out);
-    write_answer(&rt, &out, len);
+    answer_input(&rt, &mut [0u8; 65536], reply);
 }

@@ -13,7 +13,8 @@ use Rattle.tokens.specs.Table.{count_others}
 use Rattle.tokens.specs.Refusals.{Answer, accepted, refused, text_refusal}
 use Rattle.tokens.proofs.Cases.{by_lt, by_option, apart}
 use Rattle.closers.specs.declared.PairedText.{PairedText}
-use Rattle.closers.specs.declared.PairedText.TheVariants.{Found}
+use Rattle.std.specs.Prelude.{Result, Ok}
+use Rattle.refusals.specs.declared.refusal.Refusal.{Refusal}
 use Rattle.closers.specs.Call.{text_answer_of, out_refusal, text_refusal_of, closed_text}
 use Rattle.closers.specs.Answers.{Answered}
 use Rattle.closers.proofs.Calls.{text-turned}
@@ -38,9 +39,15 @@ room none ts table out e =
     (λ l. not_some {k = 8} e (rw (refusal_of, le-ltb table (3 * length ts) h, out_refusal, lt-ltb out (count_others ts) l)))
     (λ l. (h, l)))
 
--- the call's answer, which is m tokens and n other than Space
-module _ (text table out : List ℕ) (r : PairedText) (t y : List ℕ) (c : (text_answer_of r, t, y) ≡ closed_text text table out)
-    (m n : ℕ) (q : r ≡ Found m n) where
+-- the call's answer: m tokens, and n other than Space
+module _ (text table out : List ℕ) (r : Result PairedText Refusal) (t y : List ℕ) (c : (text_answer_of r, t, y) ≡ closed_text text table out)
+    (p : PairedText) (q : r ≡ Ok p) where
+  abbrev m : ℕ
+  m = p.tokens
+
+  abbrev n : ℕ
+  n = p.others
+
   answer : ◌≡◌ {A = Answer × List ℕ × List ℕ} (accepted (m ∷ n ∷ []), t, y) (closed_text text table out)
   answer = rw q at c
 

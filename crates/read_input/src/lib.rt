@@ -12,33 +12,29 @@ use std::io::{ErrorKind, Read};
 // A text of more bytes is refused.
 pub const MOST: usize = 500;
 
-// How many bytes of the input stand first in the buffer, or that it could not be read.
-#[derive(Clone, Copy)]
-pub enum Input {
-    Bytes(usize),
-    Failed,
-}
-
-// What follows from a read's answer: so many bytes are read in all, the input has ended, or it can't be read.
-#[derive(Drop)]
-enum Next {
-    More(usize),
-    End,
-    Failed,
-}
-
-// After a read that was asked for what is left of `most` bytes, `done` of which were read before.
-fn after(got: io::Result<usize>, done: usize, most: usize) -> Next
+// What follows from a read that was asked for what is left of `most` bytes, `done` of which were read before: so many bytes are read in
+// all, or the input has ended.
+fn after(got: io::Result<usize>, done: usize, most: usize) -> io::Result<Option<usize>>
     requires done_le_most { done ≤ most }
     requires moved { Moved (most - done) got }
     ensures { result ≡ next_of got done }
 {
     match got {
-        Ok(0) => Next::End,
-        Ok(n) => Next::More(done + n),
-        Err(error) if error.kind() == ErrorKind::Interrupted => Next::More(done),
-        Err(_) => Next::Failed,
+        Ok(0) => Ok(None),
+        Ok(n) => Ok(Some(done + n)),
+        Err(error) if error.kind() == ErrorKind::Interrupted => Ok(Some(done)),
+        Err(error) => Err(error),
     }
+}
+
+// One read, behind the first `done` bytes.
+fn read_more(input: &mut impl Read, buf: &mut [u8], done: usize) -> io::Result<Option<usize>>
+    requires { done ≤ length buf.old }
+    ensures { Fitting result (length buf.old) }
+{
+    let most = buf.len();
+    let got = input.read(&mut buf[done..]);
+    after(got, done, most)
 }
 
 // The line on standard error that says why the input can't be read.
@@ -46,48 +42,30 @@ fn say_why<D: Display + Drop>(rt: &impl Eprint, why: D) {
     let _ = eprintln!(rt; "read: can't read the input: {why}");
 }
 
-// The line, where a read has failed.
-fn say_failure(rt: &impl Eprint, next: &Next, got: io::Result<usize>) {
-    if let (Next::Failed, Err(error)) = (next, got) {
-        say_why(rt, error);
-    }
-}
-
-// One read, behind the first `done` bytes. Where that fails, a line on standard error says why.
-fn read_more(rt: &impl Eprint, input: &mut impl Read, buf: &mut [u8], done: usize) -> Next
-    requires { done ≤ length buf.old }
-    ensures { Fitting result (length buf.old) }
-{
-    let most = buf.len();
-    let got = input.read(&mut buf[done..]);
-    let next = after(got, done, most);
-    say_failure(rt, &next, got);
-    next
-}
-
 // Reads until the buffer is full or the input ends. A proved loop has to end: this one counts its turns, which no run uses up.
-fn fill(rt: &impl Eprint, input: &mut impl Read, buf: &mut [u8]) -> Input
+fn fill(rt: &impl Eprint, input: &mut impl Read, buf: &mut [u8]) -> Option<usize>
     ensures { Standing result buf.new }
 {
     let mut done = 0;
-    let mut turns = u64::MAX;
-    while 0 < turns {
+    for _ in 0..u64::MAX {
         if done == buf.len() {
-            return Input::Bytes(done);
+            return Some(done);
         }
-        match read_more(rt, input, buf, done) {
-            Next::More(n) => done = n,
-            Next::End => return Input::Bytes(done),
-            Next::Failed => return Input::Failed,
+        match read_more(input, buf, done) {
+            Ok(Some(n)) => done = n,
+            Ok(None) => return Some(done),
+            Err(error) => {
+                say_why(rt, error);
+                return None;
+            }
         }
-        turns -= 1;
     }
     say_why(rt, "too many reads");
-    Input::Failed
+    None
 }
 
-// Reads standard input. Where that fails, a line on standard error says why.
-pub fn read_input(rt: &(impl io::Input + Eprint), buf: &mut [u8]) -> Input
+// Reads standard input: how many of its bytes stand first in the buffer. Where that fails, a line on standard error says why.
+pub fn read_input(rt: &(impl io::Input + Eprint), buf: &mut [u8]) -> Option<usize>
     ensures { Standing result buf.new }
 {
     fill(rt, &mut rt.reader(), buf)

@@ -1,34 +1,16 @@
 -- When an entry is placed, and the Space before a place.
 use Prim.Native.Nat.{ℕ, ◌+◌, ◌*◌, ◌-◌, ◌≤◌, ◌<◌}
-use mathlib.Core.Path.{◌≡◌, refl}
-use mathlib.Core.Bool.{Bool, true, false, cond}
+use mathlib.Core.Path.{◌≡◌}
+use mathlib.Core.Bool.{true}
 use mathlib.Core.List.{List}
-use native.Mathlib.Nat.{add-zero}
 use lib.ListN.{length, get_or}
 use borrow.Author.Tests.{lt-ltb, le-ltb, eq-eqb, ne_eqb}
-use Rattle.records.specs.Record.{place_of, Whole, is_whole, is_placed, start_of, space_word}
-
-never : (b : Bool) → cond b false false ≡ false
-never true = refl
-never false = refl
+use Rattle.records.specs.Record.{place_of, Whole, is_placed, space_word}
 
 module _ (t K : List ℕ) (i : ℕ) where
   pub is_placed_lem : Whole K i → 3 * place_of K i + 2 < length t → is_placed t K i ≡ true
   unfolding is_placed
   is_placed_lem h k = rw (lt-ltb _ _ h, lt-ltb _ _ k)
-
-  pub is_short : length K ≤ 2 * i + 1 → is_placed t K i ≡ false
-  unfolding is_placed
-  is_short h = rw (le-ltb _ _ h)
-
-  pub is_outside : length t ≤ 3 * place_of K i + 2 → is_placed t K i ≡ false
-  unfolding is_placed
-  is_outside h = rw (le-ltb _ _ h) (never (is_whole K i))
-
-  -- the first word of its token
-  pub start_word : cond (is_placed t K i) (get_or t (3 * place_of K i + 0) 0) 0 ≡ start_of t K i
-  unfolding start_of
-  start_word = simp add-zero
 
 -- A word of the Space before a place.
 module _ (t : List ℕ) (j k : ℕ) where

@@ -1,51 +1,54 @@
 // The token of an entry, by its place in the record.
-ghost use Rattle.std.specs.Prelude.{cond, ◌≡◌, ◌+◌, ◌*◌, ◌<◌, get_or};
-ghost use Rattle.records.specs.Record.{InHalf, place_of, Whole, is_placed, kind_of, start_of, len_of};
+ghost use Rattle.std.specs.Prelude.{true, false, ◌≡◌, ◌+◌, ◌*◌, ◌<◌, length, IfSome, IfNone};
+ghost use Rattle.records.specs.Record.{place_of, is_placed, kind_of, start_of, len_of};
 
 use crate::RECORD_WORDS;
 use crate::bits::{Bits, bits_of};
 use tokens::kinds::SPACE;
 
-// The place of the token in the table, of an entry that has its words.
-pub(crate) fn place_at(work: &[u32], i: usize) -> usize
-    requires { Whole work.now i }
-    ensures value { result ≡ place_of work.now i }
-    ensures in_half { InHalf result }
-{
-    bits_of(Bits::Low, work[RECORD_WORDS * i]) as usize
-}
-
-// The word k of the entry's token, or `none` if the entry is not placed.
-fn token_word(tok: &[u32], work: &[u32], i: usize, k: usize, none: u32) -> u32
-    requires { k < 3 }
-    ensures { result ≡ cond (is_placed tok.now work.now i) (get_or tok.now (3 * place_of work.now i + k) 0) none }
+// The place of the entry's token in the table, if the work words have its record and the table that token.
+#[tactic(auto, unfolding(crate::specs::Record::is_placed, crate::specs::Record::place_of))]
+pub(crate) fn placed(tok: &[u32], work: &[u32], i: usize) -> Option<usize>
+    ensures place { IfSome result (λ j. (is_placed tok.now work.now i ≡ true) × (j ≡ place_of work.now i)) }
+    ensures in_table { IfSome result (λ j. 3 * j + 2 < length tok.now) }
+    ensures none { IfNone result (is_placed tok.now work.now i ≡ false) }
 {
     if i < work.len() / RECORD_WORDS {
-        let j = place_at(work, i);
+        let j = bits_of(Bits::Low, work[RECORD_WORDS * i]) as usize;
         if 3 * j + 2 < tok.len() {
-            tok[3 * j + k]
-        } else {
-            none
+            return Some(j);
         }
-    } else {
-        none
     }
+    None
 }
 
+// The kind of the entry's token, that of a Space if it is not placed.
+#[tactic(auto, unfolding(crate::specs::Record::kind_of))]
 pub fn kind_at(tok: &[u32], work: &[u32], i: usize) -> u32
     ensures { result ≡ kind_of tok.now work.now i }
 {
-    token_word(tok, work, i, 2, SPACE)
+    match placed(tok, work, i) {
+        Some(j) => tok[3 * j + 2],
+        None => SPACE,
+    }
 }
 
+#[tactic(auto, unfolding(crate::specs::Record::start_of))]
 pub fn start_at(tok: &[u32], work: &[u32], i: usize) -> u32
     ensures { result ≡ start_of tok.now work.now i }
 {
-    token_word(tok, work, i, 0, 0)
+    match placed(tok, work, i) {
+        Some(j) => tok[3 * j],
+        None => 0,
+    }
 }
 
+#[tactic(auto, unfolding(crate::specs::Record::len_of))]
 pub fn len_at(tok: &[u32], work: &[u32], i: usize) -> u32
     ensures { result ≡ len_of tok.now work.now i }
 {
-    token_word(tok, work, i, 1, 0)
+    match placed(tok, work, i) {
+        Some(j) => tok[3 * j + 1],
+        None => 0,
+    }
 }

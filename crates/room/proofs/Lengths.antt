@@ -3,18 +3,17 @@ use Prim.Native.Nat.{ℕ, ◌+◌, ◌*◌, ◌≤◌, ◌<◌}
 use mathlib.Core.Path.{◌≡◌, refl, sym, ap, ◌∙◌}
 use mathlib.Core.Option.{Option, none, some}
 use native.Mathlib.Omega.{arith}
+use Rattle.std.specs.Prelude.{Result, Ok, Err}
 use borrow.Author.Tests.{lt-ltb, le-ltb}
 use Rattle.tokens.proofs.Accepted.{met}
 use Rattle.tokens.proofs.Cases.{by_lt}
 use Rattle.tokens.specs.Refusals.{entry_words, room_refusal, room_refusal_by}
-use Rattle.room.specs.declared.Room.{Room}
-use Rattle.room.specs.declared.Room.TheVariants.{Enough, Refused}
 use Rattle.room.specs.Room.{room_for, lacking_for, room_of, room_answer}
 
 -- the refusal that an answer names
-abbrev pub refusal_in : Room → Option ℕ
-refusal_in Enough = none
-refusal_in (Refused k) = some k
+abbrev pub refusal_in : Result Unit ℕ → Option ℕ
+refusal_in (Ok u) = none
+refusal_in (Err k) = some k
 
 pub lacking_work : (n work : ℕ) → work < entry_words * (n + 1) → lacking_for n work ≡ 8
 unfolding lacking_for
@@ -57,7 +56,7 @@ module _ (n work tree : ℕ) where
   unfolding room_answer
   answers o e = ap room_of (sym e)
 
-  pub refusal-in : (r : Room) → r ≡ room_answer n work tree → room_refusal n work tree ≡ refusal_in r
+  pub refusal-in : (r : Result Unit ℕ) → r ≡ room_answer n work tree → room_refusal n work tree ≡ refusal_in r
   unfolding room_answer room_of
   refusal-in r e = go (room_refusal n work tree) ∙ ap refusal_in (sym e)
     where

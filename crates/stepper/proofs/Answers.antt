@@ -8,7 +8,8 @@ use native.Mathlib.Omega.{arith}
 use lib.ListN.{length, drop}
 use borrow.Author.Tests.{lt-ltb, le-ltb}
 use Rattle.lex.specs.declared.Lexing.{Lexing}
-use Rattle.lex.specs.declared.Lexing.TheVariants.{Tokens, End, Refused}
+use Rattle.std.specs.Prelude.{Result, Ok, Err, Some, None}
+use Rattle.std.specs.Prelude as code
 use Rattle.tokens.specs.Kinds.{number_of}
 use Rattle.tokens.specs.Lexeme.{Lexeme}
 use Rattle.lexing.specs.Rules.{byte_at, read_at}
@@ -22,10 +23,10 @@ use Rattle.stepper.specs.Step.{StepAnswer, token, end, refused, token_answer, le
 use Rattle.stepper.proofs.Queues.{first_of, place-passes, too_many}
 
 -- the answer of a single read at the state's place, as that of a step
-abbrev step_of : Tokenizer → Lexing → StepAnswer × Tokenizer
-step_of s (Tokens t q next row) = (token t.start t.len (number_of t.token), record { place = next; queued = q })
-step_of s End = (end, s)
-step_of s (Refused k) = (refused k, s)
+abbrev step_of : Tokenizer → Result (code.Option Lexing) ℕ → StepAnswer × Tokenizer
+step_of s (Ok (Some l)) = (token l.first.start l.first.len (number_of l.first.token), record { place = l.next; queued = l.queued })
+step_of s (Ok None) = (end, s)
+step_of s (Err k) = (refused k, s)
 
 -- what a state that fits has
 module _ (size : ℕ) (s : Tokenizer) (f : fits size s ≡ true) where
@@ -97,7 +98,7 @@ module _ (text : List ℕ) (s : Tokenizer) where
     unfolding waiting
     none-waiting = let e : s.queued.count ≡ 0 = omega arith in rw e
 
-    pub answers-read : (r : Lexing) → r ≡ lexed_at text s.place → step_of s r ≡ stepped text s
+    pub answers-read : (r : Result (code.Option Lexing) ℕ) → r ≡ lexed_at text s.place → step_of s r ≡ stepped text s
     answers-read r e =
         ap (step_of s) e
         ∙ by_option (text_refusal text)

@@ -1,6 +1,7 @@
 -- The stepped tokenizer. Document 01: "the tokenizer is offered as a state lent by &mut and stepped, one token a step, holding
 -- its place and at most three waiting tokens."
-use Rattle.std.specs.Prelude.{Bool, true, false, ◌&&◌, List, [], ◌∷◌, ℕ, zero, suc, ◌+◌, leb, ltb, length, take}
+use Rattle.std.specs.Prelude.{Bool, true, false, ◌&&◌, List, [], ◌∷◌, ℕ, zero, suc, ◌+◌, leb, ltb, length, take, Result, Ok, Err, Some, None}
+use Rattle.std.specs.Prelude as code
 use Rattle.std.proofs.Math.Option.{Option, none, some}
 use Rattle.lex.specs.declared.Spanned.{Spanned}
 use Rattle.lex.specs.declared.Queue.{Queue}
@@ -10,8 +11,8 @@ use Rattle.lexing.specs.Rules.{byte_at, read_at}
 use Rattle.tokens.specs.Refusals.{text_refusal}
 use Rattle.lex.specs.Lex.{queue_of}
 use Rattle.stepper.specs.declared.Tokenizer.{Tokenizer}
-use Rattle.stepper.specs.declared.Stepped.{Stepped}
-use Rattle.stepper.specs.declared.Stepped.TheVariants as answer
+use Rattle.refusals.specs.declared.refusal.Refusal.{Refusal}
+use Rattle.refusals.specs.Refusal.{refusal_number}
 
 -- An answer in the words of document 01: a token by its start, its length and the number of its kind; End; or the number of
 -- a refusal.
@@ -20,10 +21,10 @@ pub data StepAnswer : Type 0 where
   end : StepAnswer
   refused : ℕ → StepAnswer
 
-abbrev pub answer_of : Stepped → StepAnswer
-answer_of (answer.Token t) = token t.start t.len (number_of t.token)
-answer_of answer.End = end
-answer_of (answer.Refused k) = refused k
+abbrev pub answer_of : Result (code.Option Spanned) Refusal → StepAnswer
+answer_of (Ok (Some t)) = token t.start t.len (number_of t.token)
+answer_of (Ok None) = end
+answer_of (Err r) = refused (refusal_number r)
 
 abbrev pub token_answer : Lexeme → StepAnswer
 token_answer t = token t.span.start t.span.len (number_of t.token)

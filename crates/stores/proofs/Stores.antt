@@ -7,7 +7,7 @@ use native.Mathlib.Omega.{arith}
 use native.Mathlib.Decide.{ℕ_discrete}
 use lib.ListN.{length, get_or, set, length-set}
 use lib.Seq.{get_or-set_same, get_or-set_other}
-use borrow.Author.Tests.{lt-ltb, le-ltb, ltb-true}
+use borrow.Author.Tests.{lt-ltb, ltb-true}
 use Rattle.records.specs.declared.bits.Bits.{Bits}
 use Rattle.records.specs.declared.bits.Bits.TheVariants.{Low, High, Marks, Closer}
 use Rattle.records.specs.Record.{record_words, closer_size, InHalf, InMarks, InCloser, bits_of, with_bits, field, place_of, after_close, sep_of, marks_of, closer_of, Whole, is_whole, with_record, with_field, with_close, with_sep, with_marks, with_closer, Kept}
@@ -18,10 +18,6 @@ module _ (K : List ℕ) (i place : ℕ) where
   pub record-whole : Whole K i → with_record K i place ≡ set (set K (2 * i) (bits_of Low place)) (2 * i + 1) 0
   unfolding with_record
   record-whole h = rw (lt-ltb _ _ h)
-
-  pub record-short : length K ≤ 2 * i + 1 → with_record K i place ≡ K
-  unfolding with_record
-  record-short h = rw (le-ltb _ _ h)
 
   pub record-length : length (with_record K i place) ≡ length K
   unfolding with_record
@@ -133,10 +129,6 @@ module _ (k : ℕ) (h : Bits) (K : List ℕ) (i v : ℕ) where
   pub field-whole : Whole K i → with_field k h K i v ≡ set K (2 * i + k) (with_bits h (get_or K (2 * i + k) 0) v)
   unfolding with_field
   field-whole l = rw (lt-ltb _ _ l)
-
-  pub field-short : length K ≤ 2 * i + 1 → with_field k h K i v ≡ K
-  unfolding with_field
-  field-short l = rw (le-ltb _ _ l)
 
   field-length : length (with_field k h K i v) ≡ length K
   unfolding with_field

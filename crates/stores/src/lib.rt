@@ -8,6 +8,7 @@ use records::RECORD_WORDS;
 use records::bits::{Bits, bits_of, with_bits};
 
 // The record of the entry i at this place of the table, with no bracket matched, no mark set and no closer.
+#[tactic(auto, unfolding(records::specs::Record::with_record))]
 pub fn put_record(work: &mut [u32], i: usize, place: u32)
     ensures { work.new ≡ with_record work.old i place }
 {
@@ -18,13 +19,14 @@ pub fn put_record(work: &mut [u32], i: usize, place: u32)
 }
 
 // Bits of the word k of the record i; of a larger number as many of its low bits.
+#[tactic(auto, unfolding(records::specs::Record::with_field))]
 fn put_bits(work: &mut [u32], i: usize, k: usize, bits: Bits, v: u32)
     requires { k < 2 }
     ensures { work.new ≡ with_field k bits work.old i v }
 {
     if i < work.len() / RECORD_WORDS {
-        let word = work[RECORD_WORDS * i + k];
-        work[RECORD_WORDS * i + k] = with_bits(bits, word, v);
+        let word = &mut work[RECORD_WORDS * i + k];
+        *word = with_bits(bits, *word, v);
     }
 }
 

@@ -3,6 +3,7 @@ use std::io;
 use std::io::Bytes;
 
 // What is no digit.
+// kept: an enum would need these numbers too, since half a byte before a line's end reads as 0, and before the input's end as 1
 const NEWLINE: u8 = 16;
 
 pub(crate) const END: u8 = 17;
@@ -35,14 +36,14 @@ pub(crate) fn read_text(
     text: &mut [u8],
 ) -> io::Result<Read> {
     let mut len = 0;
-    let mut d = next_digit(input)?;
-    while len < text.len() && d < 16 {
-        text[len] = d % 16 * 16 + next_digit(input)? % 16;
-        len += 1;
-        d = next_digit(input)?;
+    let mut behind = next_digit(input)?;
+    for (i, place) in text.iter_mut().enumerate() {
+        if 16 <= behind {
+            break;
+        }
+        *place = behind % 16 * 16 + next_digit(input)? % 16;
+        len = i + 1;
+        behind = next_digit(input)?;
     }
-    Ok(Read {
-        len: len,
-        behind: d,
-    })
+    Ok(Read { len, behind })
 }

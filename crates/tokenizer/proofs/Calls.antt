@@ -2,24 +2,25 @@
 use mathlib.Core.Path.{◌≡◌, sym, ap, ◌∙◌}
 use mathlib.Core.List.{List, [], ◌∷◌, ◌++◌}
 use mathlib.Core.Option.{none, some}
-use Prim.Native.Nat.{ℕ, ◌+◌, ◌*◌, ◌/◌, ◌≤◌, ◌<◌}
+use Prim.Native.Nat.{ℕ, ◌*◌, ◌/◌, ◌≤◌, ◌<◌}
 use native.Mathlib.Omega.{arith}
 use lib.ListN.{length, take, drop}
-use lib.Seq.{paste, take_at}
+use lib.Seq.{take_at}
 use borrow.Author.Tests.{lt-ltb, le-ltb, lt-leb, le-leb}
 use Rattle.tokens.specs.Lexeme.{Lexeme}
 use Rattle.tokens.specs.Table.{table_words, count_others}
 use Rattle.tokens.specs.Refusals.{Answer, accepted, refused, text_refusal}
-use Rattle.tokens.proofs.Cases.{by_lt, by_option}
+use Rattle.tokens.proofs.Cases.{by_lt, by_option, apart}
 use Rattle.tokens.proofs.Order.{text-short}
 use Rattle.tokens.proofs.TokenList.{words-length, others-bound}
 use Rattle.lexing.specs.Rules.{tokens}
 use Rattle.lexing.proofs.Theorems.{never-outnumber}
 use Rattle.lexer.specs.declared.Listing.{Listing}
-use Rattle.lexer.specs.declared.Listing.TheVariants.{Tokens, Refused}
-use Rattle.lexer.specs.declared.found.TokenRow.{TokenRow}
+use Rattle.std.specs.Prelude.{Result, Ok, Err}
+use Rattle.refusals.specs.declared.refusal.Refusal.{Refusal}
+use Rattle.refusals.specs.Refusal.{refusal_number, numbered}
 use Rattle.lexer.specs.Lookup.{token_row}
-use Rattle.lexer.specs.Listing.{list_into, listed_to, listed_reads}
+use Rattle.lexer.specs.Listing.{listing, list_into, listed_to, listed_reads}
 use Rattle.lexer.proofs.Into.{into_whole}
 use Rattle.lexer.proofs.Places.{place-refused, place-accepted}
 use Rattle.tokenizer.specs.declared.TokenizedUnder.{TokenizedUnder}
@@ -28,77 +29,67 @@ use Rattle.tokenizer.specs.Waiting.{all_listed, Waiting}
 use Rattle.tokenizer.proofs.Whole.{all_reads, whole}
 use Rattle.tokenizer.specs.declared.TokenizedUnder.TheVariants as under
 
--- the first words of a list, pasted into a table
-pasted : (list table words : List ℕ) (n : ℕ) → take n list ≡ words → paste table 0 list n ≡ words ++ drop n table
-pasted list table words n e = let k : 0 + n ≡ n = omega arith in rw (e, k)
-
 module _ (text table : List ℕ) where
-  all-refused : (k : ℕ) → text_refusal text ≡ some k → ◌≡◌ {A = Listing × List ℕ} (listed_reads text 0 (length text) table) (Refused k, table)
+  all-refused : (k : ℕ) → text_refusal text ≡ some k → ◌≡◌ {A = Result Listing ℕ × List ℕ} (listed_reads text 0 (length text) table) (Err k, table)
   unfolding listed_reads
   all-refused k e = rw (place-refused text 0 k e, listed_reads)
 
   all-tokens : text_refusal text ≡ none
-      → ◌≡◌ {A = Listing × List ℕ} (listed_reads text 0 (length text) table) (Tokens (length (tokens text)) (count_others (tokens text)) (all_reads text).next (token_row (all_reads text).row), list_into 0 table (tokens text))
+      → ◌≡◌ {A = Result Listing ℕ × List ℕ} (listed_reads text 0 (length text) table) (Ok (listing (length (tokens text)) (count_others (tokens text)) (all_reads text).next (token_row (all_reads text).row)), list_into 0 table (tokens text))
   unfolding listed_reads listed_to
   all-tokens o =
-      let e : ◌≡◌ {A = Listing × List ℕ} (listed_reads text 0 (length text) table) (of_list (all_reads text).list) = rw (place-accepted text 0 o (omega arith), listed_reads) in
+      let e : ◌≡◌ {A = Result Listing ℕ × List ℕ} (listed_reads text 0 (length text) table) (of_list (all_reads text).list) = rw (place-accepted text 0 o (omega arith), listed_reads) in
       e ∙ ap of_list (whole text)
     where
-      of_list : List Lexeme → Listing × List ℕ
-      of_list ts = (Tokens (length ts) (count_others ts) (all_reads text).next (token_row (all_reads text).row), list_into 0 table ts)
+      of_list : List Lexeme → Result Listing ℕ × List ℕ
+      of_list ts = (Ok (listing (length ts) (count_others ts) (all_reads text).next (token_row (all_reads text).row)), list_into 0 table ts)
 
   -- what an answer of `list_reads` says
-  module _ (r : Listing) (after : List ℕ) (e : ◌≡◌ {A = Listing × List ℕ} (r, after) (listed_reads text 0 (length text) table)) where
-    pub answer-refused : (k : ℕ) → r ≡ Refused k → text_refusal text ≡ some k
+  module _ (r : Result Listing Refusal) (after : List ℕ) (e : ◌≡◌ {A = Result Listing ℕ × List ℕ} (numbered r, after) (listed_reads text 0 (length text) table)) where
+    pub answer-refused : (k : Refusal) → r ≡ Err k → text_refusal text ≡ some (refusal_number k)
     answer-refused k f =
+        let g = rw f at e in
         by_option (text_refusal text)
-        (λ o.
-        let h : r ≡ Tokens (length (tokens text)) (count_others (tokens text)) (all_reads text).next (token_row (all_reads text).row) = ap (λ (q : Listing × List ℕ). q.0) (e ∙ all-tokens o) in
-        let z : ◌≡◌ {A = ℕ} 0 1 = cc in
-        absurd (omega arith))
-        (λ j o.
-        let h : r ≡ Refused j = ap (λ (q : Listing × List ℕ). q.0) (e ∙ all-refused j o) in
-        let i : j ≡ k = cc in
-        o ∙ ap some i)
+        (λ o. let h = ap (λ (q : Result Listing ℕ × List ℕ). q.0) (g ∙ all-tokens o) in cc)
+        (λ j o. let h = ap (λ (q : Result Listing ℕ × List ℕ). q.0) (g ∙ all-refused j o) in cc)
 
-    pub answer-tokens : length table ≡ 480 → (all others next : ℕ) (row : TokenRow) → r ≡ Tokens all others next row → Waiting text after all others
-    answer-tokens l all others next row f =
+    pub answer-tokens : length table ≡ 480 → (l : Listing) → r ≡ Ok l → Waiting text after l.all l.others
+    answer-tokens z l f =
+        let g = rw f at e in
         by_option (text_refusal text)
         (λ o.
-        let h : r ≡ Tokens (length (tokens text)) (count_others (tokens text)) (all_reads text).next (token_row (all_reads text).row) = ap (λ (q : Listing × List ℕ). q.0) (e ∙ all-tokens o) in
-        let m : all ≡ length (tokens text) = cc in
-        let n : others ≡ count_others (tokens text) = cc in
+        let h = ap (λ (q : Result Listing ℕ × List ℕ). q.0) (g ∙ all-tokens o) in
+        let i : l ≡ listing (length (tokens text)) (count_others (tokens text)) (all_reads text).next (token_row (all_reads text).row) = cc in
+        let m : l.all ≡ length (tokens text) = ap (λ (k : Listing). k.all) i in
+        let n : l.others ≡ count_others (tokens text) = ap (λ (k : Listing). k.others) i in
         record {
           accepted = o;
           all_are = m;
           others-are = n;
           words_are = λ s.
               let w : after ≡ table_words (tokens text) ++ drop (3 * length (tokens text)) table =
-              ap (λ (q : Listing × List ℕ). q.1) (e ∙ all-tokens o) ∙ into_whole table (tokens text) (omega arith) in
-              ap (take (3 * all)) w ∙ take_at (table_words (tokens text)) _ (3 * all) (omega (arith, words-length (tokens text)));
+              ap (λ (q : Result Listing ℕ × List ℕ). q.1) (g ∙ all-tokens o) ∙ into_whole table (tokens text) (omega arith) in
+              ap (take (3 * l.all)) w ∙ take_at (table_words (tokens text)) _ (3 * l.all) (omega (arith, words-length (tokens text)));
         })
-        (λ j o.
-        let h : r ≡ Refused j = ap (λ (q : Listing × List ℕ). q.0) (e ∙ all-refused j o) in
-        let z : ◌≡◌ {A = ℕ} 0 1 = cc in
-        absurd (omega arith))
+        (λ j o. let h = ap (λ (q : Result Listing ℕ × List ℕ). q.0) (g ∙ all-refused j o) in apart cc)
 
 module _ (text table : List ℕ) (room : ℕ) where
-  abbrev Under : TokenizedUnder → List ℕ → Type 0
-  Under r after = ◌≡◌ {A = TokenizedUnder × List ℕ} (r, after) (tokenized_under text table room)
+  abbrev Under : Result TokenizedUnder ℕ → List ℕ → Type 0
+  Under r after = ◌≡◌ {A = Result TokenizedUnder ℕ × List ℕ} (r, after) (tokenized_under text table room)
 
-  pub under-refused : (k : ℕ) → text_refusal text ≡ some k → Under (under.Refused k) table
+  pub under-refused : (k : ℕ) → text_refusal text ≡ some k → Under (Err k) table
   unfolding tokenized_under
   under-refused k e = sym (rw (e, tokenized_under))
 
   module _ (o : text_refusal text ≡ none) (l : 3 * length (tokens text) ≤ length table) (m : count_others (tokens text) < room) where
-    under-tokens : Under (under.Tokens (length (tokens text)) (count_others (tokens text))) (table_words (tokens text) ++ drop (3 * length (tokens text)) table)
+    under-tokens : Under (Ok (under.Tokens (length (tokens text)) (count_others (tokens text)))) (table_words (tokens text) ++ drop (3 * length (tokens text)) table)
     unfolding tokenized_under
     under-tokens = sym (rw (o, tokenized_under) (rw (le-ltb _ _ l) (rw (lt-leb room (count_others (tokens text)) m))))
 
     all_under : all_listed (listed_reads text 0 (length text) table) ≡ tokenized_under text table room
     all_under =
         ap all_listed (all-tokens text table o)
-        ∙ ap (λ (t : List ℕ). (under.Tokens (length (tokens text)) (count_others (tokens text)), t)) (into_whole table (tokens text) l)
+        ∙ ap (λ (t : List ℕ). (Ok (under.Tokens (length (tokens text)) (count_others (tokens text))), t)) (into_whole table (tokens text) l)
         ∙ under-tokens
 
   -- a text with no more bytes than tokens fit
@@ -114,7 +105,7 @@ module _ (text table : List ℕ) (room : ℕ) where
     pub few : all ≤ 4096
     few = omega (arith, w.all_are, never-outnumber text, text-short text w.accepted)
 
-    pub waiting-short : length table < 3 * all → Under (under.Refused 7) table
+    pub waiting-short : length table < 3 * all → Under (Err 7) table
     unfolding tokenized_under
     waiting-short l = sym (rw (w.accepted, tokenized_under) (rw (lt-ltb (length table) (3 * length (tokens text)) (omega (arith, w.all_are)))))
 
@@ -122,7 +113,7 @@ module _ (text table : List ℕ) (room : ℕ) where
       fit : 3 * length (tokens text) ≤ length table
       fit = omega (arith, w.all_are)
 
-      pub waiting-many : room ≤ others → Under (under.Many others) table
+      pub waiting-many : room ≤ others → Under (Ok (under.Many others)) table
       unfolding tokenized_under
       waiting-many m =
           rw w.others-are
@@ -132,19 +123,19 @@ module _ (text table : List ℕ) (room : ℕ) where
         below : count_others (tokens text) < room
         below = omega (arith, w.others-are)
 
-        pub waiting-copied : all ≤ 160 → Under (under.Tokens all others) (paste table 0 list (3 * all))
+        pub waiting-copied : all ≤ 160 → Under (Ok (under.Tokens all others)) (take (3 * all) list ++ drop (3 * all) table)
         waiting-copied h =
-            rw (pasted list table (table_words (tokens text)) (3 * all) (w.words_are h), w.all_are, w.others-are)
+            rw (w.words_are h, w.all_are, w.others-are)
             (under-tokens w.accepted fit below)
 
         pub waiting-again : all_listed (listed_reads text 0 (length text) table) ≡ tokenized_under text table room
         waiting-again = all_under w.accepted fit below
 
 -- without a bound on the other tokens
-abbrev pub unbounded : TokenizedUnder × List ℕ → Answer × List ℕ
-unbounded (under.Tokens all others, table) = (accepted (all ∷ []), table)
-unbounded (under.Refused k, table) = (refused k, table)
-unbounded (under.Many others, table) = (refused 7, table)
+abbrev pub unbounded : Result TokenizedUnder ℕ × List ℕ → Answer × List ℕ
+unbounded (Ok (under.Tokens all others), table) = (accepted (all ∷ []), table)
+unbounded (Ok (under.Many others), table) = (refused 7, table)
+unbounded (Err k, table) = (refused k, table)
 
 pub under-any : (text table : List ℕ) → unbounded (tokenized_under text table 4097) ≡ tokenized text table
 unfolding tokenized_under tokenized
@@ -159,9 +150,9 @@ under-any text table =
     (λ k o. rw (o, tokenized_under, tokenized))
 
 -- the counts of a list
-abbrev pub counts : Listing × List ℕ → Answer
-counts (Tokens all others next row, table) = accepted (all ∷ others ∷ [])
-counts (Refused k, table) = refused k
+abbrev pub counts : Result Listing ℕ × List ℕ → Answer
+counts (Ok l, table) = accepted (l.all ∷ l.others ∷ [])
+counts (Err k, table) = refused k
 
 pub counts-are : (text table : List ℕ) → counts (listed_reads text 0 (length text) table) ≡ counted text
 unfolding counted

@@ -1,5 +1,6 @@
 // The kinds of tokens as numbers of the token table: docs/LAYOUT.md. A symbol's kind is SYMBOL and its class. Tests use the order: what
 // joins on to an item (Frac, Super, Sub) is below SEP, and a leaf by its kind is from NUMBER up to, not with, SIGN.
+// kept: the words of the token table are the C interface (docs/LAYOUT.md)
 pub const FRAC: u32 = 0;
 
 pub const SUPER: u32 = 1;

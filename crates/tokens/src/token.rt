@@ -8,7 +8,7 @@ use crate::kinds::{
 };
 
 // What a defined symbol is, which decides the space around it.
-#[derive(Clone, Copy)]
+#[derive(Clone, Copy, PartialEq, Eq)]
 pub enum SymbolClass {
     Glyph,
     Name,
@@ -20,7 +20,7 @@ pub enum SymbolClass {
     Separator,
 }
 
-#[derive(Clone, Copy)]
+#[derive(Clone, Copy, PartialEq, Eq)]
 pub enum Token {
     Frac,
     Super,
@@ -41,12 +41,12 @@ pub enum Token {
     Space,
 }
 
-impl SymbolClass {
-    // The class's number, from 0 in SymbolClass's order.
-    pub fn number(self) -> u32
-        ensures { result ≡ class_number self }
-    {
-        match self {
+// The class's number, from 0 in SymbolClass's order.
+impl From<SymbolClass> for u32 {
+    ghost from_gives = { λ class n. n ≡ class_number class };
+
+    fn from(class: SymbolClass) -> u32 {
+        match class {
             SymbolClass::Glyph => 0,
             SymbolClass::Name => 1,
             SymbolClass::Joining => 2,
@@ -59,12 +59,12 @@ impl SymbolClass {
     }
 }
 
-impl Token {
-    // The token's number in the token table.
-    pub fn number(self) -> u32
-        ensures { result ≡ number_of self }
-    {
-        match self {
+// The token's number in the token table.
+impl From<Token> for u32 {
+    ghost from_gives = { λ token n. n ≡ number_of token };
+
+    fn from(token: Token) -> u32 {
+        match token {
             Token::Frac => FRAC,
             Token::Super => SUPER,
             Token::Sub => SUB,
@@ -73,7 +73,7 @@ impl Token {
             Token::Text => TEXT,
             Token::Ident => IDENT,
             Token::Operator => OPERATOR,
-            Token::Symbol(class) => SYMBOL + class.number(),
+            Token::Symbol(class) => SYMBOL + u32::from(class),
             Token::Sign => SIGN,
             Token::Function => FUNCTION,
             Token::Unary => UNARY,
@@ -84,11 +84,13 @@ impl Token {
             Token::Space => SPACE,
         }
     }
+}
 
-    // The token of a number; Space for a number above 23, which no accepted list has.
-    pub fn of_number(n: u32) -> Token
-        ensures { result ≡ token_of n }
-    {
+// The token of a number; Space for a number above 23, which no accepted list has.
+impl From<u32> for Token {
+    ghost from_gives = { λ n token. token ≡ token_of n };
+
+    fn from(n: u32) -> Token {
         match n {
             FRAC => Token::Frac,
             SUPER => Token::Super,

@@ -1,10 +1,10 @@
 -- The head of an opened node, and a matrix's column lines, are those whose words stand there.
-use Prim.Native.Nat.{ℕ, ◌+◌, ◌-◌, ◌≤◌}
+use Prim.Native.Nat.{ℕ, ◌+◌, ◌≤◌}
 use mathlib.Core.Path.{◌≡◌, refl, sym, ap, ◌∙◌}
 use mathlib.Core.Bool.{Bool, false}
-use mathlib.Core.List.{List, ◌++◌, append_assoc}
-use lib.ListN.{length, take, drop, get_or-eq_default}
-use lib.Seq.{drop-drop, drop-length, drop-append_seam, take-append_seam, take-nil}
+use mathlib.Core.List.{List, [], ◌++◌, append_assoc}
+use lib.ListN.{length, drop, get_or-eq_default}
+use lib.Seq.{drop-drop, drop-append_seam, take-append_seam}
 use Rattle.tokens.specs.declared.token.SymbolClass.TheVariants as class
 use Rattle.tree.specs.declared.walk.Opened.{Opened}
 use Rattle.tree.specs.Tree.{Script, Head, Atom, Prefix, node, Nodes, count}
@@ -74,9 +74,9 @@ unfolding kind_head
 frac-head words lines = refl
 
 -- past the last word there are no lines
-pub lines-past : (words : List ℕ) (head : ℕ) → length words ≤ head → take (length words - length words) (drop (length words) words) ≡ lines_of words (headed_at words head)
+pub lines-past : (words : List ℕ) (head : ℕ) → length words ≤ head → [] ≡ lines_of words (headed_at words head)
 unfolding lines_of headed_at
-lines-past words head h = rw (get_or-eq_default words 0 h, drop-length words, take-nil)
+lines-past words head h = rw (get_or-eq_default words 0 h)
 
 module _ (words : List ℕ) (at : ℕ) (items : Bool) (l : Nodes) (rest : List ℕ) (o : Opened) where
   headed : (h : Head) → is_frac h ≡ false → Laid (node h l) → Opens words at items h l rest o → head_at words o.kind o.head ≡ h

@@ -1,5 +1,5 @@
 -- What a step of the walk finds at the words of a node: its kind and its own words, the nodes below it, and what stands behind them.
-use Prim.Native.Nat.{ℕ, suc, ◌+◌, ◌-◌, ◌≤◌, ◌<◌}
+use Prim.Native.Nat.{ℕ, ◌+◌, ◌-◌, ◌≤◌, ◌<◌}
 use mathlib.Core.Path.{◌≡◌, refl, sym, ap, ◌∙◌}
 use mathlib.Core.Bool.{Bool, true, false, cond}
 use mathlib.Core.List.{List, ◌∷◌, ◌++◌, append_assoc}
@@ -9,7 +9,7 @@ use lib.ListN.{length, get_or, drop, length-append, length-drop}
 use lib.Seq.{get_or-drop, drop-drop, drop-append_seam}
 use lib.Dec.{eqb}
 use Rattle.tree.specs.declared.walk.Opened.{Opened}
-use Rattle.tree.specs.declared.walk.Step.TheVariants.{Node as Node-at}
+use Rattle.std.proofs.Common.{Some}
 use Rattle.tree.specs.Tree.{Script, Head, Atom, Prefix, node, Nodes, end, ◌▸◌, count}
 use Rattle.tree.specs.Words.{head_words, tail_words, of_items, is_frac, with_head, encode, encodes, encode_items}
 use Rattle.tree.specs.Decode.{below}
@@ -19,7 +19,7 @@ use Rattle.tree.specs.Laid.{AllCells, Laid}
 
 -- What the answer says of a node whose words stand at `at` and are followed by `rest`.
 pub record Opens (words : List ℕ) (at : ℕ) (items : Bool) (h : Head) (l : Nodes) (rest : List ℕ) (o : Opened) : Type 0 where
-  pub found : step_at words at items ≡ Node-at o
+  pub found : step_at words at items ≡ Some o
   pub kind : o.kind ≡ kind_of h
   pub head : is_frac h ≡ false → drop o.head words ≡ head_words h (count l) (length (row_words (of_items h) l)) ++ (row_words (of_items h) l ++ (tail_words h ++ rest))
   pub row : drop o.from words ≡ row_words (of_items h) l ++ (tail_words h ++ rest)
@@ -209,7 +209,5 @@ cells-end words (node h l ▸ m) at rest a e =
     let s = cell-step words at (count l) inner (encodes m ++ rest) d in
     let next = cells-end words m (at + 6 + length inner) rest a.1 s.1.1 in
     let size : length (encodes (node h l ▸ m)) ≡ 6 + length inner + length (encodes m) = rw a.0 (simp length-append (omega arith)) in
-    sym (cell-more words at (suc (count m)) (omega arith) s.0 s.1.0) ∙ rw (sub-suc (count m)) (next ∙ omega arith)
-  where
-    sub-suc : (n : ℕ) → suc n - 1 ≡ n
-    sub-suc n = omega arith
+    let far : at + 6 + length inner ≡ at + (6 + length inner) = omega arith in
+    sym (cell-more words at (count m) refl s.0 s.1.0) ∙ rw (← far) (next ∙ omega arith)

@@ -1,8 +1,6 @@
 -- What a step of a walk over tree words finds, by the layout of docs/LAYOUT.md. A word past the end counts as 0.
-use Rattle.std.specs.Prelude.{ℕ, zero, suc, ◌+◌, min, Bool, true, false, cond, List, length, get_or, take, drop, eqb, ltb, leb}
+use Rattle.std.specs.Prelude.{ℕ, zero, suc, ◌+◌, min, Bool, true, false, cond, Option, Some, None, List, length, get_or, take, drop, eqb, ltb, leb}
 use Rattle.tree.specs.declared.walk.Opened.{Opened}
-use Rattle.tree.specs.declared.walk.Step.{Step}
-use Rattle.tree.specs.declared.walk.Step.TheVariants as step
 use Rattle.tree.specs.Tree.{Head, Node, Nodes}
 use Rattle.tree.specs.Words.{head_words, encode, encodes, encode_item, encode_items}
 use Rattle.tree.specs.Decode.{kind_head}
@@ -51,10 +49,10 @@ placed_at words at items =
     cond items (cond (eqb (get_or words at 0) 1) (fraction_at at) (headed_at words (at + 1))) (headed_at words at)
 
 -- the same, if its own words are there
-unfoldable pub step_at : List ℕ → ℕ → Bool → Step
+unfoldable pub step_at : List ℕ → ℕ → Bool → Option Opened
 step_at words at items =
     let o = placed_at words at items in
-    cond (ltb at (length words)) (cond (leb o.from (length words)) (step.Node o) step.End) step.End
+    cond (ltb at (length words)) (cond (leb o.from (length words)) (Some o) None) None
 
 -- the end of so many cells
 unfoldable pub cells_end : List ℕ → ℕ → ℕ → ℕ

@@ -1,4 +1,5 @@
-// The kinds of nodes in the words of a tree: docs/LAYOUT.md.
+// The kinds of nodes in the words of a tree.
+// kept: numbers and no enum, since they are the words that C reads (docs/LAYOUT.md)
 pub const NODE_MISSING: u32 = 0;
 
 pub const NODE_NUMBER: u32 = 1;

@@ -2,36 +2,49 @@
 use std::io;
 use std::io::Bytes;
 
-// What is no digit.
-pub(crate) const NEWLINE: u8 = 16;
-
-pub(crate) const COMMA: u8 = 17;
-
-pub(crate) const COLON: u8 = 18;
-
-pub(crate) const END: u8 = 19;
+// A hex digit's value, or what else stands there.
+#[derive(Clone, Copy, PartialEq, Eq, Drop)]
+pub(crate) enum Sign {
+    Digit(u8),
+    Newline,
+    Comma,
+    Colon,
+    End,
+}
 
 // A length or a number, and what stands behind it.
 #[derive(Drop)]
 pub(crate) struct Read {
     pub n: usize,
-    pub behind: u8,
+    pub behind: Sign,
 }
 
-// The value of a hex digit, or what else the byte is.
-fn digit_of(b: u8) -> u8 {
-    match b {
-        10 => NEWLINE,
-        44 => COMMA,
-        58 => COLON,
-        _ => (b % 16 + b / 64 * 9) % 16,
+impl Sign {
+    fn of(byte: u8) -> Sign {
+        match byte {
+            b'\n' => Sign::Newline,
+            b',' => Sign::Comma,
+            b':' => Sign::Colon,
+            _ => Sign::Digit((byte % 16 + byte / 64 * 9) % 16),
+        }
+    }
+
+    // Half of a byte: what is no digit stands for one too, so that any line has an answer.
+    fn half(self) -> u8 {
+        match self {
+            Sign::Digit(value) => value % 16,
+            Sign::Newline => 0,
+            Sign::Comma => 1,
+            Sign::Colon => 2,
+            Sign::End => 3,
+        }
     }
 }
 
-fn next_digit(input: &mut Bytes<impl io::Read + Drop>) -> io::Result<u8> {
+fn next_sign(input: &mut Bytes<impl io::Read + Drop>) -> io::Result<Sign> {
     match input.next() {
-        Some(byte) => Ok(digit_of(byte?)),
-        None => Ok(END),
+        Some(byte) => Ok(Sign::of(byte?)),
+        None => Ok(Sign::End),
     }
 }
 
@@ -40,28 +53,31 @@ pub(crate) fn read_text(
     input: &mut Bytes<impl io::Read + Drop>,
     text: &mut [u8],
 ) -> io::Result<Read> {
-    let mut len = 0;
-    let mut d = next_digit(input)?;
-    while len < text.len() && d < 16 {
-        text[len] = d % 16 * 16 + next_digit(input)? % 16;
-        len += 1;
-        d = next_digit(input)?;
+    let mut n = 0;
+    let mut behind = next_sign(input)?;
+    for (i, place) in text.iter_mut().enumerate() {
+        let Sign::Digit(high) = behind else {
+            break;
+        };
+        *place = high % 16 * 16 + next_sign(input)?.half() % 16;
+        n = i + 1;
+        behind = next_sign(input)?;
     }
-    Ok(Read { n: len, behind: d })
+    Ok(Read { n, behind })
 }
 
 // A number of at most nine digits.
 fn read_number(input: &mut Bytes<impl io::Read + Drop>) -> io::Result<Read> {
     let mut n = 0;
-    let mut d = next_digit(input)?;
+    let mut behind = next_sign(input)?;
     for _ in 0..9 {
-        if 16 <= d {
+        let Sign::Digit(digit) = behind else {
             break;
-        }
-        n = n % 100000000 * 10 + (d % 16) as usize;
-        d = next_digit(input)?;
+        };
+        n = n % 100000000 * 10 + digit as usize;
+        behind = next_sign(input)?;
     }
-    Ok(Read { n: n, behind: d })
+    Ok(Read { n, behind })
 }
 
 // Numbers with a comma behind each; how many there are.
@@ -71,9 +87,12 @@ pub(crate) fn read_words(
 ) -> io::Result<usize> {
     let mut count = 0;
     let mut number = read_number(input)?;
-    while count < table.len() && number.behind == COMMA {
-        table[count] = (number.n % 4294967296) as u32;
-        count += 1;
+    for (i, word) in table.iter_mut().enumerate() {
+        if number.behind != Sign::Comma {
+            break;
+        }
+        *word = (number.n % 4294967296) as u32;
+        count = i + 1;
         number = read_number(input)?;
     }
     Ok(count)

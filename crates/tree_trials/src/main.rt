@@ -9,7 +9,7 @@ mod answer;
 mod input;
 
 use answer::{print_list, print_text};
-use input::{COLON, END, read_text};
+use input::{Sign, read_text};
 use std::io;
 use std::io::{Bytes, Read};
 
@@ -17,9 +17,9 @@ fn print_answer(
     rt: &impl Print,
     input: &mut Bytes<impl Read + Drop>,
     text: &[u8],
-    behind: u8,
+    behind: Sign,
 ) -> io::Result<()> {
-    if behind == COLON {
+    if behind == Sign::Colon {
         print_list(rt, input, text)?;
     } else {
         print_text(rt, text)?;
@@ -31,12 +31,11 @@ fn print_answer(
 fn replay(rt: &impl Print, input: &mut Bytes<impl Read + Drop>) -> io::Result<bool> {
     let mut text = [0u8; 4097];
     let t = read_text(input, &mut text)?;
-    let n = t.n;
-    if t.behind == END {
+    if t.behind == Sign::End {
         return Ok(false);
     }
-    if n <= 4097 {
-        print_answer(rt, input, &text[..n], t.behind)?;
+    if let Some(text) = text.get(..t.n) {
+        print_answer(rt, input, text, t.behind)?;
     }
     Ok(true)
 }

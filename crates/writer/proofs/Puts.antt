@@ -54,7 +54,7 @@ put_as u p = rw u at p
 pub past_end : (x v : List ℕ) (e f : ℕ) → length x ≤ most → length x ≤ e → f ≡ min (e + length v) most → Put x e x f v
 past_end x v e f a h k = record { fits = a; same = refl; count = k; bytes = sym (sets_out x v e h) }
 
-put-to : {x y v : List ℕ} {e f g : ℕ} → f ≡ g → Put x e y f v → Put x e y g v
+pub put-to : {x y v : List ℕ} {e f g : ℕ} → f ≡ g → Put x e y f v → Put x e y g v
 put-to u p = rw u at p
 
 -- one byte more of those that have room

@@ -2,42 +2,29 @@
 // end, so that the same calls with a short buffer find the length that is needed.
 #![tactic(auto)]
 
-ghost use Rattle.std.specs.Prelude.{◌+◌, ◌≤◌, min, ◌≡◌, [], ◌∷◌, ◌++◌, length};
-ghost use Rattle.writer.specs.Put.{Put, most};
+ghost use Rattle.std.specs.Prelude.{◌+◌, ◌≤◌, [], ◌∷◌, ◌++◌, length};
+ghost use Rattle.writer.specs.Put.{Put};
 ghost use Rattle.writer.specs.Decimal.{decimal};
-
-// The largest usize: the count stays there.
-const MOST: usize = 18446744073709551615;
-
-// `n` places on.
-fn past(at: usize, n: usize) -> usize
-    ensures { result ≡ min (at + n) most }
-{
-    if n <= MOST - at { at + n } else { MOST }
-}
 
 fn put_byte(out: &mut [u8], at: usize, b: u8) -> usize
     ensures { Put out.old at out.new result (b ∷ []) }
 {
     if at < out.len() {
         out[at] = b;
-        at + 1
-    } else {
-        past(at, 1)
     }
+    at.saturating_add(1)
 }
 
 // Bytes that all have room: no test for each.
+// kept: tried as copy_from_slice, 1.1 to 1.2 times the instructions for a tag, which is short
 fn put_inside(out: &mut [u8], at: usize, s: &[u8]) -> usize
     requires { at + length s.now ≤ length out.old }
     ensures { Put out.old at out.new result s.now }
 {
-    let mut i = 0;
-    while i < s.len() {
-        out[at + i] = s[i];
-        i += 1;
+    for (i, &b) in s.iter().enumerate() {
+        out[at + i] = b;
     }
-    at + i
+    at + s.len()
 }
 
 // Bytes of which some may lie past the end.
@@ -45,10 +32,8 @@ fn put_each(out: &mut [u8], at: usize, s: &[u8]) -> usize
     ensures { Put out.old at out.new result s.now }
 {
     let mut end = at;
-    let mut i = 0;
-    while i < s.len() {
-        end = put_byte(out, end, s[i]);
-        i += 1;
+    for &b in s {
+        end = put_byte(out, end, b);
     }
     end
 }
@@ -57,7 +42,7 @@ pub fn put_bytes(out: &mut [u8], at: usize, s: &[u8]) -> usize
     ensures { Put out.old at out.new result s.now }
 {
     if out.len() <= at {
-        return past(at, s.len());
+        return at.saturating_add(s.len());
     }
     if s.len() <= out.len() - at {
         return put_inside(out, at, s);
@@ -70,10 +55,10 @@ fn put_decimal(out: &mut [u8], at: usize, n: u64) -> usize
     ensures { Put out.old at out.new result (decimal n) }
 {
     if n < 10 {
-        put_byte(out, at, 48 + n as u8)
+        put_byte(out, at, b'0' + n as u8)
     } else {
         let end = put_decimal(out, at, n / 10);
-        put_byte(out, end, 48 + (n % 10) as u8)
+        put_byte(out, end, b'0' + (n % 10) as u8)
     }
 }
 

@@ -7,6 +7,6 @@ use Rattle.asciimath.proofs.asciimath_closers_text.Goals as goal
 
 pub returns : goal.returns
 returns c =
-    let e = c.closers_text-got.ensures in
-    let g = given-as (ap (λ (p : Answer × List ℕ × List ℕ). p.0) (sym e)) c.put_paired_text.ensures in
+    let e = c.closers_text.ensures in
+    let g = given-as (ap (λ (p : Answer × List ℕ × List ℕ). p.0) (sym e)) c.give.ensures in
     (g.code, ap (λ (p : Answer × List ℕ × List ℕ). p.1) e, ap (λ (p : Answer × List ℕ × List ℕ). p.2) e, g.values)

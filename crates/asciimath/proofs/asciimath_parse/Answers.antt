@@ -7,6 +7,6 @@ use Rattle.asciimath.proofs.asciimath_parse.Goals as goal
 
 pub returns : goal.returns
 returns c =
-    let e = c.parse-got.ensures in
-    let g = given-as (ap (λ (p : Answer × List ℕ × List ℕ × List ℕ). p.0) (sym e)) c.put_parsed.ensures in
+    let e = c.parse.ensures in
+    let g = given-as (ap (λ (p : Answer × List ℕ × List ℕ × List ℕ). p.0) (sym e)) c.give.ensures in
     (g.code, ap (λ (p : Answer × List ℕ × List ℕ × List ℕ). p.1) e, ap (λ (p : Answer × List ℕ × List ℕ × List ℕ). p.2) e, ap (λ (p : Answer × List ℕ × List ℕ × List ℕ). p.3) e, g.values)

@@ -7,6 +7,6 @@ use Rattle.asciimath.proofs.asciimath_print.Goals as goal
 
 pub returns : goal.returns
 returns c =
-    let e = c.print-got.ensures in
-    let g = given-as (ap (λ (p : Answer × List ℕ × List ℕ × List ℕ × List ℕ). p.0) (sym e)) c.put_printed.ensures in
+    let e = c.print.ensures in
+    let g = given-as (ap (λ (p : Answer × List ℕ × List ℕ × List ℕ × List ℕ). p.0) (sym e)) c.give.ensures in
     (g.code, ap (λ (p : Answer × List ℕ × List ℕ × List ℕ × List ℕ). p.1) e, ap (λ (p : Answer × List ℕ × List ℕ × List ℕ × List ℕ). p.2) e, ap (λ (p : Answer × List ℕ × List ℕ × List ℕ × List ℕ). p.3) e, ap (λ (p : Answer × List ℕ × List ℕ × List ℕ × List ℕ). p.4) e, g.values)

@@ -7,6 +7,6 @@ use Rattle.asciimath.proofs.asciimath_tokens.Goals as goal
 
 pub returns : goal.returns
 returns c =
-    let e = c.tokenize-got.ensures in
-    let g = given-as (ap (λ (p : Answer × List ℕ). p.0) (sym e)) c.put_tokenized.ensures in
+    let e = c.tokenize.ensures in
+    let g = given-as (ap (λ (p : Answer × List ℕ). p.0) (sym e)) c.give.ensures in
     (g.code, ap (λ (p : Answer × List ℕ). p.1) e, g.values)

@@ -1,17 +1,7 @@
--- `note_closer`: a store of the number, or of 0.
-use Prim.Native.Nat.{◌-◌}
-use mathlib.Core.Path.{◌≡◌, ◌∙◌}
-use native.Mathlib.Omega.{arith}
+-- `note_closer`: of a larger number as many of its low bits.
+use Rattle.std.proofs.Common.{◌∙◌}
 use Rattle.stores.proofs.Stores.{closer-low}
 use Rattle.closers_notes.proofs.note_closer.Goals as goal
 
-pub returns-then-k-n : goal.returns-then-k-n
-returns-then-k-n c =
-    let a = c.args in
-    c.set_closer.ensures ∙ closer-low a.work.now a.i (a.n - a.k)
-
-pub returns-else-k-n : goal.returns-else-k-n
-returns-else-k-n c =
-    let a = c.args in
-    let z : a.n - a.k ≡ 0 = omega arith in
-    rw z c.set_closer-else-k-n.ensures
+pub returns : goal.returns
+returns c = let a = c.args in rw (← c.saturating_sub.ensures) (c.set_closer.ensures ∙ closer-low a.work.now a.i c.saturating_sub.result)

@@ -1,24 +1,14 @@
 -- `is_short`: there are no more entries than tokens.
-use Prim.Native.Nat.{ℕ, ◌+◌}
-use mathlib.Core.Path.{sym, ap}
-use native.Mathlib.Omega.{arith}
-use lib.Dec.{ltb}
-use borrow.Author.Tests.{le-ltb}
+use Rattle.std.proofs.Common.{arith}
 use Rattle.tokens.proofs.TokenList.{others-few}
-use Rattle.records.specs.Record.{record_words}
+use Rattle.std.proofs.lemmas.Grind.{common_steps}
 use Rattle.entries.proofs.is_short.Goals as goal
 
-pub returns-then-count-words : goal.returns-then-count-words
-returns-then-count-words c = let a = c.args in
-    sym (le-ltb a.words _ (omega (arith, others-few a.count a.table.now)))
+pub returns-then-tokens-words : goal.returns-then-tokens-words
+returns-then-tokens-words c = grind (arith, common_steps, others-few)
 
 pub overflow_add-result : goal.overflow_add-result
-overflow_add-result c = let a = c.args in
-    omega (arith, c.count_entries-n.ensures, others-few a.count a.table.now)
+overflow_add-result c = omega (arith, others-few)
 
 pub overflow_mul-result : goal.overflow_mul-result
-overflow_mul-result c = let a = c.args in
-    omega (arith, c.count_entries-n.ensures, others-few a.count a.table.now)
-
-pub returns : goal.returns
-returns c = ap (λ (n : ℕ). ltb c.args.words (record_words (n + 1))) c.count_entries-n.ensures
+overflow_mul-result c = omega (arith, others-few)

@@ -8,4 +8,4 @@ use Rattle.line.proofs.put_start.Goals as goal
 
 pub returns : goal.returns
 unfolding start_of
-returns c = put_as (append_assoc (bytes "depth=") (decimal c.args.depth) _) (then c.put_number-a.ensures (then c.put_bytes-b.ensures c.put_name.ensures))
+returns c = put_as (append_assoc (bytes "depth=") (decimal c.args.depth) _) (then c.put_number-a.ensures (then c.put_bytes-b.ensures (rw (← c.name.ensures) c.put_bytes.ensures)))

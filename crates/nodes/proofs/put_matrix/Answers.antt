@@ -1,49 +1,18 @@
 -- `put_matrix`: six words and two, if there is room for all.
-use Rattle.buffer.proofs.Stores.{stored-in, stored-out, six, seven}
+use Rattle.buffer.proofs.Stores.{stored_in, stored_out, six}
 use borrow.Author.Tests.{leb-true, leb-false}
 use Prim.Native.Nat.{◌+◌, ◌≤◌}
-use lib.ListN.{length, length-set}
+use lib.ListN.{length}
 use mathlib.Core.Path.{sym, ◌∙◌}
 use native.Mathlib.Omega.{arith}
-use Rattle.std.proofs.Common.{rules}
 use Rattle.nodes.proofs.put_matrix.Goals as goal
-
-pub overflow_add-tree : goal.overflow_add-tree
-overflow_add-tree c = let a = c.args in
-    let h : a.e + 8 ≤ length a.tree.now = leb-true _ _ (sym c.fits.ensures ∙ c.if-fits.true) in
-    search rules
-
-pub offset_bounds-tree-e : goal.offset_bounds-tree-e
-offset_bounds-tree-e c = let a = c.args in
-    let h : a.e + 8 ≤ length a.tree.now = leb-true _ _ (sym c.fits.ensures ∙ c.if-fits.true) in
-    search rules
-
-pub bounds-tree-e : goal.bounds-tree-e
-bounds-tree-e c = let a = c.args in
-    let h : a.e + 8 ≤ length a.tree.now = leb-true _ _ (sym c.fits.ensures ∙ c.if-fits.true) in
-    search rules
-
-pub overflow_add-tree-then-fits : goal.overflow_add-tree-then-fits
-overflow_add-tree-then-fits c = let a = c.args in
-    let h : a.e + 8 ≤ length a.tree.now = leb-true _ _ (sym c.fits.ensures ∙ c.if-fits.true) in
-    search rules
-
-pub offset_bounds-tree-e-then-fits : goal.offset_bounds-tree-e-then-fits
-offset_bounds-tree-e-then-fits c = let a = c.args in
-    let h : a.e + 8 ≤ length a.tree.now = leb-true _ _ (sym c.fits.ensures ∙ c.if-fits.true) in
-    search rules
-
-pub bounds-tree-e-then-fits : goal.bounds-tree-e-then-fits
-bounds-tree-e-then-fits c = let a = c.args in
-    let h : a.e + 8 ≤ length a.tree.now = leb-true _ _ (sym c.fits.ensures ∙ c.if-fits.true) in
-    simp length-set (omega arith)
 
 pub returns-then-fits : goal.returns-then-fits
 returns-then-fits c = let a = c.args in
     let h : a.e + 8 ≤ length a.tree.now = leb-true _ _ (sym c.fits.ensures ∙ c.if-fits.true) in
     let g : a.e + 6 ≤ length a.tree.now = omega arith in
-    rw (stored-in a.tree.now a.e _ h, c.put_between.ensures, stored-in, six, seven)
+    let k : a.e + 6 + 2 ≤ length c.put_between.new.tree = omega (arith, c.put_between.auto.tree) in
+    rw (stored_in a.tree.now a.e _ h, c.put.ensures, stored_in c.put_between.new.tree (a.e + 6) _ k, c.put_between.ensures, stored_in, six)
 
 pub returns-else-fits : goal.returns-else-fits
-returns-else-fits c = let a = c.args in
-    sym (stored-out a.tree.now a.e _ (leb-false _ _ (sym c.fits.ensures ∙ c.if-fits.false)))
+returns-else-fits c = sym (stored_out c.args.tree.now c.args.e _ (leb-false _ _ (sym c.fits.ensures ∙ c.if-fits.false)))

@@ -1,24 +1,24 @@
 -- The text is read, and its tree printed if the print fits.
 use mathlib.Core.Path.{ap}
+use Rattle.std.proofs.lemmas.Result.{err_from_is_err_and}
 use Rattle.parse.specs.Call as read
 use Rattle.printer.specs.Call as tree
 use Rattle.print.proofs.Calls.{when_refused, too_short, printed-whole}
 use Rattle.print.proofs.print.Goals as goal
 
-pub returns-in-Refused : goal.returns-in-Refused
-returns-in-Refused c =
+pub returns-in_err-tokens : goal.returns-in_err-tokens
+returns-in_err-tokens c =
     let a = c.args in
-    when_refused a.text.now a.table.now a.work.now a.tree.now a.out.now _ _ _ _ c.parse.ensures _
-    (ap read.answer_of c.in-Refused.is)
+    let p = err_from_is_err_and c.from_residual.result c.from_residual.ensures.1 in
+    rw (p.1, p.2) (when_refused a.text.now a.table.now a.work.now a.tree.now a.out.now _ _ _ _ c.parse.ensures _ (ap read.answer_of c.in_err-tokens.was))
 
-pub returns-in-Whole : goal.returns-in-Whole
-returns-in-Whole c =
+pub returns-in_err-len : goal.returns-in_err-len
+returns-in_err-len c =
     let a = c.args in
-    printed-whole a.text.now a.table.now a.work.now a.tree.now a.out.now _ _ _ _ c.parse.ensures _ _ _ _
-    (ap read.answer_of c.in-Read.is) _ _ c.print_tree.ensures _ (ap tree.answer_of c.in-Whole.is)
+    let p = err_from_is_err_and c.from_residual-in_err-len.result c.from_residual-in_err-len.ensures.1 in
+    rw (p.1, p.2) (too_short a.text.now a.table.now a.work.now a.tree.now a.out.now _ _ _ _ c.parse.ensures _ _ _ _ (ap read.answer_of c.in_ok-tokens.was) _ _ c.print_tree.ensures _ (ap tree.answer_of c.in_err-len.was))
 
-pub returns-in-Refused-print_tree : goal.returns-in-Refused-print_tree
-returns-in-Refused-print_tree c =
+pub returns : goal.returns
+returns c =
     let a = c.args in
-    too_short a.text.now a.table.now a.work.now a.tree.now a.out.now _ _ _ _ c.parse.ensures _ _ _ _
-    (ap read.answer_of c.in-Read.is) _ _ c.print_tree.ensures _ (ap tree.answer_of c.in-Refused-print_tree.is)
+    printed-whole a.text.now a.table.now a.work.now a.tree.now a.out.now _ _ _ _ c.parse.ensures _ _ _ _ (ap read.answer_of c.in_ok-tokens.was) _ _ c.print_tree.ensures _ (ap tree.answer_of c.in_ok-len.was)

@@ -5,4 +5,4 @@ use Rattle.printer.proofs.put_tree.Goals as goal
 
 pub returns : goal.returns
 unfolding print_words
-returns c = then c.put_first-end.ensures c.put_row-r.ensures.put
+returns c = then c.put_first-end.ensures c.put_row.ensures.put

@@ -1,7 +1,6 @@
 -- `place_of`: what is left to pass, with the tokens other than Space before j, is i.
-use Prim.Native.Nat.{◌+◌, ◌-◌, ◌≤◌}
+use Prim.Native.Nat.{◌+◌, ◌≤◌}
 use mathlib.Core.Path.{◌≡◌}
-use mathlib.Core.Logic.{⊎_elim}
 use native.Mathlib.Omega.{arith}
 use Rattle.tokens.specs.Table.{token_list, count_others}
 use Rattle.read_brackets.proofs.Others.{others_same, others-next}
@@ -18,18 +17,6 @@ loop-j-preserved c =
     let a = c.args in
     let p = c.loop-j in
     elim c.if-table-j-lt-SPACE.branch [
-      | then-table-j-lt-SPACE+else-left-eq0 w ↦ (
-        omega arith,
-        omega (arith, w.if-left-eq0.false, w.left-is, p.invariant.1, others-next a.table.now p.j w.if-table-j-lt-SPACE.true),
-      )
-      | else-table-j-lt-SPACE w ↦ (
-        omega arith,
-        omega (arith, w.left-is, p.invariant.1, others_same a.table.now p.j w.if-table-j-lt-SPACE.false),
-      )
+      | then-table-j-lt-SPACE+else-left-eq0 w ↦ omega (arith, w.if-left-eq0.false, w.left-is, p.invariant, others-next a.table.now p.j w.if-table-j-lt-SPACE.true)
+      | else-table-j-lt-SPACE w ↦ omega (arith, w.left-is, p.invariant, others_same a.table.now p.j w.if-table-j-lt-SPACE.false)
     ]
-
-pub returns : goal.returns
-returns c =
-    let p = c.loop-j in
-    let z : p.j ≡ c.args.count = omega arith in
-    record { within = search rules; found = search rules; missing = λ _. rw (← z) (omega (arith, p.invariant.1)) }

@@ -2,7 +2,7 @@
 use mathlib.Core.Path.{ap, ◌∙◌}
 use mathlib.Core.Option.{none, some}
 use native.Mathlib.Omega.{arith}
-use Rattle.room.specs.declared.Room.TheVariants.{Refused}
+use Rattle.std.specs.Prelude.{Err}
 use Rattle.room.specs.Room.{room_of}
 use Rattle.room.proofs.Lengths.{room-enough, one-short, answers}
 use Rattle.room.proofs.check_room.Goals as goal
@@ -15,5 +15,5 @@ pub returns : goal.returns
 unfolding room_of
 returns c =
     let a = c.args in
-    ap Refused c.lacking.ensures
+    ap Err c.lacking.ensures
     ∙ answers a.n a.work a.tree (some _) (one-short a.n a.work a.tree (omega arith))

@@ -1,11 +1,13 @@
--- The counts of the list, case by case.
-use mathlib.Core.Path.{sym, ap, ◌∙◌}
-use Rattle.lexer.specs.declared.Listing.{Listing}
+-- The counts of the list, or the refusal.
+use mathlib.Core.Path.{ap, ◌∙◌}
+use Rattle.std.proofs.lemmas.Result.{err_from_is_err_and}
 use Rattle.tokenizer.proofs.Calls.{counts, counts-are}
 use Rattle.tokenizer.proofs.count_tokens.Goals as goal
 
-pub returns-in-Tokens : goal.returns-in-Tokens
-returns-in-Tokens c = ap (λ (r : Listing). counts (r, c.list_reads.new.table)) (sym c.in-Tokens.is) ∙ ap counts c.list_reads.ensures ∙ counts-are _ _
+pub returns-in_err-all : goal.returns-in_err-all
+returns-in_err-all c =
+    let p = err_from_is_err_and c.from_residual.result c.from_residual.ensures.1 in
+    rw (p.1, p.2) (ap counts (rw c.in_err-all.was at c.list_reads.ensures) ∙ counts-are _ _)
 
-pub returns-in-Refused : goal.returns-in-Refused
-returns-in-Refused c = ap (λ (r : Listing). counts (r, c.list_reads.new.table)) (sym c.in-Refused.is) ∙ ap counts c.list_reads.ensures ∙ counts-are _ _
+pub returns : goal.returns
+returns c = ap counts (rw c.in_ok-all.was at c.list_reads.ensures) ∙ counts-are _ _

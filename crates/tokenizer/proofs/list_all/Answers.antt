@@ -1,11 +1,10 @@
--- The answer of the list, case by case.
-use mathlib.Core.Path.{sym, ap, ◌∙◌}
-use Rattle.lexer.specs.declared.Listing.{Listing}
+-- A refusal is passed on.
+use mathlib.Core.Path.{ap}
+use Rattle.std.proofs.lemmas.Result.{err_from_is_err_and}
 use Rattle.tokenizer.specs.Waiting.{all_listed}
 use Rattle.tokenizer.proofs.list_all.Goals as goal
 
-pub returns-in-Tokens : goal.returns-in-Tokens
-returns-in-Tokens c = ap (λ (r : Listing). all_listed (r, c.list_reads.new.table)) (sym c.in-Tokens.is) ∙ ap all_listed c.list_reads.ensures
-
-pub returns-in-Refused : goal.returns-in-Refused
-returns-in-Refused c = ap (λ (r : Listing). all_listed (r, c.list_reads.new.table)) (sym c.in-Refused.is) ∙ ap all_listed c.list_reads.ensures
+pub returns-in_err-all : goal.returns-in_err-all
+returns-in_err-all c =
+    let p = err_from_is_err_and c.from_residual.result c.from_residual.ensures.1 in
+    rw (p.1, p.2) (ap all_listed (rw c.in_err-all.was at c.list_reads.ensures))

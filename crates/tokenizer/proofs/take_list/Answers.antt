@@ -1,9 +1,6 @@
 -- The tests in the order of the refusals; the tokens come from the list, or in a second pass.
-use mathlib.Core.Path.{ap, ◌∙◌}
-use mathlib.Core.List.{List}
-use Prim.Native.Nat.{ℕ}
+use mathlib.Core.Path.{◌∙◌}
 use native.Mathlib.Omega.{arith}
-use Rattle.tokenizer.specs.declared.TokenizedUnder.TheVariants.{Tokens}
 use Rattle.tokenizer.proofs.Calls.{few, waiting-short, waiting-many, waiting-copied, waiting-again}
 use Rattle.tokenizer.proofs.take_list.Goals as goal
 
@@ -25,8 +22,7 @@ returns-then-room-others c =
 pub returns-then-all-le160 : goal.returns-then-all-le160
 returns-then-all-le160 c =
     let a = c.args in
-    ap (λ (t : List ℕ). (Tokens a.all a.others, t)) c.copy_words.ensures
-    ∙ waiting-copied a.text.now a.table.now a.room a.list.now a.all a.others c.requires (omega arith) c.if-room-others.false c.if-all-le160.true
+    rw c.copy_from_slice.ensures.after (waiting-copied a.text.now a.table.now a.room a.list.now a.all a.others c.requires (omega arith) c.if-room-others.false c.if-all-le160.true)
 
 pub returns : goal.returns
 returns c =

@@ -1,5 +1,6 @@
 -- The tokens are listed into the table at once, or first into the list.
 use mathlib.Core.Path.{refl, ◌∙◌}
+use Rattle.std.proofs.lemmas.Result.{err_from_is_err_and}
 use native.Mathlib.Omega.{arith}
 use lib.ListN.{length}
 use borrow.Author.Tests.{ltb-true}
@@ -12,9 +13,10 @@ returns-then-len-room c =
     c.list_all.ensures ∙ all_fit a.text.now a.table.now a.room (omega arith) (ltb-true (length a.text.now) a.room c.if-len-room.true-raw)
 
 pub take_list-requires : goal.take_list-requires
-take_list-requires c = answer-tokens c.args.text.now _ c.list_reads.result c.list_reads.new.table c.list_reads.ensures refl _ _ _ _ c.in-Tokens.is
+take_list-requires c = answer-tokens c.args.text.now _ c.list_reads.result c.list_reads.new.table c.list_reads.ensures refl _ c.in_ok-all.was
 
-pub returns-in-Refused : goal.returns-in-Refused
-returns-in-Refused c =
+pub returns-in_err-all : goal.returns-in_err-all
+returns-in_err-all c =
     let a = c.args in
-    under-refused a.text.now a.table.now a.room _ (answer-refused a.text.now _ c.list_reads.result c.list_reads.new.table c.list_reads.ensures _ c.in-Refused.is)
+    let p = err_from_is_err_and c.from_residual.result c.from_residual.ensures.1 in
+    rw (p.1, p.2) (under-refused a.text.now a.table.now a.room _ (answer-refused a.text.now _ c.list_reads.result c.list_reads.new.table c.list_reads.ensures _ c.in_err-all.was))

@@ -3,7 +3,6 @@ use native.Mathlib.Omega.{arith}
 use mathlib.Core.Path.{◌∙◌}
 use Rattle.writer.proofs.Decimals.{small, large}
 use Rattle.writer.proofs.Puts.{then}
-use Prim.Native.Nat.{ℕ, ◌<◌}
 use Rattle.writer.proofs.+put_decimal.Goals as goal
 
 pub shape_of-out-then-n-lt10 : goal.shape_of-out-then-n-lt10

@@ -1,22 +1,19 @@
--- Bytes are put one behind the other. The invariant: those before i are put.
-use Prim.Native.Nat.{◌≤◌, ◌-◌}
-use native.Mathlib.Omega.{arith}
-use native.Mathlib.Numerals.{add-one}
-use lib.Seq.{take-suc, take_all}
+-- Bytes are put one behind the other.
+use Rattle.std.proofs.Common.{add-one, arith}
+use Rattle.std.proofs.Math.Seq.{take-suc}
+use Rattle.std.proofs.lemmas.List.{take_all}
 use Rattle.writer.proofs.Puts.{none, then}
 use Rattle.writer.proofs.put_each.Goals as goal
 
-pub loop-i-init : goal.loop-i-init
-loop-i-init c = (omega arith, none _ _ (omega arith) (omega arith))
+pub loop-b-init : goal.loop-b-init
+loop-b-init c = none _ _ (omega arith) (omega arith)
 
-pub loop-i-preserved : goal.loop-i-preserved
-loop-i-preserved c = let a = c.args in
-    (omega arith, rw (add-one, take-suc a.s.now c.loop-i.i 0 (omega arith)) (then c.loop-i.invariant.1 c.put_byte-end.ensures))
+pub loop-b-preserved : goal.loop-b-preserved
+loop-b-preserved c =
+    rw (add-one, take-suc c.args.s.now c.loop-b.b-index 0 (omega arith)) (then c.loop-b.invariant c.put_byte-end.ensures)
 
 pub shape_of-out : goal.shape_of-out
-shape_of-out c = c.loop-i.invariant.1.same
+shape_of-out c = c.loop-b.invariant.same
 
 pub returns : goal.returns
-returns c =
-    let a = c.args in
-    rw (take_all c.loop-i.i a.s.now (omega arith)) at c.loop-i.invariant.1
+returns c = rw (take_all c.loop-b.b-index c.args.s.now (omega arith)) at c.loop-b.invariant

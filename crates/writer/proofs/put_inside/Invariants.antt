@@ -1,13 +1,7 @@
--- Bytes that have room are put one behind the other. The invariant: those before i are put.
-use Prim.Native.Nat.{◌+◌, ◌-◌, ◌≤◌}
-use native.Mathlib.Omega.{arith}
-use lib.ListN.{length, take}
+-- The bytes before i are put.
+use Rattle.std.proofs.Common.{◌+◌, take}
 use Rattle.writer.specs.Put.{Put}
 use Rattle.writer.proofs.put_inside.Given as goal
 
 abbrev pub invariant-loop-i : goal.invariant-loop-i
-invariant-loop-i l =
-    (l.i ≤ length l.s) × Put l.initial.out l.at l.out (l.at + l.i) (take l.i l.s)
-
-abbrev pub decreases-loop-i : goal.decreases-loop-i
-decreases-loop-i l = length l.s - l.i
+invariant-loop-i l = Put l.initial.out l.at l.out (l.at + l.i) (take l.i l.s)

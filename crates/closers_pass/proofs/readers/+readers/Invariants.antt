@@ -58,19 +58,19 @@ decreases-try_matrix l = 11 * (256 - l.c.depth) + 7
 
 abbrev pub invariant-extend-items : goal.invariant-extend-items
 invariant-extend-items l =
-    Loop.Inv l.text l.tok l.n l.initial.work l.work l.until l.stop l.initial.first l.initial.sign l.initial.cur l.cur l.first l.some l.line l.sign
+    Loop.Inv l.list.text.now l.list.tok.now l.list.n l.initial.work l.work l.until l.stop l.initial.first l.initial.sign l.initial.cur l.cur l.first l.some l.line l.sign
 
 abbrev pub decreases-extend-items : goal.decreases-extend-items
-decreases-extend-items l = l.n - l.cur.pos
+decreases-extend-items l = l.list.n - l.cur.pos
 
 abbrev pub invariant-more_rows-rows : goal.invariant-more_rows-rows
-invariant-more_rows-rows l = Rows.Inv l.text l.tok l.n l.initial.work l.work l.cols l.round l.initial.cur l.cur l.more
+invariant-more_rows-rows l = Rows.Inv l.list.text.now l.list.tok.now l.list.n l.initial.work l.work l.cols l.round l.initial.cur l.cur l.more
 
 abbrev pub decreases-more_rows-rows : goal.decreases-more_rows-rows
-decreases-more_rows-rows l = l.n - l.cur.pos
+decreases-more_rows-rows l = l.list.n - l.cur.pos
 
 abbrev pub invariant-row_cells-cells : goal.invariant-row_cells-cells
-invariant-row_cells-cells l = Cells.Inv l.text l.tok l.n l.initial.work l.work l.initial.cur l.cur l.count l.kept
+invariant-row_cells-cells l = Cells.Inv l.list.text.now l.list.tok.now l.list.n l.initial.work l.work l.initial.cur l.cur l.count l.kept
 
 abbrev pub decreases-row_cells-cells : goal.decreases-row_cells-cells
-decreases-row_cells-cells l = l.n - l.cur.pos
+decreases-row_cells-cells l = l.list.n - l.cur.pos

@@ -1,26 +1,20 @@
 -- The boundaries of the first k columns are written.
-use Prim.Native.Nat.{◌-◌, ◌≤◌}
-use native.Mathlib.Omega.{arith}
-use Rattle.columns.proofs.Boundaries.{putting-none, putting-more, putting-done}
+use borrow.Author.Tests.{eq-eqb, ne_eqb}
+use Rattle.std.proofs.Common.{ℕ, ◌+◌, true, false, eqb, sym, ap, ◌∙◌, arith}
+use Rattle.columns.proofs.Boundaries.{putting-none, putting-step, putting-done}
 use Rattle.columns.proofs.flags.put_lines.Goals as goal
+use Rattle.columns.proofs.flags.put_lines.Goals.{then-tree-end-eq0, else-tree-end-eq0}
 
 pub loop-k-init : goal.loop-k-init
-loop-k-init c = (omega arith, putting-none c.args.tree.now c.args.to c.args.end c.args.cols)
-
-pub word-flag-requires : goal.word-flag-requires
-word-flag-requires c = omega (arith, c.loop-k.invariant.1.long, c.requires.cols_in_bounds)
-
-pub put_line-out-requires : goal.put_line-out-requires
-put_line-out-requires c = omega (arith, c.loop-k.invariant.1.long, c.loop-k.invariant.1.most, c.requires.to_le_end, c.requires.cols_in_bounds)
-
-pub next_boundary-boundary-requires : goal.next_boundary-boundary-requires
-next_boundary-boundary-requires c = omega (arith, c.loop-k.invariant.1.low, c.requires.cols_bound)
+loop-k-init c = putting-none _ _ _ _
 
 pub loop-k-preserved : goal.loop-k-preserved
-loop-k-preserved c = (omega arith, putting-more c.requires.cols_in_bounds c.requires.to_le_end c.loop-k.invariant.1 c.loop-k-test.true c.word-flag.ensures c.put_line-out.ensures.value c.put_line-out.ensures.tree_after c.next_boundary-boundary.ensures)
-
-pub shape_of-tree : goal.shape_of-tree
-shape_of-tree c = c.loop-k.invariant.1.long
+loop-k-preserved c = let step = putting-step c.requires.cols_in_bounds c.requires.to_le_end c.loop-k.invariant in
+    let kept = ap (λ (flag : ℕ). eqb flag 0) (sym (c.loop-k.invariant.after (c.args.end + c.loop-k.k) (omega arith) (omega arith))) in
+    elim c.if-tree-end-eq0.branch [
+      | then-tree-end-eq0 w ↦ rw (w.tree-is, w.out-is, w.boundary-is) (step true c.loop-k-test.true (kept ∙ eq-eqb _ _ w.if-tree-end-eq0.true))
+      | else-tree-end-eq0 w ↦ rw (w.tree-is, w.out-is, w.boundary-is) (step false c.loop-k-test.true (kept ∙ ne_eqb _ _ w.if-tree-end-eq0.false))
+    ]
 
 pub returns : goal.returns
-returns c = putting-done c.requires.cols_in_bounds c.requires.to_le_end c.loop-k.invariant.1 c.loop-k.invariant.0 c.loop-k-test.false
+returns c = putting-done c.requires.cols_in_bounds c.requires.to_le_end c.loop-k.invariant c.loop-k-test.false

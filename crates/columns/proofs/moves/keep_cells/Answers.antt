@@ -1,37 +1,41 @@
--- Of the first i cells those of kept columns stand together.
-use Prim.Native.Nat.{◌-◌}
-use native.Mathlib.Omega.{arith}
-use lib.Dec.{eqb}
-use Rattle.columns.proofs.Boundaries.{one-most}
+-- Of the first cells those of kept columns stand together.
+use Rattle.std.proofs.Common.{◌≡◌, ◌+◌, ◌-◌, true, false, arith}
+use borrow.Author.Tests.{eq-eqb, ne_eqb}
 use Rattle.columns.proofs.Keeping.{keeping_none, keeping_fits, keeping_more, keeping_done}
 use Rattle.columns.proofs.moves.keep_cells.Goals as goal
+use Rattle.columns.proofs.moves.keep_cells.Goals.{then-tree-end-eq0, else-tree-end-eq0}
 
-pub loop-seen-init : goal.loop-seen-init
-loop-seen-init c = keeping_none c.requires
+pub loop-init : goal.loop-init
+loop-init c = keeping_none c.requires
 
 pub cell_len-n-requires : goal.cell_len-n-requires
-cell_len-n-requires c = omega (arith, keeping_fits c.requires c.loop-seen.invariant c.loop-seen-test.true, c.loop-seen.invariant.long, c.requires.room)
-
-pub word-flag-requires : goal.word-flag-requires
-word-flag-requires c = omega (arith, c.loop-seen.invariant.long, c.requires.room, c.loop-seen.invariant.col)
-
-pub keep_cell-to-requires : goal.keep_cell-to-requires
-keep_cell-to-requires c = (record { to_le_at = c.loop-seen.invariant.behind; n_in_bounds = omega (arith, keeping_fits c.requires c.loop-seen.invariant c.loop-seen-test.true, c.loop-seen.invariant.long, c.requires.room, c.cell_len-n.ensures) })
-
-pub overflow_add-count : goal.overflow_add-count
-overflow_add-count c = let o = one-most (eqb c.word-flag.result 0) in omega (arith, c.flag_kept-count.ensures, c.loop-seen.invariant.most)
+cell_len-n-requires c = omega (arith, keeping_fits c.requires c.loop.invariant c.loop-test.true)
 
 pub overflow_add-at : goal.overflow_add-at
-overflow_add-at c = omega (arith, keeping_fits c.requires c.loop-seen.invariant c.loop-seen-test.true, c.loop-seen.invariant.long, c.requires.room, c.cell_len-n.ensures)
+overflow_add-at c = omega (arith, keeping_fits c.requires c.loop.invariant c.loop-test.true)
 
-pub next_col-j-requires : goal.next_col-j-requires
-next_col-j-requires c = c.loop-seen.invariant.col
+pub copy_within-requires-clause-in_bounds : goal.copy_within-requires-clause-in_bounds
+copy_within-requires-clause-in_bounds c = omega (arith, keeping_fits c.requires c.loop.invariant c.loop-test.true)
 
-pub loop-seen-preserved : goal.loop-seen-preserved
-loop-seen-preserved c = keeping_more c.requires c.loop-seen.invariant c.loop-seen-test.true c.cell_len-n.ensures c.word-flag.ensures c.keep_cell-to.ensures.value c.keep_cell-to.ensures.tree_after c.flag_kept-count.ensures c.next_col-j.ensures
+pub copy_within-requires-clause-dest_in_bounds : goal.copy_within-requires-clause-dest_in_bounds
+copy_within-requires-clause-dest_in_bounds c = omega (arith, keeping_fits c.requires c.loop.invariant c.loop-test.true)
 
-pub shape_of-tree : goal.shape_of-tree
-shape_of-tree c = c.loop-seen.invariant.long
+pub overflow_add-to : goal.overflow_add-to
+overflow_add-to c = omega (arith, keeping_fits c.requires c.loop.invariant c.loop-test.true)
+
+pub overflow_add-at-in-loop : goal.overflow_add-at-in-loop
+overflow_add-at-in-loop c = omega (arith, keeping_fits c.requires c.loop.invariant c.loop-test.true)
+
+pub loop-preserved : goal.loop-preserved
+loop-preserved c =
+    let step = keeping_more c.requires c.loop.invariant in
+    elim c.if-tree-end-eq0.branch [
+      | then-tree-end-eq0 w ↦
+          let n : c.loop.at + c.cell_len-n.result - c.loop.at ≡ c.cell_len-n.result = omega arith in
+          let moved = rw n at w.copy_within.ensures.after in
+          rw (w.tree-is, w.to-is, w.count-is, c.next_col-j.ensures, moved, c.cell_len-n.ensures) (step true c.loop-test.true (eq-eqb _ _ w.if-tree-end-eq0.true))
+      | else-tree-end-eq0 w ↦ rw (w.tree-is, w.to-is, w.count-is, c.cell_len-n.ensures, c.next_col-j.ensures) (step false c.loop-test.true (ne_eqb _ _ w.if-tree-end-eq0.false))
+    ]
 
 pub returns : goal.returns
-returns c = keeping_done c.requires c.loop-seen.invariant c.loop-seen-test.false
+returns c = keeping_done c.requires c.loop.invariant c.loop-test.false

@@ -7,5 +7,5 @@ use Rattle.lexer.proofs.found.row_in.Goals as goal
 pub returns-then-found-eq1 : goal.returns-then-found-eq1
 returns-then-found-eq1 c = ap token_row (row-set _ c.if-found-eq1.true)
 
-pub returns : goal.returns
-returns c = ap token_row (row-clear _ c.if-found-eq1.false)
+pub returns-else-found-eq1 : goal.returns-else-found-eq1
+returns-else-found-eq1 c = ap token_row (row-clear _ c.if-found-eq1.false)

@@ -1,6 +1,6 @@
 -- A text command, or another spelling.
 use mathlib.Core.Path.{sym, ◌∙◌, ap}
-use Prim.Native.Nat.{◌-◌, ℕ}
+use Prim.Native.Nat.{ℕ}
 use native.Mathlib.Omega.{arith}
 use Rattle.tokens.specs.Lexeme.{lexeme}
 use Rattle.lexer.specs.Constants.{row_of, kind_of, no_row}
@@ -11,11 +11,11 @@ use Rattle.lexer.proofs.Adding.{added-read, added-as}
 use Rattle.lexer.proofs.rules.strip_spelling.Goals as goal
 
 pub text_command-requires : goal.text_command-requires
-text_command-requires c = (c.requires.2, omega (arith, command-four c.args.row c.args.text.now 0 (sym c.is_text_command.ensures ∙ c.if-is_text_command.true)))
+text_command-requires c = (c.requires.0, omega (arith, command-four c.args.row c.args.text.now 0 (sym c.is_text_command.ensures ∙ c.if-is_text_command.true)))
 
 pub returns-then-is_text_command : goal.returns-then-is_text_command
 returns-then-is_text_command c = added-as (row-command c.args.row c.args.text.now c.args.p.next (sym c.is_text_command.ensures ∙ c.if-is_text_command.true)) c.text_command.ensures
 
 pub returns : goal.returns
 unfolding row_of kind_of
-returns c = added-read (lexeme c.args.p.next c.len_of-len.result (row_of c.args.row).token) (well_formed no_row c.args.row c.requires.1).no_space (ap (λ (n : ℕ). alone c.args.p.next n (row_of c.args.row).token) c.len_of-len.ensures ∙ row_plain c.args.row c.args.text.now c.args.p.next (sym c.is_text_command.ensures ∙ c.if-is_text_command.false)) c.put_other.ensures.0 (rw c.kind_of.ensures at c.put_other.ensures.1)
+returns c = added-read (lexeme c.args.p.next c.len-len.result (row_of c.args.row).token) (well_formed no_row c.args.row c.kind.ensures.1).no_space (ap (λ (n : ℕ). alone c.args.p.next n (row_of c.args.row).token) c.len-len.ensures ∙ row_plain c.args.row c.args.text.now c.args.p.next (sym c.is_text_command.ensures ∙ c.if-is_text_command.false)) c.put_other.ensures.0 (rw c.kind.ensures.0 at c.put_other.ensures.1)

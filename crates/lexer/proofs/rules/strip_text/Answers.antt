@@ -1,6 +1,5 @@
 -- A quotation, or the byte alone.
 use mathlib.Core.Path.{◌≡◌, refl}
-use mathlib.Core.Logic.{⊎_elim}
 use Prim.Native.Nat.{◌+◌, ◌-◌}
 use native.Mathlib.Omega.{arith}
 use Rattle.tokens.specs.declared.token.Token.TheVariants.{Text, Operator}

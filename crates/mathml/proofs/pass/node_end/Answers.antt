@@ -3,4 +3,4 @@ use Rattle.mathml.proofs.Passing.{ends}
 use Rattle.mathml.proofs.pass.node_end.Goals as goal
 
 pub returns : goal.returns
-returns c = ends _ _ _ c.pass_row-r.ensures
+returns c = ends _ _ _ c.pass_row.ensures

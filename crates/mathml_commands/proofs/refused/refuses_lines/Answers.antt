@@ -1,9 +1,6 @@
 -- The invariant: the lines before i are let pass.
-use Prim.Native.Nat.{◌-◌}
-use native.Mathlib.Omega.{arith}
 use native.Mathlib.Numerals.{add-one}
 use mathlib.Core.Path.{sym, ◌∙◌}
-use lib.Seq.{length-take-le}
 use Rattle.mathml_commands.proofs.Boundaries.{first, higher, lower, at_zero, at_cols, at_both, all-passed}
 use Rattle.mathml_commands.proofs.refused.refuses_lines.Goals.{then-line-highest, else-line-highest+else-has_line}
 use Rattle.mathml_commands.proofs.refused.refuses_lines.Goals as goal
@@ -17,17 +14,11 @@ returns-then-line-eq0 c =
     let l = c.loop-i in
     at_zero a.cols a.lines.now l.i c.loop-i-test.true c.if-line-eq0.true
 
-pub overflow_cast-line : goal.overflow_cast-line
-overflow_cast-line c = omega (arith, c.shared_slice_known-in-loop-i-1.given c.loop-i.i)
-
 pub returns-then-line-cols : goal.returns-then-line-cols
 returns-then-line-cols c =
     let a = c.args in
     let l = c.loop-i in
     at_cols a.cols a.lines.now l.i c.loop-i-test.true c.if-line-cols.true
-
-pub slice_bounds-has_line-end : goal.slice_bounds-has_line-end
-slice_bounds-has_line-end c = sym (length-take-le _ _ c.loop-i.invariant.inside)
 
 pub returns-then-has_line : goal.returns-then-has_line
 returns-then-has_line c =

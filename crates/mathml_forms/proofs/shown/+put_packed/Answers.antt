@@ -2,7 +2,6 @@
 use native.Mathlib.Omega.{arith}
 use Rattle.writer.proofs.Puts.{none, then, put_as}
 use Rattle.mathml_forms.proofs.Unpacks.{esc-none, esc-last}
-use Prim.Native.Nat.{◌<◌}
 use Rattle.mathml_forms.proofs.shown.+put_packed.Goals as goal
 
 pub returns-then-word-lt256 : goal.returns-then-word-lt256

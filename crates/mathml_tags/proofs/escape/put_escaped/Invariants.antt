@@ -1,14 +1,8 @@
--- Escapes are put one behind the other. The invariant: those of the bytes before i are put.
-use Prim.Native.Nat.{◌≤◌, ◌-◌}
-use native.Mathlib.Omega.{arith}
-use lib.ListN.{length, take}
+-- The escapes of the bytes before this one are put.
+use Rattle.std.proofs.Common.{take}
 use Rattle.writer.specs.Put.{Put}
 use Rattle.mathml_rules.specs.Pieces.{esc}
 use Rattle.mathml_tags.proofs.escape.put_escaped.Given as goal
 
-abbrev pub invariant-loop-i : goal.invariant-loop-i
-invariant-loop-i l =
-    (l.i ≤ length l.s) × Put l.initial.out l.at l.out l.end (esc (take l.i l.s))
-
-abbrev pub decreases-loop-i : goal.decreases-loop-i
-decreases-loop-i l = length l.s - l.i
+abbrev pub invariant-loop-b : goal.invariant-loop-b
+invariant-loop-b l = Put l.initial.out l.at l.out l.end (esc (take l.b-index l.s))

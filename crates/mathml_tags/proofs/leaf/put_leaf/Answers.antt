@@ -6,4 +6,4 @@ use Rattle.mathml_tags.proofs.leaf.put_leaf.Goals as goal
 pub returns : goal.returns
 returns c =
     let a = c.args in
-    put_as (leaf-is a.e a.s.now) (then c.put_start-a.ensures (then c.put_escaped-b.ensures c.put_end.ensures))
+    put_as (leaf-is _ a.s.now) (then c.put_start-a.ensures (then c.put_escaped-b.ensures c.put_end.ensures))

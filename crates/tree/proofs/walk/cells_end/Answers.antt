@@ -1,18 +1,13 @@
--- A cell takes its head and as many words as that says. The invariant: the cells left end where all of them do.
+-- A cell takes its head and as many words as that says.
+use Rattle.std.proofs.Common.{◌-◌, ◌∙◌, arith}
 use Rattle.tree.proofs.Steps.{cell-none, cell-more, cell-past}
-use Prim.Native.Nat.{◌≤◌}
-use mathlib.Core.Path.{◌≡◌, refl, ◌∙◌}
-use native.Mathlib.Omega.{arith}
 use Rattle.tree.proofs.walk.cells_end.Goals as goal
 
-pub loop-left-init : goal.loop-left-init
-loop-left-init c = (omega arith, refl)
+pub returns-then-at-words : goal.returns-then-at-words
+returns-then-at-words c = cell-past _ _ (c.args.count - c.loop.counter) c.if-at-words.true ∙ c.loop.invariant
 
-pub loop-left-preserved : goal.loop-left-preserved
-loop-left-preserved c = (omega arith, cell-more _ _ _ (omega arith) c.if-at-words.true c.word.ensures ∙ c.loop-left.invariant.1)
-
-pub returns-else-at-words : goal.returns-else-at-words
-returns-else-at-words c = cell-past _ _ c.loop-left.left c.if-at-words.false ∙ c.loop-left.invariant.1
+pub loop-preserved : goal.loop-preserved
+loop-preserved c = cell-more _ _ _ (omega arith) c.if-at-words.false c.word.ensures ∙ c.loop.invariant
 
 pub returns : goal.returns
-returns c = cell-none _ _ c.loop-left.left (omega arith) ∙ c.loop-left.invariant.1
+returns c = cell-none _ _ (c.args.count - c.loop.counter) (omega arith) ∙ c.loop.invariant
