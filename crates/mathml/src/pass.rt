@@ -19,9 +19,8 @@ pub(crate) fn pass_row(words: &[u32], text: &[u8], from: usize, count: usize, it
     ensures { RowPassed words.now text.now from count items result }
 {
     let mut at = from;
-    let mut left = count;
     let mut refused = false;
-    'all: while left > 0 {
+    'all: for i in 0..count {
         let p = inner_place(words, at, items);
         let Some(o) = node_at(words, p.at, p.items) else {
             break;
@@ -40,7 +39,6 @@ pub(crate) fn pass_row(words: &[u32], text: &[u8], from: usize, count: usize, it
             at = r.at;
         }
         at = past(words, at, o.tail);
-        left -= 1;
     }
     Passed { at, refused }
 }

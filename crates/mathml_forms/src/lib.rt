@@ -4,4 +4,5 @@
 pub mod equal;
 pub mod forms;
 pub mod key;
+pub mod numbered;
 pub mod shown;

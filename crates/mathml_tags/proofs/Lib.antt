@@ -1,3 +1,4 @@
+pub mod Alike
 pub mod Escaping
 pub mod Characters
 pub mod Columns

@@ -6,4 +6,5 @@ pub mod elements;
 pub mod escape;
 pub mod leaf;
 pub mod lines;
+pub mod numbered;
 pub mod tags;

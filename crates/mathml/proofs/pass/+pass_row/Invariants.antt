@@ -8,7 +8,4 @@ abbrev pub decreases-pass_row : goal.decreases-pass_row
 decreases-pass_row l = length l.words.now - l.from
 
 abbrev pub invariant-all : goal.invariant-all
-invariant-all l = Midway l.words l.text l.from l.count l.items l.at l.left l.refused
-
-abbrev pub decreases-all : goal.decreases-all
-decreases-all l = length l.words - l.at
+invariant-all l = Midway l.words l.text l.from l.count l.items l.at (l.count - l.i) l.refused
