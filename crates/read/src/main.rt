@@ -4,8 +4,8 @@
 ghost use Rattle.std.specs.Prelude.{◌≡◌, ◌≤◌, ◌<◌, length};
 ghost use Rattle.read.specs.Reply.{Written, print_room, reply_to};
 
-use read_input::MOST;
-use read_output::{answer_input, put_refusal};
+use read_input::{MOST, read_input};
+use read_output::{put_refusal, write_answer};
 use refusals::refusal::Refusal;
 
 // What the program writes for a text, first in `out`; how many bytes. The buffers are long enough for any text of MOST bytes.
@@ -25,6 +25,13 @@ fn reply(text: &[u8], out: &mut [u8]) -> usize
     }
 }
 
+// One byte more than the most tells a text that is too long.
+// kept: a `main` in each program, since a public function over the reply would ask that it can be called
 fn main(rt: HostRuntime) {
-    answer_input(&rt, &mut [0u8; 65536], reply);
+    let mut input = [0u8; MOST + 1];
+    if let Some(n) = read_input(&rt, &mut input) {
+        let mut out = [0u8; 65536];
+        let len = reply(&input[..n], &mut out);
+        write_answer(&rt, &out, len);
+    }
 }

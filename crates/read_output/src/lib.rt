@@ -1,12 +1,9 @@
 // What the programs of `./read` write: the line of a refusal, and an answer to standard output.
 #![tactic(auto)]
 
-ghost use Rattle.std.specs.Prelude.{◌≡◌, length};
 ghost use Rattle.writer.specs.Put.{Put};
 ghost use Rattle.read_output.specs.Line.{refusal};
 
-use read_input::{MOST, read_input};
-use std::io;
 use writer::{put_bytes, put_number};
 
 // The line of a refusal, first in `out`; its length.
@@ -27,21 +24,5 @@ pub fn write_answer(rt: &(impl Print + Eprint), bytes: &[u8], len: usize) {
     };
     if let Err(error) = written {
         let _ = eprintln!(rt; "read: can't write the answer: {error}");
-    }
-}
-
-// A program of `./read`: writes what `reply` puts first in `out` for the bytes of standard input, as many bytes as it answers. One byte more
-// than the most tells a text that is too long.
-pub fn answer_input<F: Fn(&[u8], &mut [u8]) -> usize>(
-    rt: &(impl io::Input + Print + Eprint),
-    out: &mut [u8],
-    reply: F,
-)
-    requires { (text : _) (lent : _) → length lent.now ≡ length out.old → F.pre reply text lent }
-{
-    let mut input = [0u8; MOST + 1];
-    if let Some(n) = read_input(rt, &mut input) {
-        let len = reply(&input[..n], out);
-        write_answer(rt, out, len);
     }
 }
