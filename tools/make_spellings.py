@@ -4,9 +4,9 @@
     make_spellings.py TOKENIZER_RS [--code]
 
 The statics: the bytes of all rows one after another; for each row 32 times its start and the
-kind of its token, and behind the last 32 times the end; and for each byte value to 128, 64 times
-the rows that begin with a smaller byte, 32 more where the byte alone is a spelling, and the kind
-that the byte has by itself.
+kind of its token, and behind the last 32 times the end; the second byte of each row, or 0; and for
+each byte value to 128, 64 times the rows that begin with a smaller byte, 32 more where the byte alone
+is a spelling, and the kind that the byte has by itself.
 """
 
 import sys
@@ -54,6 +54,7 @@ def main():
     ]
     print(constant("BYTES", "u8", "ALL_BYTES", list(b"".join(keys))))
     print(constant("ROWS", "u16", "ROW_WORDS", words))
+    print(constant("SECONDS", "u8", "ALL_ROWS", [key[1] if len(key) > 1 else 0 for key in keys]))
     print(constant("FIRST", "u16", "BYTE_WORDS", firsts))
 
 

@@ -33,7 +33,8 @@ fn closes(list: &List<'_>, work: &[u32], i: usize, j: usize) -> bool
     }
 }
 
-// The bracket at `row` may be that of a first row in the bracket at i.
+// The bracket at `row` may be that of a first row in the bracket at i. Inline, like the test below it: a text of brackets reads quicker.
+#[inline(always)]
 fn row_fits(list: &List<'_>, work: &[u32], i: usize, row: usize) -> bool
     ensures { result ≡ row_fits_at list.now.text.now list.now.tok.now work.now list.now.n i row }
 {
@@ -42,8 +43,9 @@ fn row_fits(list: &List<'_>, work: &[u32], i: usize, row: usize) -> bool
         && (list.is_at(work, after, SEP) || closes(list, work, i, after) && sep_of(work, row) == 1)
 }
 
-// The bracket at i may begin a matrix. Most have no bracket behind them: what is asked of a row stands apart, so that they are quick.
+// The bracket at i may begin a matrix. Most have no bracket behind them.
 #[tactic(auto, unfolding(crate::specs::Brackets::could_be_matrix_at, lookahead::specs::Tests::test_at))]
+#[inline(always)]
 pub fn could_be_matrix(list: &List<'_>, work: &[u32], i: usize) -> bool
     ensures { result ≡ could_be_matrix_at list.now.text.now list.now.tok.now work.now list.now.n i }
 {

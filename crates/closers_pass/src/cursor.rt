@@ -1,8 +1,36 @@
 // What readers answer.
-ghost use Rattle.std.specs.Prelude.{◌≡◌};
+ghost use Rattle.std.specs.Prelude.{◌≡◌, ◌≤◌, ◌<◌};
 ghost use Rattle.closers_pass.specs.Meet.{ends_in, nothing_at, operation_at, part_at};
+ghost use Rattle.reading_cursor.specs.Moves.{onward, passing, inner};
 
 use reading_cursor::Cursor;
+
+// The cursor's steps as the readers take them: within a list, and no deeper than readers go.
+
+// Past the next token, which is there.
+pub(crate) fn next(c: Cursor) -> Cursor
+    requires { c.pos < 4096 }
+    ensures { result ≡ onward c }
+{
+    c.next()
+}
+
+// Past the next token, if there is one.
+#[tactic(auto, unfolding(reading_cursor::specs::Moves::passing))]
+pub(crate) fn over(c: Cursor, n: usize) -> Cursor
+    requires { n ≤ 4096 }
+    ensures { result ≡ passing n c }
+{
+    c.over(n)
+}
+
+// One reader deeper.
+pub(crate) fn deeper(c: Cursor) -> Cursor
+    requires { c.depth < 256 }
+    ensures { result ≡ inner c }
+{
+    c.deeper()
+}
 
 // A node that was read: whether it ends an operand, and whether it is a bar by itself.
 #[derive(Clone, Copy)]

@@ -6,7 +6,8 @@ ghost use Rattle.closers_pass.specs.Meet.{Ready, Simple, ScriptFunc, Intermediat
 ghost use Rattle.closers_pass.specs.Matrix.{RowCells, MatrixRow, MoreRows, MatrixRows};
 
 use crate::cursor::{
-    Cells, Items, Node, Others, Part, Rows, Scripted, Tried, back, nothing, operation,
+    Cells, Items, Node, Others, Part, Rows, Scripted, Tried, back, deeper, next, nothing,
+    operation, over,
 };
 use crate::tests::{leaf, no_item, plain_item};
 use brackets::{bar_at, could_be_matrix, makes_matrix};
@@ -36,7 +37,7 @@ fn next_script(list: &List<'_>, work: &mut [u32], c: Cursor) -> Scripted
         };
     }
     let sup = list.is_at(work, pos, SUPER);
-    let a = next_simple(list, work, c.next(), false, true);
+    let a = next_simple(list, work, next(c), false, true);
     let ac = a.cur;
     if sup {
         return Scripted {
@@ -46,7 +47,7 @@ fn next_script(list: &List<'_>, work: &mut [u32], c: Cursor) -> Scripted
     }
     let at = ac.pos as usize;
     if list.is_at(work, at, SUPER) {
-        let b = next_simple(list, work, ac.next(), false, true);
+        let b = next_simple(list, work, next(ac), false, true);
         return Scripted {
             cur: b.cur,
             some: true,
@@ -70,10 +71,10 @@ fn next_script_func(list: &List<'_>, work: &mut [u32], c: Cursor, stop: bool, si
     }
     let pos = c.pos as usize;
     if list.heads_at(work, pos, sign) {
-        let d = headed(list, work, c.next().deeper(), stop, pos);
+        let d = headed(list, work, deeper(next(c)), stop, pos);
         return operation(d.at_depth(depth));
     }
-    let s = term(list, work, c.look(list.n).deeper(), stop, sign);
+    let s = term(list, work, deeper(c.look(list.n)), stop, sign);
     back(s, depth)
 }
 
@@ -140,7 +141,7 @@ fn next_intermediate(list: &List<'_>, work: &mut [u32], c: Cursor, stop: bool, s
             let d = a.cur;
             let pos = d.pos as usize;
             if list.is_at(work, pos, FRAC) {
-                let g = next_script_func(list, work, d.next(), false, true);
+                let g = next_script_func(list, work, next(d), false, true);
                 return Part {
                     cur: g.cur,
                     node: Some(Node {
@@ -218,7 +219,7 @@ fn row_cells(list: &List<'_>, work: &mut [u32], c: Cursor) -> Cells
         if !run.line {
             kept += 1;
         }
-        cur = rc.over(list.n);
+        cur = over(rc, list.n);
         if !list.is_at(work, p, SEP) {
             break 'cells list.is_at(work, p, CLOSE_BRACKET).then_some(p);
         }
@@ -239,14 +240,14 @@ fn next_row(list: &List<'_>, work: &mut [u32], c: Cursor) -> Cells
 {
     let pos = c.pos as usize;
     if list.is_at(work, pos, OPEN_BRACKET) {
-        let row = row_cells(list, work, c.next());
+        let row = row_cells(list, work, next(c));
         if let Some(right) = row.close {
             note_closer(work, pos, list.n, right);
         }
         return row;
     }
     Cells {
-        cur: c.over(list.n),
+        cur: over(c, list.n),
         count: 0,
         kept: 0,
         close: None,
@@ -266,7 +267,7 @@ fn more_rows(list: &List<'_>, work: &mut [u32], c: Cursor, cols: usize, round: b
         if !list.is_at(work, p, SEP) {
             break 'rows true;
         }
-        let row = next_row(list, work, cur.next());
+        let row = next_row(list, work, next(cur));
         cur = row.cur;
         let Some(right) = row.close else {
             break 'rows false;
@@ -343,7 +344,7 @@ fn try_matrix(list: &List<'_>, work: &mut [u32], c: Cursor, i: usize) -> Tried
     if makes_matrix(list, work, i, from as usize, cells, p) {
         note_closer(work, i, list.n, p);
         return Tried {
-            cur: cur.next(),
+            cur: next(cur),
             made: true,
         };
     }
@@ -366,7 +367,7 @@ fn open_group(list: &List<'_>, work: &mut [u32], c: Cursor, i: usize) -> Cursor
     let at = cur.pos as usize;
     if list.is_at(work, at, CLOSE_BRACKET) {
         note_closer(work, i, list.n, at);
-        return cur.next();
+        return next(cur);
     }
     cur.look(list.n)
 }
@@ -409,7 +410,7 @@ fn bars(list: &List<'_>, work: &mut [u32], c: Cursor, stop: bool, i: usize) -> P
     }
     if run.met {
         note_closer(work, i, list.n, at);
-        return operation(cur.next());
+        return operation(next(cur));
     }
     give_up(work, i, mark, from as usize, at);
     leaf(list, work, cur.rewind(from), i, OPEN_CLOSE_BRACKET)
@@ -473,7 +474,7 @@ fn next_simple(list: &List<'_>, work: &mut [u32], c: Cursor, stop: bool, sign: b
     }
     let pos = c.pos as usize;
     if list.begins_at(work, pos, stop) {
-        let g = begun(list, work, c.next().deeper(), stop, sign, pos);
+        let g = begun(list, work, deeper(next(c)), stop, sign, pos);
         return back(g, depth);
     }
     nothing(c.look(list.n))

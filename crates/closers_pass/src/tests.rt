@@ -3,7 +3,7 @@ ghost use Rattle.std.specs.Prelude.{◌≡◌, true, false, cond, ◌≤◌, ◌
 ghost use Rattle.closers_pass.specs.Meet.{leaf_at, nothing_at, plain_part};
 ghost use Rattle.reading_cursor.specs.Moves.{seen};
 
-use crate::cursor::{Node, Part, nothing};
+use crate::cursor::{Node, Part, next, nothing};
 use leaves::{leaf_bar, leaf_ends};
 use lookahead::list::List;
 use reading_cursor::Cursor;
@@ -33,7 +33,7 @@ pub(crate) fn plain_item(list: &List<'_>, work: &[u32], c: Cursor) -> Part
     leaf(
         list,
         work,
-        c.look(n).next().look(n).look(n),
+        next(c.look(n)).look(n).look(n),
         i,
         kind_at(list.tok, work, i),
     )

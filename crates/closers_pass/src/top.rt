@@ -6,6 +6,7 @@ ghost use Rattle.brackets.specs.Brackets.{has_attempts};
 ghost use Rattle.closers_pass.specs.Top.{Paired};
 ghost use Rattle.closers_pass.specs.Call.{paired_list};
 
+use crate::cursor::next;
 use crate::readers::extend;
 use brackets::has_attempts;
 use entries::prepare;
@@ -49,7 +50,7 @@ fn read_all(list: &List<'_>, work: &mut [u32]) -> u32
             cur = rc.look(list.n);
             break 'all;
         }
-        cur = rc.next();
+        cur = next(rc);
         if wraps < MOST_WRAPS {
             sign = false;
             wraps += 1;

@@ -14,7 +14,8 @@ use tree::kinds::{
     NODE_IDENT, NODE_NUMBER, NODE_OPERATOR, NODE_SIGN, NODE_SIMPLE, NODE_SYMBOL, NODE_TEXT,
 };
 
-// A node of the entry i: its kind, its span and one word more.
+// A node of the entry i: its kind, its span and one word more. Inline: passing all this takes longer than the stores.
+#[inline(always)]
 pub fn put_node(
     list: &List<'_>,
     work: &[u32],

@@ -28,17 +28,20 @@ pub(crate) fn longer_row(text: &[u8], at: usize) -> Option<Row>
         return None;
     }
     let x = text[at + 1];
-    if x < Row::new(low).byte(1) {
+    if x < Row::new(low).second() {
         return None;
     }
     for number in (low..past).rev() {
         let row = Row::new(number);
-        let b = row.byte(1);
-        if b < x {
-            return None;
-        }
-        if b == x && row.begins_at(text, at) {
-            return Some(row);
+        let b = row.second();
+        // one test for the many rows that are passed over
+        if b <= x {
+            if b < x {
+                return None;
+            }
+            if row.begins_at(text, at) {
+                return Some(row);
+            }
         }
     }
     None

@@ -3,7 +3,7 @@ ghost use Rattle.std.specs.Prelude.{◌≡◌, ℕ, ◌+◌, ◌≤◌, ◌<◌,
 ghost use Rattle.lexing.specs.Longest.{begins};
 ghost use Rattle.lexer.specs.Constants.{start_of, kind_of, spelling_of};
 
-use crate::spellings::{KINDS, byte_at, row_word};
+use crate::spellings::{KINDS, byte_at, row_word, second_byte};
 use std::marker::Model;
 
 // The row's number, counted from 0.
@@ -64,6 +64,13 @@ impl Row {
         ensures { result ≡ get_or (spelling_of self) j 0 }
     {
         byte_at(start_of(self.number) + j)
+    }
+
+    // The second byte of the spelling, or 0 if it has none.
+    pub(crate) fn second(self) -> u8
+        ensures { result ≡ get_or (spelling_of self) 1 0 }
+    {
+        second_byte(self.number)
     }
 
     // Whether the row, whose first two bytes stand at the place, begins the text there.

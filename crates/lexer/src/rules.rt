@@ -11,7 +11,7 @@ use crate::prefix_map::longer_row;
 use crate::row::Row;
 use crate::spellings::byte_word;
 use crate::table::{Listed, put, put_other};
-use blanks::{blanks_end, run_end};
+use blanks::{ByteTest, blanks_end, run_end};
 use tokens::kinds::{CLOSE_BRACKET, NUMBER, OPEN_BRACKET, OPERATOR, SPACE, TEXT, UNARY};
 
 // The rows of `text` and `mbox`, which `is_text_command` is proved with, and the bytes of each.
@@ -28,19 +28,43 @@ fn is_digit(c: u8) -> bool
     matches!(c, b'0'..=b'9')
 }
 
+struct Digit;
+
+impl ByteTest for Digit {
+    ghost passed = { λ t. digit };
+
+    fn passes(&self, c: u8) -> bool {
+        is_digit(c)
+    }
+}
+
 // Where the digits from the place on end; past the text's end there are none.
 fn digits_end(text: &[u8], at: usize) -> usize
     ensures { result ≡ run_end digit text.now at }
 {
-    run_end(text, at, |c| is_digit(c))
+    run_end(text, at, &Digit)
+}
+
+// Every byte but one.
+#[derive(Clone, Copy)]
+struct Other {
+    than: u8,
+}
+
+impl ByteTest for Other {
+    ghost passed = { λ t. other t.than };
+
+    #[tactic(auto, using(std::proofs::lemmas::Bool::Decides::nat_tests), unfolding(lexing::specs::Rules::other))]
+    fn passes(&self, c: u8) -> bool {
+        c != self.than
+    }
 }
 
 // Where the byte b first stands from the place on, or the text's end.
-#[tactic(auto, using(std::proofs::lemmas::Bool::Decides::nat_tests), unfolding(lexing::specs::Rules::other))]
 fn find_end(text: &[u8], at: usize, b: u8) -> usize
     ensures { result ≡ run_end (other b) text.now at }
 {
-    run_end(text, at, |c| c != b)
+    run_end(text, at, &Other { than: b })
 }
 
 // Rules 4 and 5 for a byte that is no letter: a quotation, or an Operator.

@@ -1,15 +1,18 @@
 // The spelling table: the rows of the definition, laid out flat. The arrays are statics, which are read where they lie: a constant array
 // would be built anew at each use.
 ghost use Rattle.std.specs.Prelude.{◌≡◌, ◌+◌, ◌<◌, get_or};
-ghost use Rattle.lexer.specs.Constants.{flat_bytes, row_words, rows_below, longer_from, word_of_byte};
+ghost use Rattle.lexer.specs.Constants.{flat_bytes, row_words, spelling_of, rows_below, longer_from, word_of_byte};
 
 // A kind is below KINDS. A row's word is KINDS times its start and its kind; a byte's word is ROW times a row, the bit of KINDS and a kind.
 pub(crate) const KINDS: usize = 32;
 
 pub(crate) const ROW: usize = 64;
 
-// The arrays' lengths: the bytes of all 429 spellings, a word for each and one behind the last, and a word for each byte value to 128.
+// The arrays' lengths: the bytes of all spellings, their number, a word for each and one behind the last, and a word for each byte value
+// to 128.
 const ALL_BYTES: usize = 1809;
+
+const ALL_ROWS: usize = 429;
 
 const ROW_WORDS: usize = 430;
 
@@ -147,6 +150,31 @@ static ROWS: [u16; ROW_WORDS] = [
     57653, 57674, 57706, 57781, 57834, 57888,
 ];
 
+// The second byte of each row, or 0. The lookup tells by it alone which rows it passes over.
+static SECONDS: [u8; ALL_ROWS] = [
+    0, 45, 61, 69, 105, 115, 115, 115, 115, 0, 0, 0, 58, 0, 0, 42, 42, 0, 45, 0, 0, 43, 58, 60, 60,
+    61, 62, 62, 108, 46, 0, 47, 95, 95, 39, 41, 46, 61, 124, 124, 125, 0, 45, 45, 60, 61, 61, 61,
+    61, 0, 61, 62, 0, 45, 45, 45, 45, 60, 61, 62, 0, 65, 98, 108, 114, 114, 114, 101, 67, 104, 111,
+    111, 111, 115, 101, 111, 69, 112, 112, 116, 97, 111, 97, 97, 97, 101, 101, 105, 110, 111, 117,
+    78, 117, 47, 109, 104, 105, 115, 81, 82, 104, 105, 101, 105, 105, 105, 84, 97, 97, 97, 104,
+    112, 112, 97, 105, 90, 101, 0, 0, 32, 92, 0, 0, 94, 94, 0, 95, 124, 98, 108, 108, 110, 110,
+    112, 114, 114, 114, 114, 114, 114, 115, 97, 97, 98, 98, 98, 98, 98, 98, 98, 101, 101, 105, 105,
+    105, 105, 111, 111, 97, 97, 99, 100, 100, 101, 104, 105, 108, 111, 111, 111, 111, 111, 111,
+    115, 115, 117, 65, 97, 97, 97, 100, 100, 100, 100, 101, 101, 101, 105, 105, 105, 105, 111, 111,
+    116, 120, 121, 122, 108, 109, 110, 112, 112, 113, 116, 120, 120, 0, 108, 111, 114, 114, 114, 0,
+    97, 99, 101, 101, 103, 108, 114, 116, 116, 65, 97, 97, 98, 100, 102, 102, 105, 105, 109, 110,
+    110, 110, 111, 116, 97, 65, 97, 97, 97, 97, 97, 99, 99, 100, 101, 101, 101, 101, 101, 101, 102,
+    105, 108, 110, 111, 111, 116, 116, 116, 117, 97, 97, 97, 97, 97, 97, 97, 97, 97, 98, 103, 105,
+    108, 111, 111, 112, 117, 97, 101, 101, 110, 110, 111, 111, 111, 111, 111, 111, 111, 111, 111,
+    115, 115, 115, 115, 117, 43, 45, 46, 98, 100, 105, 105, 105, 109, 109, 111, 112, 114, 115, 116,
+    118, 118, 118, 118, 118, 120, 97, 104, 105, 109, 114, 114, 114, 114, 114, 114, 115, 113, 117,
+    65, 97, 97, 99, 102, 104, 105, 105, 105, 105, 105, 111, 116, 101, 101, 101, 102, 102, 105, 105,
+    105, 105, 113, 113, 116, 116, 117, 117, 117, 117, 117, 117, 117, 117, 117, 117, 117, 97, 97,
+    97, 101, 104, 104, 104, 105, 105, 111, 111, 114, 116, 119, 119, 65, 97, 98, 108, 110, 110, 110,
+    112, 112, 117, 117, 97, 97, 97, 97, 97, 97, 100, 100, 101, 101, 118, 118, 101, 105, 120, 101,
+    0, 58, 0, 45, 45, 58, 61, 62, 62, 95, 124, 126, 0, 0, 61, 124, 126,
+];
+
 // For each byte 64 times the rows that begin with a smaller one, 32 more where the byte alone is a spelling, and the number of
 // the token that the byte is by itself.
 static FIRST: [u16; BYTE_WORDS] = [
@@ -166,6 +194,14 @@ pub(crate) fn byte_at(i: usize) -> u8
     ensures { result ≡ get_or flat_bytes i 0 }
 {
     BYTES[i]
+}
+
+// The second byte of a row, or 0 if it has none.
+pub(crate) fn second_byte(row: usize) -> u8
+    requires { row < 429 }
+    ensures { result ≡ get_or (spelling_of row) 1 0 }
+{
+    SECONDS[row]
 }
 
 // The word of a row.

@@ -1,5 +1,5 @@
 -- The elements by their numbers (crates/mathml_rules/specs/Elements.antt).
-use Rattle.std.specs.Prelude.{ℕ}
+use Rattle.std.specs.Prelude.{ℕ, cond, ltb}
 use Rattle.mathml_tags.specs.declared.elements.Element.{Element}
 use Rattle.mathml_tags.specs.declared.elements.Element.TheVariants as element
 
@@ -37,3 +37,7 @@ element_number element.Munder = 29
 element_number element.Mroot = 30
 element_number element.Mtable = 31
 element_number element.Mtr = 32
+
+-- the number by which an element stands for a number: itself in the table, past it that of an mrow
+abbrev pub number_in_table : ℕ → ℕ
+number_in_table n = cond (ltb n 33) n 0

@@ -1,7 +1,7 @@
 // The elements, in the order of their numbers in crates/mathml_rules/specs/Elements.antt. Several have one name.
 ghost use Rattle.std.specs.Prelude.{◌≡◌};
 ghost use Rattle.mathml_rules.specs.Elements.{element_of};
-ghost use Rattle.mathml_tags.specs.Element.{element_number};
+ghost use Rattle.mathml_tags.specs.Element.{element_number, number_in_table};
 
 #[derive(Clone, Copy, PartialEq, Eq)]
 pub enum Element {
@@ -43,7 +43,7 @@ pub enum Element {
 
 // The element of a number, for any number: past the table all are an mrow.
 impl From<usize> for Element {
-    ghost from_gives = { λ n e. element_of (element_number e) ≡ element_of n };
+    ghost from_gives = { λ n e. (element_of (element_number e) ≡ element_of n) × (element_number e ≡ number_in_table n) };
 
     fn from(n: usize) -> Element {
         match n {
@@ -81,6 +81,49 @@ impl From<usize> for Element {
             31 => Element::Mtable,
             32 => Element::Mtr,
             33.. => Element::MrowMissing,
+        }
+    }
+}
+
+// The number of an element.
+impl From<Element> for usize {
+    ghost from_gives = { λ e n. n ≡ element_number e };
+
+    fn from(e: Element) -> usize {
+        match e {
+            Element::MrowMissing => 0,
+            Element::Mn => 1,
+            Element::Mtext => 2,
+            Element::Mi => 3,
+            Element::Mo => 4,
+            Element::MoSign => 5,
+            Element::Mspace => 6,
+            Element::MoSymbol => 7,
+            Element::MrowSigned => 8,
+            Element::MrowSsigned => 9,
+            Element::MrowFenced => 10,
+            Element::MrowSfunc => 11,
+            Element::MfracCommand => 12,
+            Element::Msub => 13,
+            Element::MrowFunc => 14,
+            Element::MrowGroup => 15,
+            Element::MrowMatrix => 16,
+            Element::Mtd => 17,
+            Element::Mfrac => 18,
+            Element::Math => 19,
+            Element::Msup => 20,
+            Element::Msubsup => 21,
+            Element::MoTight => 22,
+            Element::MoSpaced => 23,
+            Element::Msqrt => 24,
+            Element::Menclose => 25,
+            Element::MoverAccent => 26,
+            Element::MunderAccent => 27,
+            Element::Mover => 28,
+            Element::Munder => 29,
+            Element::Mroot => 30,
+            Element::Mtable => 31,
+            Element::Mtr => 32,
         }
     }
 }

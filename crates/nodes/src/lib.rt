@@ -33,8 +33,9 @@ fn put_between(
     put(tree, e, &[kind, start, len, count, right, right_len]);
 }
 
-// A group from the bracket i to the bracket j; to none, if j is no entry.
+// A group from the bracket i to the bracket j; to none, if j is no entry. Inline, like `put_node` in it.
 #[tactic(auto, unfolding(crate::specs::Nodes::group_words))]
+#[inline(always)]
 pub fn put_group(
     list: &List<'_>,
     work: &[u32],

@@ -15,7 +15,7 @@ use Rattle.lookahead.specs.Tests.{test_at, begins_kind, plain_at, over_at}
 use Rattle.buffer.specs.Buffer.{stored}
 use Rattle.leaves.specs.Leaves.{leaf_words, leaf_ends, plain_words}
 use Rattle.buffer.proofs.Stores.{stored_in}
-use Rattle.parse.specs.Meet.{Intermediate, ScriptFunc}
+use Rattle.parse.specs.Meet.{Intermediate, ScriptFunc, missed_at}
 use Rattle.reading_cursor.specs.Moves.{onward, seen, inner}
 use Rattle.parse.proofs.Buffer.{sets_before}
 use Rattle.parse.proofs.Arms.{scripts-none}
@@ -65,7 +65,7 @@ plain-answer n c c1 c2 c3 c4 e k j f h1 h2 h3 h4 hf hk = rw (h4, h3, h2, h1, hf,
 
 -- No item begins: the readers above find none, and look twice.
 module _ {X t : List ℕ} {n : ℕ} {K : List ℕ} (stop sg : Bool) {c : Cursor} {e : ℕ} {x : List ℕ} where
-  pub over_nothing : over_at t K n c.depth stop c.pos ≡ true → e + 7 + 32 * (n - c.pos) ≤ length x → c.pos ≤ n → Known X t n K → Intermediate X t n K K stop sg c e x x (Err (seen n (seen n c)))
+  pub over_nothing : over_at t K n c.depth stop c.pos ≡ true → e + 7 + 32 * (n - c.pos) ≤ length x → c.pos ≤ n → Known X t n K → Intermediate X t n K K stop sg c e x x (Err (missed_at (seen n (seen n c))))
   unfolding over_at
   over_nothing h room here kn =
       let both_hold = both _ _ h in

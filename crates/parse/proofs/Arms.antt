@@ -17,7 +17,7 @@ use Rattle.parse.specs.declared.cursor.Part.{Part}
 use Rattle.parse.specs.Buffer.{Wrote}
 use Rattle.lookahead.specs.Tests.{test_at, is_kind, marks_kind}
 use Rattle.leaves.specs.Leaves.{node_words}
-use Rattle.parse.specs.Meet.{Simple, ScriptFunc, Argument, Operand, Scripts, Unary, Binary, prefix_of}
+use Rattle.parse.specs.Meet.{Simple, ScriptFunc, Argument, Operand, Scripts, Unary, Binary, prefix_of, missed_at}
 use Rattle.reading_cursor.specs.Moves.{onward, seen}
 use Rattle.parse.proofs.Buffer.{push, fill, seq, wrote_none}
 use Rattle.lookahead.proofs.Testing.{test_below}
@@ -38,7 +38,7 @@ module _ {X t : List ℕ} {n : ℕ} {K L : List ℕ} (stop : Bool) {c : Cursor} 
     means = λ I s at. let q = p.1 I s at in record { answer = some q.node; state = q.state; runs = q.runs; at = q.at; tree = q.tree; besides = q.besides };
   }
 
-  pub argument-missing : {b : Cursor} {z : List ℕ} → Simple X t n K L stop true c e x y (Err b) → z ≡ sets y e zeros → e + 6 ≤ length x
+  pub argument-missing : {b : Cursor} {z : List ℕ} → Simple X t n K L stop true c e x y (Err (missed_at b)) → z ≡ sets y e zeros → e + 6 ≤ length x
       → Argument X t n K L stop c e x z (record { cur = b; end = e + 6; ends = false })
   unfolding encode ends_operand look
   argument-missing {b} {z} p hz h = record {
@@ -59,7 +59,7 @@ module _ {X t : List ℕ} {n : ℕ} {K L : List ℕ} (stop : Bool) {c : Cursor} 
     means = λ I s at. let q = p.1 I s at in record { answer = some q.node; state = q.state; runs = q.runs; at = q.at; tree = q.tree; besides = q.besides.0 };
   }
 
-  pub operand_missing : {b : Cursor} {z : List ℕ} → ScriptFunc X t n K L stop true c e x y (Err b) → z ≡ sets y e bare_part → e + 12 ≤ length x
+  pub operand_missing : {b : Cursor} {z : List ℕ} → ScriptFunc X t n K L stop true c e x y (Err (missed_at b)) → z ≡ sets y e bare_part → e + 12 ≤ length x
       → Operand X t n K L stop c e x z (record { cur = b; end = e + 12; ends = false })
   unfolding encode ends_operand look
   operand_missing {b} {z} p hz h =

@@ -24,7 +24,7 @@ use Rattle.marks.specs.Marks.{is_marked, with_mark}
 use Rattle.leaves.specs.Leaves.{leaf_ends, leaf_words}
 use Rattle.nodes.specs.Nodes.{group_words}
 use Rattle.marks.specs.Marks as entry
-use Rattle.parse.specs.Meet.{Intermediates, OpenGroup, Bracket, TryMatrix, Bars}
+use Rattle.parse.specs.Meet.{Intermediates, OpenGroup, Bracket, TryMatrix, Bars, missed_at}
 use Rattle.reading_cursor.specs.Moves.{onward, rewound}
 use Rattle.parse.proofs.Buffer.{push, fill, seq, back}
 use Rattle.parse.proofs.Scripting.{closed-words, group-size}
@@ -148,7 +148,7 @@ module _ {X t : List ℕ} {n : ℕ} {K L : List ℕ} (i : ℕ) (stop : Bool) {c 
     means = λ I s at en there. let q = p.1 I s at en there in record { answer = q.node; state = q.state; runs = matrix-runs (eqb k 20) c.depth stop i I en s q.state q.node q.runs; at = q.at; tree = q.tree; besides = q.besides };
   }
 
-  module _ {b : Cursor} (p : TryMatrix X t n K L i c e x y (Err b)) {J z : List ℕ} {g : Part} where
+  module _ {b : Cursor} (p : TryMatrix X t n K L i c e x y (Err (missed_at b))) {J z : List ℕ} {g : Part} where
     by_group : OpenGroup X t n L J i b e y z g → Bracket X t n K J i 20 stop c e x z g
     unfolding next_bracket
     by_group p2 = record {

@@ -26,7 +26,7 @@ use Rattle.records.specs.Record.{kind_of}
 use Rattle.lookahead.specs.Tests.{test_at, begins_kind, opening}
 use Rattle.leaves.specs.Leaves.{leaf_kind, leaf_class, leaf_ends, leaf_words}
 use Rattle.parse.specs.Meet.{Began, Simple, Begun, Bracket, Unary, Binary}
-use Rattle.parse.specs.Meet.{part_at}
+use Rattle.parse.specs.Meet.{part_at, missed_at}
 use Rattle.reading_cursor.specs.Moves.{onward, seen, inner}
 use Rattle.parse.proofs.Buffer.{push, wrote_none}
 use Rattle.lookahead.proofs.Testing.{test_below}
@@ -38,7 +38,7 @@ use Rattle.reading_words.proofs.Sorts.{is-Sign, is-Function, is-Unary, is-Binary
 use Rattle.reading_words.proofs.Steps.{by_kind, never21, never23}
 
 module _ {X t : List ℕ} {n : ℕ} {K : List ℕ} (stop sg : Bool) {c : Cursor} {e : ℕ} {x : List ℕ} (deep : c.depth < 256) where
-  pub simple-nothing : test_at t K n (begins_kind stop) c.pos ≡ false → c.pos ≤ n → Known X t n K → Simple X t n K K stop sg c e x x (Err (seen n c))
+  pub simple-nothing : test_at t K n (begins_kind stop) c.pos ≡ false → c.pos ≤ n → Known X t n K → Simple X t n K K stop sg c e x x (Err (missed_at (seen n c)))
   unfolding next_simple
   simple-nothing h k kn = (
     record { within = k; on = omega arith; depth = refl; room = omega arith; long = refl; kept = kept_refl K; known = kn },

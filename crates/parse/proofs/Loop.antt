@@ -19,7 +19,7 @@ use Rattle.parse.specs.Buffer.{Wrote}
 use Rattle.records.specs.Record.{space_len}
 use Rattle.brackets.specs.Brackets.{bar_at}
 use Rattle.nodes.specs.Nodes.{gap_len, gap_words, gap_items}
-use Rattle.parse.specs.Meet.{Moves, Each, Intermediate, Intermediates, Gapped}
+use Rattle.parse.specs.Meet.{Moves, Each, Intermediate, Intermediates, Gapped, missed_at}
 use Rattle.parse.proofs.Buffer.{seq, back, wrote_none}
 use Rattle.parse.proofs.Scripting.{count-append}
 use Rattle.reading_words.specs.Meet.{Input, Stands, Given, At, Known, readers, Until, last_after, is_none, stop_of, items_at, items_from}
@@ -133,7 +133,7 @@ module _ {X t : List ℕ} {n : ℕ} {K : List ℕ} (u : ℕ) (stop first₀ sign
           };
     }
 
-    pub along-nothing : {J : List ℕ} {b : Cursor} → Intermediate X t n L J stop sign cur g.end y2 y3 (Err b) → Intermediates X t n K J u stop first₀ sign₀ c e x y3 (record { cur = b; end = stp; count = num; sign = sign })
+    pub along-nothing : {J : List ℕ} {b : Cursor} → Intermediate X t n L J stop sign cur g.end y2 y3 (Err (missed_at b)) → Intermediates X t n K J u stop first₀ sign₀ c e x y3 (record { cur = b; end = stp; count = num; sign = sign })
     along-nothing {J} {b} p = record {
       moves = record { within = p.0.within; on = omega (arith, p.0.on, i.moves.on); depth = p.0.depth ∙ i.moves.depth; room = omega (arith, p.0.on, i.moves.room); long = p.0.long ∙ gp.tree.long ∙ i.moves.long; kept = kept_trans i.moves.kept p.0.kept; known = p.0.known };
       few = omega (arith, i.few, p.0.on);

@@ -19,7 +19,7 @@ use Rattle.records.specs.Record.{marks_of, Whole, Kept}
 use Rattle.brackets.specs.Brackets.{could_be_matrix_at, makes_at}
 use Rattle.marks.specs.Marks.{is_marked}
 use Rattle.nodes.specs.Nodes.{matrix_words}
-use Rattle.parse.specs.Meet.{Moves, Misses, Each, TryMatrix}
+use Rattle.parse.specs.Meet.{Moves, Misses, Each, TryMatrix, missed_at}
 use Rattle.reading_cursor.specs.Moves.{onward, rewound}
 use Rattle.parse.proofs.Buffer.{fill, back, wrote_none}
 use Rattle.columns.specs.declared.Split.{Split}
@@ -106,7 +106,7 @@ matrix-encoded cols v lines cells r r2 hk hv = rw (← hk, ← hv, r.start, r.le
 
 -- the attempt
 module _ {X t : List ℕ} {n : ℕ} {K : List ℕ} (i : ℕ) (c : Cursor) (e : ℕ) (x : List ℕ) (inside : i < n) (here-n : c.pos ≤ n) where
-  pub try_shut : could_be_matrix_at X t K n i ≡ false → Known X t n K → TryMatrix X t n K K i c e x x (Err c)
+  pub try_shut : could_be_matrix_at X t K n i ≡ false → Known X t n K → TryMatrix X t n K K i c e x x (Err (missed_at c))
   unfolding try_matrix
   try_shut h kn = (
     record { within = here-n; on = omega arith; depth = refl; room = omega arith; long = refl; kept = kept_refl K; known = kn },
@@ -114,7 +114,7 @@ module _ {X t : List ℕ} {n : ℕ} {K : List ℕ} (i : ℕ) (c : Cursor) (e : �
   )
 
   module _ (gate : could_be_matrix_at X t K n i ≡ true) where
-    pub try_known : is_marked (marks_of K i) 4 ≡ true → Known X t n K → TryMatrix X t n K K i c e x x (Err c)
+    pub try_known : is_marked (marks_of K i) 4 ≡ true → Known X t n K → TryMatrix X t n K K i c e x x (Err (missed_at c))
     unfolding try_matrix
     try_known h kn = (
       record { within = here-n; on = omega arith; depth = refl; room = omega arith; long = refl; kept = kept_refl K; known = kn },
@@ -143,7 +143,7 @@ module _ {X t : List ℕ} {n : ℕ} {K : List ℕ} (i : ℕ) (c : Cursor) (e : �
       }
 
       pub try_broken : {N : List ℕ} {d : Cursor} → Broke X t n K L c (e + 8) x y d → Each X t n K c (λ I s. Fails X t n L (rows_at c.depth I) I s (e + 8) x y d)
-          → Whole L i → N ≡ marked L matrix_mark i → TryMatrix X t n K N i c e x y (Err (rewound c.pos d))
+          → Whole L i → N ≡ marked L matrix_mark i → TryMatrix X t n K N i c e x y (Err (missed_at (rewound c.pos d)))
       unfolding matrix_body
       try_broken {d = d} b p fit hn = (
         lost-numbers d b.depth b.long b.kept b.known fit hn,
@@ -163,7 +163,7 @@ module _ {X t : List ℕ} {n : ℕ} {K : List ℕ} (i : ℕ) (c : Cursor) (e : �
             let q = p I s at in
             record { has = q; mat = subst (λ (w : List ℕ). MatrixAt (split_column_lines w I.es q.rows) x (e + 8) z sp) (sym at.given.text) (sl.gives I.es q.rows x q.all q.tree) }
 
-        pub try_unmade : {N : List ℕ} → makes_at X t L n i l sp.cells d.pos ≡ false → Whole L i → N ≡ marked L matrix_mark i → TryMatrix X t n K N i c e x z (Err (rewound c.pos d))
+        pub try_unmade : {N : List ℕ} → makes_at X t L n i l sp.cells d.pos ≡ false → Whole L i → N ≡ marked L matrix_mark i → TryMatrix X t n K N i c e x z (Err (missed_at (rewound c.pos d)))
         unfolding matrix_body
         try_unmade h fit hn = (
           lost-numbers d f.depth (lz ∙ f.long) f.kept f.known fit hn,

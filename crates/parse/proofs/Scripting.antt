@@ -26,7 +26,7 @@ use Rattle.records.specs.Record.{start_of, len_of}
 use Rattle.lookahead.specs.Tests.{test_at, is_kind, heads_kind}
 use Rattle.leaves.specs.Leaves.{node_words}
 use Rattle.nodes.specs.Nodes.{group_words}
-use Rattle.parse.specs.Meet.{Finds, Simple, ScriptFunc, Term, Intermediate, Operand, Scripts, Intermediates, Headed, OpenGroup, With, words_of, part_at, step_at}
+use Rattle.parse.specs.Meet.{Finds, Simple, ScriptFunc, Term, Intermediate, Operand, Scripts, Intermediates, Headed, OpenGroup, With, words_of, part_at, missed_at, step_at}
 use Rattle.reading_cursor.specs.Moves.{onward, seen, inner, at_depth}
 use Rattle.parse.proofs.Buffer.{fill, seq, back, wrote_none}
 use Rattle.parse.proofs.Whole.{whole-items}
@@ -47,13 +47,13 @@ count-append (x ▸ l) m = omega (arith, count-append l m)
 
 -- too deep
 module _ {X t : List ℕ} {n : ℕ} {K : List ℕ} (stop sg : Bool) {c : Cursor} {e : ℕ} {x : List ℕ} (h : 256 ≤ c.depth) (k : c.pos ≤ n) (kn : Known X t n K) where
-  pub simple-deep : Simple X t n K K stop sg c e x x (Err c)
+  pub simple-deep : Simple X t n K K stop sg c e x x (Err (missed_at c))
   simple-deep = (
     record { within = k; on = omega arith; depth = refl; room = omega arith; long = refl; kept = kept_refl K; known = kn },
     λ I s at. record { state = s; runs = ap (λ (f : Stop → Bool → M (Option Node)). f (stop_of stop) sg s) (deep-simple I c.depth h) ∙ ret _ _; at = at; tree = wrote_none x e },
   )
 
-  pub script-deep : ScriptFunc X t n K K stop sg c e x x (Err c)
+  pub script-deep : ScriptFunc X t n K K stop sg c e x x (Err (missed_at c))
   script-deep = (
     record { within = k; on = omega arith; depth = refl; room = omega arith; long = refl; kept = kept_refl K; known = kn },
     λ I s at. record { state = s; runs = ap (λ (f : Stop → Bool → M (Option Node)). f (stop_of stop) sg s) (deep-script_func I c.depth h) ∙ ret _ _; at = at; tree = wrote_none x e },
@@ -80,7 +80,7 @@ found_of {u = u} (some a) r at w bs = record { node = a; state = u; runs = r; at
 
 -- a simple expression and its scripts
 module _ {X t : List ℕ} {n : ℕ} {K : List ℕ} (stop sg : Bool) {c : Cursor} {e : ℕ} {x : List ℕ} where
-  pub term_nothing : {L y : List ℕ} {b : Cursor} → e + 6 + 32 * (n - c.pos) ≤ length x → Simple X t n K L stop sg c (e + 6) x y (Err b) → Term X t n K L stop sg c e x y (Err b)
+  pub term_nothing : {L y : List ℕ} {b : Cursor} → e + 6 + 32 * (n - c.pos) ≤ length x → Simple X t n K L stop sg c (e + 6) x y (Err (missed_at b)) → Term X t n K L stop sg c e x y (Err (missed_at b))
   term_nothing k p = (
     record { within = p.0.within; on = p.0.on; depth = p.0.depth; room = omega (arith, p.0.on); long = p.0.long; kept = p.0.kept; known = p.0.known },
     λ I s at. let q = p.1 I s at in record { state = q.state; runs = bind _ _ s q.runs ∙ ret _ _; at = q.at; tree = back e q.tree (omega arith) (omega arith) },
@@ -105,9 +105,9 @@ module _ {X t : List ℕ} {n : ℕ} {K : List ℕ} (stop sg : Bool) {c : Cursor}
   )
 
 module _ {X t : List ℕ} {n : ℕ} {K : List ℕ} (stop sg : Bool) {c : Cursor} {e : ℕ} {x : List ℕ} (deep : c.depth < 256) where
-  pub script-nothing : {L y : List ℕ} {a b : Cursor} → a ≡ inner (seen n c) → test_at t K n (heads_kind sg) c.pos ≡ false → Term X t n K L stop sg a e x y (Err b) → ScriptFunc X t n K L stop sg c e x y (Err (at_depth c.depth b))
+  pub script-nothing : {L y : List ℕ} {a b : Cursor} → a ≡ inner (seen n c) → test_at t K n (heads_kind sg) c.pos ≡ false → Term X t n K L stop sg a e x y (Err (missed_at b)) → ScriptFunc X t n K L stop sg c e x y (Err (missed_at (at_depth c.depth b)))
   unfolding next_script_func
-  script-nothing {L} {y} {a} {b} ha h p₀ = let p = subst (λ (w : Cursor). Term X t n K L stop sg w e x y (Err b)) ha p₀ in (
+  script-nothing {L} {y} {a} {b} ha h p₀ = let p = subst (λ (w : Cursor). Term X t n K L stop sg w e x y (Err (missed_at b))) ha p₀ in (
     record { within = p.0.within; on = p.0.on; depth = refl; room = omega (arith, p.0.room); long = p.0.long; kept = p.0.kept; known = p.0.known },
     λ I s at.
         let r = passed (heads_kind sg) at (same-heads sg) h in
@@ -187,7 +187,7 @@ module _ {X t : List ℕ} {n : ℕ} {K : List ℕ} (i : ℕ) (stop : Bool) {c : 
 
 -- items
 module _ {X t : List ℕ} {n : ℕ} {K : List ℕ} (stop sg : Bool) {c : Cursor} {e : ℕ} {x : List ℕ} (room : e + 7 + 32 * (n - c.pos) ≤ length x) where
-  pub item-nothing : {L y : List ℕ} {b : Cursor} → ScriptFunc X t n K L stop sg c (e + 1) x y (Err b) → Intermediate X t n K L stop sg c e x y (Err b)
+  pub item-nothing : {L y : List ℕ} {b : Cursor} → ScriptFunc X t n K L stop sg c (e + 1) x y (Err (missed_at b)) → Intermediate X t n K L stop sg c e x y (Err (missed_at b))
   unfolding next_intermediate
   item-nothing p = (
     record { within = p.0.within; on = p.0.on; depth = p.0.depth; room = omega (arith, p.0.on); long = p.0.long; kept = p.0.kept; known = p.0.known },

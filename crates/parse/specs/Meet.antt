@@ -10,6 +10,7 @@ use Rattle.reading.specs.Entries.{Entry}
 use Rattle.reading.specs.Reading.{State, M, return, ◌>>=◌, argument, next_open_group, try_matrix, begun, or_missing, or_missing_part, ends_operand, prefixes}
 use Rattle.reading_cursor.specs.declared.Cursor.{Cursor}
 use Rattle.parse.specs.declared.cursor.Part.{Part}
+use Rattle.parse.specs.declared.cursor.Missed.{Missed}
 use Rattle.parse.specs.declared.cursor.Scripted as code
 use Rattle.parse.specs.declared.cursor.Items.{Items}
 use Rattle.parse.specs.declared.cursor.Gap.{Gap}
@@ -40,7 +41,7 @@ pub record Moves (X t : List ℕ) (gain more spare n : ℕ) (K L : List ℕ) (c 
 
 -- What a reader answers that may find no node: the node, or where the cursor stands.
 abbrev pub Step : Type 0
-Step = Result Part Cursor
+Step = Result Part Missed
 
 -- The flag says whether the node ends an operand; a scripted part is no fraction besides.
 abbrev pub Ending : Bool → Node → Type 0
@@ -103,7 +104,7 @@ module _ (X t : List ℕ) (n : ℕ) where
 
   abbrev pub Met : List ℕ → List ℕ → ℕ → (Input → M (Option Node)) → (Node → List ℕ) → (Bool → Node → Type 0) → Cursor → ℕ → List ℕ → List ℕ → Step → Type 0
   Met K L spare m words also c e x y (Ok g) = Moves X t 1 0 spare n K L c e x y g.cur g.end × Each K c (λ I s. Finds L (m I) words also I s e x y g.cur g.end g.ends)
-  Met K L spare m words also c e x y (Err d) = Moves X t 0 0 0 n K L c e x y d e × Each K c (λ I s. Misses L (m I) I s e x y d)
+  Met K L spare m words also c e x y (Err d) = Moves X t 0 0 0 n K L c e x y d.cur e × Each K c (λ I s. Misses L (m I) I s e x y d.cur)
 
   -- What the entry i begins, which the reader has just taken.
   abbrev pub EachOf : List ℕ → ℕ → Cursor → (Input → State → Entry → Type 0) → Type 0
@@ -115,7 +116,7 @@ module _ (X t : List ℕ) (n : ℕ) where
 
   abbrev pub MetOf : List ℕ → List ℕ → ℕ → ℕ → (Input → Entry → M (Option Node)) → Cursor → ℕ → List ℕ → List ℕ → Step → Type 0
   MetOf K L more i m c e x y (Ok g) = Moves X t 1 more 0 n K L c e x y g.cur g.end × EachOf K i c (λ I s en. Finds L (m I en) encode Ending I s e x y g.cur g.end g.ends)
-  MetOf K L more i m c e x y (Err d) = Moves X t 0 0 0 n K L c e x y d e × EachOf K i c (λ I s en. Misses L (m I en) I s e x y d)
+  MetOf K L more i m c e x y (Err d) = Moves X t 0 0 0 n K L c e x y d.cur e × EachOf K i c (λ I s en. Misses L (m I en) I s e x y d.cur)
 
   -- The readers' contracts. A simple expression leaves 14 of its tokens' words: 6 for the part around it, 1 for the item, 7 for a
   -- Space before it; so a part leaves 8, an item 7. Missing has no token: 6 words, 12 as a part.
@@ -182,6 +183,9 @@ pub record Gapped (t K : List ℕ) (n : ℕ) (first : Bool) (i e : ℕ) (x y : L
 abbrev pub part_at : ℕ → Part → Part
 part_at d g = record { cur = at_depth d g.cur; end = g.end; ends = g.ends }
 
+abbrev pub missed_at : Cursor → Missed
+missed_at c = record { cur = c; aligned = [] }
+
 abbrev pub step_at : ℕ → Step → Step
 step_at d (Ok g) = Ok (part_at d g)
-step_at d (Err c) = Err (at_depth d c)
+step_at d (Err m) = Err (missed_at (at_depth d m.cur))

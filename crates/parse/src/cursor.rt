@@ -1,8 +1,44 @@
 // What the readers answer.
-ghost use Rattle.std.specs.Prelude.{◌≡◌};
-ghost use Rattle.parse.specs.Meet.{part_at, step_at};
+ghost use Rattle.std.specs.Prelude.{◌≡◌, true, cond, ◌≤◌, ◌<◌};
+ghost use Rattle.parse.specs.Meet.{part_at, missed_at, step_at};
+ghost use Rattle.reading_cursor.specs.Moves.{onward, seen, passing, inner};
 
 use reading_cursor::Cursor;
+
+// The cursor's steps as the readers take them: within a list, and no deeper than readers go.
+
+// Past the next token, which is there.
+pub(crate) fn next(c: Cursor) -> Cursor
+    requires { c.pos < 4096 }
+    ensures { result ≡ onward c }
+{
+    c.next()
+}
+
+// Past the next token, if there is one.
+#[tactic(auto, unfolding(reading_cursor::specs::Moves::passing))]
+pub(crate) fn over(c: Cursor, n: usize) -> Cursor
+    requires { n ≤ 4096 }
+    ensures { result ≡ passing n c }
+{
+    c.over(n)
+}
+
+// Past the next token, if it is taken; else a look at it.
+pub(crate) fn past(c: Cursor, n: usize, taken: bool) -> Cursor
+    requires { taken ≡ true → c.pos < 4096 }
+    ensures { result ≡ cond taken (onward c) (seen n c) }
+{
+    c.past(n, taken)
+}
+
+// One reader deeper.
+pub(crate) fn deeper(c: Cursor) -> Cursor
+    requires { c.depth < 256 }
+    ensures { result ≡ inner c }
+{
+    c.deeper()
+}
 
 // A node, up to the word `end`, and whether it ends an operand.
 #[derive(Clone, Copy)]
@@ -24,8 +60,25 @@ impl Part {
     }
 }
 
-// A node was read; or none was there, and the cursor stands here.
-pub(crate) type Step = Result<Part, Cursor>;
+// No node was there, and the cursor stands here. The empty array gives a Part's alignment, so that the cursor lies at one place in both
+// answers of a step. A plain Cursor would lie half a word off, and each copy would wait for two stores: a text of brackets took a quarter
+// longer.
+#[derive(Clone, Copy)]
+pub(crate) struct Missed {
+    pub cur: Cursor,
+    pub aligned: [usize; 0],
+}
+
+impl Missed {
+    pub(crate) fn at(cur: Cursor) -> Missed
+        ensures { result ≡ missed_at cur }
+    {
+        Missed { cur, aligned: [] }
+    }
+}
+
+// A node was read, or none was there.
+pub(crate) type Step = Result<Part, Missed>;
 
 // The same, back in the reader of that depth.
 pub(crate) fn back(s: Step, depth: u16) -> Step
@@ -33,7 +86,7 @@ pub(crate) fn back(s: Step, depth: u16) -> Step
 {
     match s {
         Ok(g) => Ok(g.at_depth(depth)),
-        Err(d) => Err(d.at_depth(depth)),
+        Err(d) => Err(Missed::at(d.cur.at_depth(depth))),
     }
 }
 

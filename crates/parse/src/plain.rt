@@ -5,7 +5,7 @@ ghost use Rattle.records.specs.Record.{kind_of};
 ghost use Rattle.leaves.specs.Leaves.{leaf_words, leaf_ends};
 ghost use Rattle.reading_cursor.specs.Moves.{onward, seen};
 
-use crate::cursor::Part;
+use crate::cursor::{Part, next};
 use leaves::{leaf_ends, put_plain};
 use lookahead::list::List;
 use reading_cursor::Cursor;
@@ -29,7 +29,7 @@ pub(crate) fn plain_item(
     let k = kind_at(list.tok, work, i);
     put_plain(list, work, tree, e, i, k);
     Part {
-        cur: c.look(n).next().look(n).look(n),
+        cur: next(c.look(n)).look(n).look(n),
         end: e + 13,
         ends: leaf_ends(k),
     }

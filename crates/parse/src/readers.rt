@@ -6,7 +6,9 @@ ghost use Rattle.parse.specs.Meet.{Ready, Simple, ScriptFunc, Intermediate, Argu
 ghost use Rattle.tree.specs.Words.{prefix_kind};
 ghost use Rattle.parse.specs.Matrix.{RowCells, MatrixRow, MoreRows, MatrixRows};
 
-use crate::cursor::{Cells, Items, Part, Rows, Scripted, Step, Why, back};
+use crate::cursor::{
+    Cells, Items, Missed, Part, Rows, Scripted, Step, Why, back, deeper, next, over, past,
+};
 use crate::plain::plain_item;
 use crate::tests::{head_kind, head_stop, prefix_kind, scripted};
 use crate::write::{leaf, node_before, put, put_group, put_matrix, put_space, split_column_lines};
@@ -31,10 +33,10 @@ fn arg(list: &List<'_>, work: &mut [u32], tree: &mut [u32], c: Cursor, e: usize,
 {
     match next_simple(list, work, tree, c, e, stop, true) {
         Ok(g) => g,
-        Err(cur) => {
+        Err(d) => {
             put(tree, e, &[NODE_MISSING, 0, 0, 0, 0, 0]);
             Part {
-                cur,
+                cur: d.cur,
                 end: e + 6,
                 ends: false,
             }
@@ -57,14 +59,14 @@ fn operand(
 {
     match next_script_func(list, work, tree, c, e, stop, true) {
         Ok(g) => g,
-        Err(cur) => {
+        Err(d) => {
             put(
                 tree,
                 e,
                 &[NODE_SIMPLE, 0, 0, 0, 0, 0, NODE_MISSING, 0, 0, 0, 0, 0],
             );
             Part {
-                cur,
+                cur: d.cur,
                 end: e + 12,
                 ends: false,
             }
@@ -87,13 +89,13 @@ fn next_script(list: &List<'_>, work: &mut [u32], tree: &mut [u32], c: Cursor, e
         };
     }
     let sup = list.is_at(work, pos, SUPER);
-    let a = arg(list, work, tree, c.next(), e, false);
+    let a = arg(list, work, tree, next(c), e, false);
     if sup {
         return scripted(a, 2);
     }
     let at = a.cur.pos as usize;
     if list.is_at(work, at, SUPER) {
-        let b = arg(list, work, tree, a.cur.next(), a.end, false);
+        let b = arg(list, work, tree, next(a.cur), a.end, false);
         return scripted(b, 3);
     }
     Scripted {
@@ -119,14 +121,14 @@ fn next_script_func(
 {
     let depth = c.depth;
     if too_deep(depth) {
-        return Err(c);
+        return Err(Missed::at(c));
     }
     let pos = c.pos as usize;
     if list.heads_at(work, pos, sign) {
-        let g = headed(list, work, tree, c.next().deeper(), e, stop, pos);
+        let g = headed(list, work, tree, deeper(next(c)), e, stop, pos);
         return Ok(g.at_depth(depth));
     }
-    let s = term(list, work, tree, c.look(list.n).deeper(), e, stop, sign);
+    let s = term(list, work, tree, deeper(c.look(list.n)), e, stop, sign);
     back(s, depth)
 }
 
@@ -210,7 +212,7 @@ fn next_intermediate(
     let at = s.cur.pos as usize;
     if list.is_at(work, at, FRAC) {
         put(tree, e, &[1]);
-        Ok(operand(list, work, tree, s.cur.next(), s.end, false))
+        Ok(operand(list, work, tree, next(s.cur), s.end, false))
     } else {
         put(tree, e, &[0]);
         Ok(Part {
@@ -271,7 +273,7 @@ pub(crate) fn extend(
                 sign = !p.ends;
             }
             Err(d) => {
-                cur = d;
+                cur = d.cur;
                 break 'items;
             }
         }
@@ -301,7 +303,7 @@ fn row_cells(list: &List<'_>, work: &mut [u32], tree: &mut [u32], c: Cursor, e: 
         let size = (end - at - 6) as u32;
         put(tree, at, &[NODE_CELL, 0, 0, run.count, size, 0]);
         count += 1;
-        cur = run.cur.over(list.n);
+        cur = over(run.cur, list.n);
         if !list.is_at(work, p, SEP) {
             if list.is_at(work, p, CLOSE_BRACKET) {
                 break 'cells Some(p);
@@ -325,10 +327,10 @@ fn next_row(list: &List<'_>, work: &mut [u32], tree: &mut [u32], c: Cursor, e: u
 {
     let pos = c.pos as usize;
     if list.is_at(work, pos, OPEN_BRACKET) {
-        row_cells(list, work, tree, c.next(), e)
+        row_cells(list, work, tree, next(c), e)
     } else {
         Cells {
-            cur: c.over(list.n),
+            cur: over(c, list.n),
             end: e,
             count: 0,
             close: None,
@@ -360,7 +362,7 @@ fn more_rows(
         if !list.is_at(work, p, SEP) {
             break 'rows Why::Done;
         }
-        let row = next_row(list, work, tree, cur.next(), end);
+        let row = next_row(list, work, tree, next(cur), end);
         cur = row.cur;
         end = row.end;
         let Some(q) = row.close else {
@@ -432,10 +434,10 @@ fn try_matrix(
 {
     let old = &*work;
     if !could_be_matrix(list, old, i) {
-        return Err(c);
+        return Err(Missed::at(c));
     }
     if failed_at(old, i, MATRIX_MARK) {
-        return Err(c);
+        return Err(Missed::at(c));
     }
     let rows = next_rows(list, work, tree, c, e + 8);
     let cur = rows.cur;
@@ -446,14 +448,14 @@ fn try_matrix(
         if makes_matrix(list, now, i, rows.left, split.cells, p) {
             put_matrix(list, now, tree, e, i, p, split);
             return Ok(Part {
-                cur: cur.next(),
+                cur: next(cur),
                 end: split.end,
                 ends: true,
             });
         }
     }
     mark_failed(work, i, MATRIX_MARK);
-    Err(cur.rewind(c.pos))
+    Err(Missed::at(cur.rewind(c.pos)))
 }
 
 // The group that the bracket at i opens.
@@ -476,7 +478,7 @@ fn open_group(
     let shut = list.is_at(work, at, CLOSE_BRACKET);
     put_group(list, work, tree, e, i, choose(shut, at, list.n), run.count);
     Part {
-        cur: cur.past(list.n, shut),
+        cur: past(cur, list.n, shut),
         end: run.end,
         ends: true,
     }
@@ -502,9 +504,9 @@ fn bracket(
         Ok(g) => g,
         Err(d) => {
             if k == OPEN_BRACKET {
-                open_group(list, work, tree, d, e, i)
+                open_group(list, work, tree, d.cur, e, i)
             } else {
-                bars(list, work, tree, d, e, stop, i)
+                bars(list, work, tree, d.cur, e, stop, i)
             }
         }
     }
@@ -539,7 +541,7 @@ fn bars(
     } else if bar_at(list, work, i, at) {
         put_group(list, work, tree, e, i, at, count);
         Part {
-            cur: cur.next(),
+            cur: next(cur),
             end: run.end,
             ends: true,
         }
@@ -660,12 +662,12 @@ fn next_simple(
 {
     let depth = c.depth;
     if too_deep(depth) {
-        return Err(c);
+        return Err(Missed::at(c));
     }
     let pos = c.pos as usize;
     if list.begins_at(work, pos, stop) {
-        let g = begun(list, work, tree, c.next().deeper(), e, stop, sign, pos);
+        let g = begun(list, work, tree, deeper(next(c)), e, stop, sign, pos);
         return Ok(g.at_depth(depth));
     }
-    Err(c.look(list.n))
+    Err(Missed::at(c.look(list.n)))
 }

@@ -5,6 +5,7 @@ ghost use Rattle.records.specs.Record.{sep_of, start_of, len_of, with_close, wit
 ghost use Rattle.parse.specs.Top.{Noted, wrap_words, wraps_words, TopReady, Topped, ReadsEach};
 ghost use Rattle.reading_words.specs.Entry.{Placed};
 
+use crate::cursor::next;
 use crate::readers::extend;
 use crate::write::put;
 use buffer::{clear_from, shift};
@@ -67,7 +68,7 @@ fn read_items(list: &List<'_>, work: &mut [u32], tree: &mut [u32]) -> Wrapped
         first = false;
         sign = run.sign;
         if list.is_at(work, at, CLOSE_BRACKET) {
-            cur = run.cur.next();
+            cur = next(run.cur);
             if wraps < MOST_WRAPS {
                 note_wrap(work, at, last, count);
                 last = at;

@@ -33,6 +33,9 @@ pub fn print(
         items,
         blank,
     } = parse(text, table, work, tree)?;
-    let len = print_tree(tree, out, text.len(), tokens, takes, items as usize)?;
-    Ok(Printed { len, takes, blank })
+    // kept: an arm for its refusal, which a must-fail edit answers otherwise
+    match print_tree(tree, out, text.len(), tokens, takes, items as usize) {
+        Ok(len) => Ok(Printed { len, takes, blank }),
+        Err(refusal) => Err(refusal),
+    }
 }

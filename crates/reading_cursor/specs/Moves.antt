@@ -1,5 +1,5 @@
 -- The cursor's moves.
-use Rattle.std.specs.Prelude.{ℕ, ◌+◌, cond, ltb}
+use Rattle.std.specs.Prelude.{ℕ, ◌+◌, ◌%◌, ◌^◌, cond, ltb}
 use Rattle.reading_cursor.specs.declared.Cursor.{Cursor}
 use Rattle.lookahead.specs.Takes.{taken, looked}
 
@@ -26,3 +26,10 @@ at_depth d c = record { pos = c.pos; depth = d; takes = c.takes }
 -- back at the position p
 abbrev pub rewound : ℕ → Cursor → Cursor
 rewound p c = record { pos = p; depth = c.depth; takes = c.takes }
+
+-- The same for any cursor: 16 bits hold a position and a depth, and behind the last comes 0. Within a list these are `onward` and `inner`.
+abbrev pub round_on : Cursor → Cursor
+round_on c = record { pos = (c.pos + 1) % 2 ^ 16; depth = c.depth; takes = taken c.takes }
+
+abbrev pub round_in : Cursor → Cursor
+round_in c = record { pos = c.pos; depth = (c.depth + 1) % 2 ^ 16; takes = c.takes }

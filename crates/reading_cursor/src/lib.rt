@@ -1,9 +1,9 @@
-// Where a reader of the two passes stands. For the readers alone: its steps ask that the position is in the list and the depth below
-// the most, which both show.
+// Where a reader of the two passes stands. The steps are total: a position or a depth of 65,535 goes round to 0. The readers take only those
+// that don't.
 #![tactic(auto)]
 
-ghost use Rattle.std.specs.Prelude.{◌≡◌, true, cond, ◌≤◌, ◌<◌};
-ghost use Rattle.reading_cursor.specs.Moves.{onward, seen, passing, inner, at_depth, rewound};
+ghost use Rattle.std.specs.Prelude.{◌≡◌, cond, ltb};
+ghost use Rattle.reading_cursor.specs.Moves.{round_on, round_in, seen, at_depth, rewound};
 
 use lookahead::takes::{count_look, count_take};
 
@@ -18,11 +18,10 @@ pub struct Cursor {
 impl Cursor {
     // Past the next token.
     pub fn next(self) -> Cursor
-        requires { self.pos < 4096 }
-        ensures { result ≡ onward self }
+        ensures { result ≡ round_on self }
     {
         Cursor {
-            pos: self.pos + 1,
+            pos: self.pos.wrapping_add(1),
             takes: count_take(self.takes),
             ..self
         }
@@ -39,10 +38,8 @@ impl Cursor {
     }
 
     // Past the next token, if there is one.
-    #[tactic(auto, unfolding(crate::specs::Moves::passing))]
     pub fn over(self, n: usize) -> Cursor
-        requires { n ≤ 4096 }
-        ensures { result ≡ passing n self }
+        ensures { result ≡ cond (ltb self.pos n) (round_on self) self }
     {
         if (self.pos as usize) < n {
             self.next()
@@ -53,19 +50,17 @@ impl Cursor {
 
     // Past the next token, if it is taken; else a look at it.
     pub fn past(self, n: usize, taken: bool) -> Cursor
-        requires { taken ≡ true → self.pos < 4096 }
-        ensures { result ≡ cond taken (onward self) (seen n self) }
+        ensures { result ≡ cond taken (round_on self) (seen n self) }
     {
         if taken { self.next() } else { self.look(n) }
     }
 
     // One reader deeper.
     pub fn deeper(self) -> Cursor
-        requires { self.depth < 256 }
-        ensures { result ≡ inner self }
+        ensures { result ≡ round_in self }
     {
         Cursor {
-            depth: self.depth + 1,
+            depth: self.depth.wrapping_add(1),
             ..self
         }
     }

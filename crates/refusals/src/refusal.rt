@@ -2,7 +2,9 @@
 ghost use Rattle.std.specs.Prelude.{◌≡◌};
 ghost use Rattle.refusals.specs.Refusal.{refusal_number};
 
+// Later refusals change no match of another crate: it has an arm for the rest, and goes by the number.
 #[derive(Clone, Copy, PartialEq, Eq)]
+#[non_exhaustive]
 pub enum Refusal {
     LongText,
     NotAscii,

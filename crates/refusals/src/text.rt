@@ -1,8 +1,7 @@
 // Refusals 1 and 2: whether a text is turned back.
 ghost use Rattle.std.specs.Prelude.{◌≡◌};
 ghost use Rattle.tokens.specs.Refusals.{ascii};
-ghost use Rattle.refusals.specs.Refusal.{numbered};
-ghost use Rattle.refusals.specs.TextChecks.{checked_text};
+ghost use Rattle.refusals.specs.TextChecks.{check_of, checked_text};
 
 use crate::refusal::Refusal;
 
@@ -23,7 +22,7 @@ fn is_ascii(text: &[u8]) -> bool
 
 // Whether the text is refused by 1 or 2.
 pub fn check_text(text: &[u8]) -> Result<(), Refusal>
-    ensures { numbered result ≡ checked_text text.now }
+    ensures { check_of result ≡ checked_text text.now }
 {
     if LONGEST < text.len() {
         return Err(Refusal::LongText);

@@ -6,7 +6,8 @@ use std::io::{Bytes, Read};
 
 fn print_refusal(rt: &impl Print, refusal: Refusal) -> io::Result<()> {
     let number = refusal.number();
-    println!(rt; "refused={number}")
+    print!(rt; "refused={number}")?;
+    println!(rt; "")
 }
 
 fn print_words(rt: &impl Print, words: &[u32]) -> io::Result<()> {
@@ -53,7 +54,9 @@ fn words_before_zeros(tree: &[u32]) -> usize {
 }
 
 fn print_tree(rt: &impl Print, takes: u64, items: u32, tree: &[u32]) -> io::Result<()> {
-    println!(rt; "takes={takes} items={items}")?;
+    print!(rt; "takes={takes}")?;
+    print!(rt; " items={items}")?;
+    println!(rt; "")?;
     print_words(rt, first_words(tree, words_before_zeros(tree)))
 }
 

@@ -12,13 +12,12 @@ returns-in_err-tokens c =
     let p = err_from_is_err_and c.from_residual.result c.from_residual.ensures.1 in
     rw (p.1, p.2) (when_refused a.text.now a.table.now a.work.now a.tree.now a.out.now _ _ _ _ c.parse.ensures _ (ap read.answer_of c.in_err-tokens.was))
 
-pub returns-in_err-len : goal.returns-in_err-len
-returns-in_err-len c =
+pub returns-in-Err : goal.returns-in-Err
+returns-in-Err c =
     let a = c.args in
-    let p = err_from_is_err_and c.from_residual-in_err-len.result c.from_residual-in_err-len.ensures.1 in
-    rw (p.1, p.2) (too_short a.text.now a.table.now a.work.now a.tree.now a.out.now _ _ _ _ c.parse.ensures _ _ _ _ (ap read.answer_of c.in_ok-tokens.was) _ _ c.print_tree.ensures _ (ap tree.answer_of c.in_err-len.was))
+    too_short a.text.now a.table.now a.work.now a.tree.now a.out.now _ _ _ _ c.parse.ensures _ _ _ _ (ap read.answer_of c.in_ok-tokens.was) _ _ c.print_tree.ensures _ (ap tree.answer_of c.in-Err.is)
 
-pub returns : goal.returns
-returns c =
+pub returns-in-Ok : goal.returns-in-Ok
+returns-in-Ok c =
     let a = c.args in
-    printed-whole a.text.now a.table.now a.work.now a.tree.now a.out.now _ _ _ _ c.parse.ensures _ _ _ _ (ap read.answer_of c.in_ok-tokens.was) _ _ c.print_tree.ensures _ (ap tree.answer_of c.in_ok-len.was)
+    printed-whole a.text.now a.table.now a.work.now a.tree.now a.out.now _ _ _ _ c.parse.ensures _ _ _ _ (ap read.answer_of c.in_ok-tokens.was) _ _ c.print_tree.ensures _ (ap tree.answer_of c.in-Ok.is)

@@ -245,7 +245,7 @@ pub next_script-returns : goal.next_script-returns
 next_script-returns t c = rw c.look-2.ensures (scripts-sub (sym c.marks_at.ensures ∙ not-false _ c.if-not-marks_at.false-raw) (sym c.is_at-sup.ensures ∙ c.if-sup.false) (rw c.next.ensures at c.arg-a.ensures) (sym c.is_at.ensures ∙ c.if-is_at.false))
 
 pub next_script_func-returns-then-too_deep : goal.next_script_func-returns-then-too_deep
-next_script_func-returns-then-too_deep t c = script-deep c.args.stop c.args.sign (leb-true 256 c.args.c.depth (sym c.too_deep.ensures ∙ c.if-too_deep.true)) c.requires.here c.requires.known
+next_script_func-returns-then-too_deep t c = rw c.at.ensures (script-deep c.args.stop c.args.sign (leb-true 256 c.args.c.depth (sym c.too_deep.ensures ∙ c.if-too_deep.true)) c.requires.here c.requires.known)
 
 pub next_script_func-next-requires : goal.next_script_func-next-requires
 next_script_func-next-requires t c = let b = test_below c.args.list.now.tok.now c.args.work.now c.args.list.now.n (heads_kind c.args.sign) c.args.c.pos (sym c.heads_at.ensures ∙ c.if-heads_at.true) in omega (arith, c.requires.safe.few)
@@ -260,7 +260,7 @@ pub next_script_func-returns : goal.next_script_func-returns
 next_script_func-returns t c = rw c.back.ensures (script-back c.args.list.now.text.now c.args.list.now.tok.now c.args.list.now.n c.args.work.now c.term-s.new.work c.args.stop c.args.sign c.deeper-2.result c.args.c c.args.e c.args.tree.now c.term-s.new.tree c.term-s.result (leb-false 256 c.args.c.depth (sym c.too_deep.ensures ∙ c.if-too_deep.false)) (c.deeper-2.ensures ∙ ap inner c.look.ensures) (sym c.heads_at.ensures ∙ c.if-heads_at.false) c.term-s.ensures)
 
 pub next_simple-returns-then-too_deep : goal.next_simple-returns-then-too_deep
-next_simple-returns-then-too_deep t c = simple-deep c.args.stop c.args.sign (leb-true 256 c.args.c.depth (sym c.too_deep.ensures ∙ c.if-too_deep.true)) c.requires.here c.requires.known
+next_simple-returns-then-too_deep t c = rw c.at.ensures (simple-deep c.args.stop c.args.sign (leb-true 256 c.args.c.depth (sym c.too_deep.ensures ∙ c.if-too_deep.true)) c.requires.here c.requires.known)
 
 pub next_simple-next-requires : goal.next_simple-next-requires
 next_simple-next-requires t c = let b = test_below c.args.list.now.tok.now c.args.work.now c.args.list.now.n (begins_kind c.args.stop) c.args.c.pos (sym c.begins_at.ensures ∙ c.if-begins_at.true) in omega (arith, c.requires.safe.few)
@@ -272,7 +272,7 @@ pub next_simple-returns-then-begins_at : goal.next_simple-returns-then-begins_at
 next_simple-returns-then-begins_at t c = rw c.at_depth.ensures (simple-begun c.args.stop c.args.sign (leb-false 256 c.args.c.depth (sym c.too_deep.ensures ∙ c.if-too_deep.false)) (sym c.begins_at.ensures ∙ c.if-begins_at.true) (rw (c.deeper.ensures, c.next.ensures) at c.begun-g.ensures))
 
 pub next_simple-returns : goal.next_simple-returns
-next_simple-returns t c = rw c.look.ensures (simple-nothing c.args.stop c.args.sign (leb-false 256 c.args.c.depth (sym c.too_deep.ensures ∙ c.if-too_deep.false)) (sym c.begins_at.ensures ∙ c.if-begins_at.false) c.requires.here c.requires.known)
+next_simple-returns t c = rw (c.at-2.ensures, c.look.ensures) (simple-nothing c.args.stop c.args.sign (leb-false 256 c.args.c.depth (sym c.too_deep.ensures ∙ c.if-too_deep.false)) (sym c.begins_at.ensures ∙ c.if-begins_at.false) c.requires.here c.requires.known)
 
 pub open_group-past-requires : goal.open_group-past-requires
 open_group-past-requires t c = λ h. let b = test_below c.args.list.now.tok.now c.extend-run.new.work c.args.list.now.n (is_kind 21) c.extend-run.result.cur.pos (sym c.is_at-shut.ensures ∙ h) in omega (arith, c.requires.ready.safe.few)
@@ -343,10 +343,10 @@ pub term-returns : goal.term-returns
 term-returns t c = term_scripted c.args.stop c.args.sign c.requires.room (rw c.in_ok-s.was at c.next_simple.ensures) c.next_script-m.ensures c.put-2.ensures
 
 pub try_matrix-returns-then-not-could_be_matrix : goal.try_matrix-returns-then-not-could_be_matrix
-try_matrix-returns-then-not-could_be_matrix t c = try_shut c.args.i c.args.c c.args.e c.args.tree.now c.requires.i_lt_n c.requires.ready.here (sym c.could_be_matrix.ensures ∙ not-true _ c.if-not-could_be_matrix.true-raw) c.requires.ready.known
+try_matrix-returns-then-not-could_be_matrix t c = rw c.at.ensures (try_shut c.args.i c.args.c c.args.e c.args.tree.now c.requires.i_lt_n c.requires.ready.here (sym c.could_be_matrix.ensures ∙ not-true _ c.if-not-could_be_matrix.true-raw) c.requires.ready.known)
 
 pub try_matrix-returns-then-failed_at : goal.try_matrix-returns-then-failed_at
-try_matrix-returns-then-failed_at t c = try_known c.args.i c.args.c c.args.e c.args.tree.now c.requires.i_lt_n c.requires.ready.here (sym c.could_be_matrix.ensures ∙ not-false _ c.if-not-could_be_matrix.false-raw) (sym c.failed_at.ensures ∙ c.if-failed_at.true) c.requires.ready.known
+try_matrix-returns-then-failed_at t c = rw c.at-then-failed_at.ensures (try_known c.args.i c.args.c c.args.e c.args.tree.now c.requires.i_lt_n c.requires.ready.here (sym c.could_be_matrix.ensures ∙ not-false _ c.if-not-could_be_matrix.false-raw) (sym c.failed_at.ensures ∙ c.if-failed_at.true) c.requires.ready.known)
 
 pub try_matrix-split_column_lines-split-requires : goal.try_matrix-split_column_lines-split-requires
 try_matrix-split_column_lines-split-requires t c = let p = rw c.in-Done.is at c.next_rows-rows.ensures.0 in split-ready (p.4 _ _ (some_at c.requires.ready.known c.args.c.pos c.args.c.takes)) p.1 p.2 (omega (arith, p.0.on, p.0.within, c.requires.ready.safe.few)) (omega (arith, c.requires.ready.room, p.0.room, p.0.long))
@@ -364,7 +364,7 @@ try_matrix-shape_of-tree t c = elim c.match-rows.branch [
 ]
 
 pub try_matrix-returns : goal.try_matrix-returns
-try_matrix-returns t c = rw c.rewind.ensures (elim c.match-rows.branch [
+try_matrix-returns t c = rw (c.at-2.ensures, c.rewind.ensures) (elim c.match-rows.branch [
   | try_matrix-in-Done+else-makes_matrix w ↦ let p = rw w.in-Done.is at c.next_rows-rows.ensures.0 in let sj = safe-kept p.0.kept c.requires.ready.safe in rw w.tree-is (try_unmade c.args.i c.args.c c.args.e c.args.tree.now c.requires.i_lt_n c.requires.ready.here (sym c.could_be_matrix.ensures ∙ not-false _ c.if-not-could_be_matrix.false-raw) (sym c.failed_at.ensures ∙ c.if-failed_at.false) _ _ c.requires.ready.room _ w.split_column_lines-split.result p.0 p.2 p.3 p.4 w.split_column_lines-split.ensures w.split_column_lines-split.auto.tree (sym w.makes_matrix.ensures ∙ w.if-makes_matrix.false) (sj.placed c.args.i c.requires.i_lt_n).fit c.mark_failed.ensures)
   | try_matrix-in_default w ↦ let p = rows-failed c.args.list.now.text.now c.args.list.now.tok.now c.args.list.now.n c.args.work.now c.next_rows-rows.new.work c.args.c (c.args.e + 8) c.args.tree.now c.next_rows-rows.new.tree c.next_rows-rows.result.cols c.next_rows-rows.result.left c.next_rows-rows.result.cells c.next_rows-rows.result.cur c.next_rows-rows.result.end c.next_rows-rows.result.why (opened w.in_default.in_default-own.keys2) c.next_rows-rows.ensures.0 in let sj = safe-kept p.0.kept c.requires.ready.safe in rw w.tree-is (try_broken c.args.i c.args.c c.args.e c.args.tree.now c.requires.i_lt_n c.requires.ready.here (sym c.could_be_matrix.ensures ∙ not-false _ c.if-not-could_be_matrix.false-raw) (sym c.failed_at.ensures ∙ c.if-failed_at.false) _ _ c.requires.ready.room p.0 p.1 (sj.placed c.args.i c.requires.i_lt_n).fit c.mark_failed.ensures)
 ])
